@@ -1,0 +1,4 @@
+// The proved calls under C names, for Rust and C: each gives what the call that it names gives, with the same promise.
+
+// Days and money.
+pub mod money_calls;

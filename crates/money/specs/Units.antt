@@ -1,0 +1,15 @@
+-- "Fen, sheets and price ticks are three units, never taken for one another." (01, One firm's book; arts. 32, 33)
+-- Assumes nothing.
+use Prim.Native.Nat.{ℕ}
+pub use Rattle.money.specs.declared.units.Fen.{Fen}
+pub use Rattle.money.specs.declared.units.Sheets.{Sheets}
+pub use Rattle.money.specs.declared.units.Ticks.{Ticks}
+
+abbrev pub fen : ℕ → Fen
+fen n = record { 0 = n }
+
+abbrev pub sheets : ℕ → Sheets
+sheets n = record { 0 = n }
+
+abbrev pub ticks : ℕ → Ticks
+ticks n = record { 0 = n }

@@ -1,0 +1,13 @@
+// Days and money, the lowest layer: every call takes any arguments and promises document 01's number and result.
+
+// Fen, sheets and price ticks.
+pub mod units;
+
+// Trading days.
+pub mod days;
+
+// Amounts of money.
+pub mod amounts;
+
+// The value of collateral.
+pub mod collateral;

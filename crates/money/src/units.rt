@@ -1,0 +1,13 @@
+// Three units that are never taken for one another.
+
+// Money: 100 fen are one yuan.
+#[repr(C)]
+pub struct Fen(pub u64);
+
+// A sheet is 100 yuan (art. 33).
+#[repr(C)]
+pub struct Sheets(pub u64);
+
+// A tick is 0.001 yuan of yearly yield on 100 yuan (art. 32).
+#[repr(C)]
+pub struct Ticks(pub u32);

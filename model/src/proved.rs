@@ -1,0 +1,77 @@
+//! The proved calls of the archive, each behind a safe function. The
+//! declarations repeat `crates/exports`; nothing checks one against the other.
+
+#[repr(C)]
+#[derive(Clone, Copy)]
+struct Fen(u64);
+#[repr(C)]
+#[derive(Clone, Copy)]
+struct Sheets(u64);
+#[repr(C)]
+#[derive(Clone, Copy)]
+struct Ticks(u32);
+
+#[repr(C)]
+struct Amount {
+    number: u8,
+    fen: Fen,
+}
+#[repr(C)]
+struct Worth {
+    number: u8,
+    sheets: Sheets,
+}
+#[repr(C)]
+struct Found {
+    number: u8,
+    day: u32,
+}
+
+// A lent slice is its pointer and its length.
+extern "C" {
+    fn money_initial(q: Sheets) -> Amount;
+    fn money_redemption(q: Sheets, price: Ticks, days: u32) -> Amount;
+    fn money_kind_worth(kind: u8, effective: u64, frozen: u64, rate: u64) -> Worth;
+    fn money_trades_on(calendar: *const u32, words: usize, day: u32) -> bool;
+    fn money_at_or_after(calendar: *const u32, words: usize, day: u32) -> Found;
+    fn money_next_after(calendar: *const u32, words: usize, day: u32) -> Found;
+    fn money_earliest_day(calendar: *const u32, words: usize) -> Found;
+}
+
+/// The amount of an initial trade, beside its number.
+pub fn initial(sheets: u64) -> (u32, u64) {
+    let amount = unsafe { money_initial(Sheets(sheets)) };
+    (amount.number.into(), amount.fen.0)
+}
+
+/// The amount of a redemption, beside its number.
+pub fn redemption(sheets: u64, price: u32, days: u32) -> (u32, u64) {
+    let amount = unsafe { money_redemption(Sheets(sheets), Ticks(price), days) };
+    (amount.number.into(), amount.fen.0)
+}
+
+/// The value of a kind, beside its number.
+pub fn kind_value(kind: u8, effective: u64, frozen: u64, rate: u64) -> (u32, u64) {
+    let worth = unsafe { money_kind_worth(kind, effective, frozen, rate) };
+    (worth.number.into(), worth.sheets.0)
+}
+
+pub fn trades(calendar: &[u32], day: u32) -> bool {
+    unsafe { money_trades_on(calendar.as_ptr(), calendar.len(), day) }
+}
+
+pub fn trading_day_at_or_after(calendar: &[u32], day: u32) -> (u32, u32) {
+    beside(unsafe { money_at_or_after(calendar.as_ptr(), calendar.len(), day) })
+}
+
+pub fn next_trading_day(calendar: &[u32], day: u32) -> (u32, u32) {
+    beside(unsafe { money_next_after(calendar.as_ptr(), calendar.len(), day) })
+}
+
+pub fn earliest_trading_day(calendar: &[u32]) -> (u32, u32) {
+    beside(unsafe { money_earliest_day(calendar.as_ptr(), calendar.len()) })
+}
+
+fn beside(found: Found) -> (u32, u32) {
+    (found.number.into(), found.day)
+}
