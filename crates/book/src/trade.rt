@@ -1,0 +1,24 @@
+// A trade's record in the lent table, and the terms that an initial trade gives.
+use money::units::Sheets;
+use money::units::Ticks;
+
+// A contract's identity: two contracts are the same where these numbers agree.
+pub struct Contract(pub u64);
+
+// `first` is the payment day of the initial trade, as planned.
+pub struct Trade {
+    pub contract: Contract,
+    pub sheets: Sheets,
+    pub price: Ticks,
+    pub fallback: Ticks,
+    pub first: u32,
+    pub due: u32,
+}
+
+pub struct Terms {
+    pub contract: Contract,
+    pub sheets: Sheets,
+    pub price: Ticks,
+    pub fallback: Ticks,
+    pub due: u32,
+}
