@@ -66,7 +66,6 @@ abbrev pub _then_ : List Entry → List Entry → List Entry
 (entry ∷ entries) then more = entry ∷ (entries then more)
 
 infixr 20 _then_
-
 abbrev journal : List Entry
 journal =
     covers
@@ -115,7 +114,6 @@ abbrev pub _gives_ : ℕ → ℕ → Case
 given gives said = record { gives = given; says = said }
 
 infix 10 _gives_
-
 -- the book and the table after a list, from a fresh book
 abbrev after : Calendar → List Entry → Book
 after calendar entries = lastBook calendar freshBook noTrades entries

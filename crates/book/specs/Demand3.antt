@@ -5,7 +5,7 @@ use mathlib.Core.Bool.{Bool, true, false, cond, _&&_}
 use mathlib.Core.List.{List, [], _∷_, map}
 use mathlib.Core.Option.{Option, none, some}
 use Prim.Native.Nat.{ℕ, _≤_, _<_}
-use lib.Dec.{T}
+use lib.Dec.{T, eqb}
 use lib.IntN.{ℤ, pos, natAbs, _+ℤ_, _-ℤ_}
 use lib.Signed.{_≤ℤ_}
 use Rattle.money.specs.Days.{Calendar}
@@ -13,7 +13,7 @@ use Rattle.book.specs.Book.{Cash, Status, Book, freshBook}
 use Rattle.book.specs.Trades.{Trade}
 use Rattle.book.specs.Vault.{outstandingOf, headroom}
 use Rattle.book.specs.Fit.{allCash}
-use Rattle.book.specs.Entry.{Event, Open, FundIn, FundOut, Size, Rate, Pledge, Freeze, Withdraw, Initial, Early, Pay, Close, Entry, Known, Undecodable}
+use Rattle.book.specs.Entry.{Entry, codeOf}
 use Rattle.book.specs.Pay.{payerHolds}
 use Rattle.book.specs.Step.{accepted}
 use Rattle.book.specs.Run.{Seen, run, lastBook, lastTable}
@@ -22,49 +22,13 @@ use Rattle.book.specs.Tally.{Tally, Told, blank, tell, tallyOf}
 -- ---- what the tally is told: the entry, its answer's number and, at an Open, the status
 
 abbrev pub isOpen : Entry → Bool
-isOpen (Known Open) = true
-isOpen (Known (FundIn account amount)) = false
-isOpen (Known (FundOut account amount)) = false
-isOpen (Known (Size size)) = false
-isOpen (Known (Rate kind rate)) = false
-isOpen (Known (Pledge kind units)) = false
-isOpen (Known (Freeze kind units)) = false
-isOpen (Known (Withdraw kind units)) = false
-isOpen (Known (Initial terms)) = false
-isOpen (Known (Early contract count price)) = false
-isOpen (Known Pay) = false
-isOpen (Known Close) = false
-isOpen Undecodable = false
+isOpen entry = eqb (codeOf entry) 1
 
 abbrev pub isInitial : Entry → Bool
-isInitial (Known Open) = false
-isInitial (Known (FundIn account amount)) = false
-isInitial (Known (FundOut account amount)) = false
-isInitial (Known (Size size)) = false
-isInitial (Known (Rate kind rate)) = false
-isInitial (Known (Pledge kind units)) = false
-isInitial (Known (Freeze kind units)) = false
-isInitial (Known (Withdraw kind units)) = false
-isInitial (Known (Initial terms)) = true
-isInitial (Known (Early contract count price)) = false
-isInitial (Known Pay) = false
-isInitial (Known Close) = false
-isInitial Undecodable = false
+isInitial entry = eqb (codeOf entry) 9
 
 abbrev pub isPay : Entry → Bool
-isPay (Known Open) = false
-isPay (Known (FundIn account amount)) = false
-isPay (Known (FundOut account amount)) = false
-isPay (Known (Size size)) = false
-isPay (Known (Rate kind rate)) = false
-isPay (Known (Pledge kind units)) = false
-isPay (Known (Freeze kind units)) = false
-isPay (Known (Withdraw kind units)) = false
-isPay (Known (Initial terms)) = false
-isPay (Known (Early contract count price)) = false
-isPay (Known Pay) = true
-isPay (Known Close) = false
-isPay Undecodable = false
+isPay entry = eqb (codeOf entry) 11
 
 abbrev pub number : Seen → ℕ
 number seen = seen .left .answer .number

@@ -84,3 +84,19 @@ entryOf f =
 -- "events of 40 bytes"
 unfoldable pub decoded : List ℕ → Entry
 decoded bytes = cond (eqb (length bytes) 40) (entryOf (fieldsOf bytes)) Undecodable
+
+-- an event's code, 0 for what does not decode
+abbrev pub codeOf : Entry → ℕ
+codeOf (Known Open) = 1
+codeOf (Known (FundIn account amount)) = 2
+codeOf (Known (FundOut account amount)) = 3
+codeOf (Known (Size size)) = 4
+codeOf (Known (Rate kind rate)) = 5
+codeOf (Known (Pledge kind units)) = 6
+codeOf (Known (Freeze kind units)) = 7
+codeOf (Known (Withdraw kind units)) = 8
+codeOf (Known (Initial terms)) = 9
+codeOf (Known (Early contract count price)) = 10
+codeOf (Known Pay) = 11
+codeOf (Known Close) = 12
+codeOf Undecodable = 0
