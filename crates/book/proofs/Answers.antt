@@ -47,11 +47,11 @@ number-passes passes (c ∷ cs) k p e = go (c .applies) (passes (c .number)) ref
     go false true m f p e = f p e
 
 -- a number that no event's cause has
-abbrev unused : ℕ → Bool
+abbrev pub unused : ℕ → Bool
 unused k = eqb k 1 || accepted k
 
 -- both tests at once, so that the events are gone through once
-event-numbers : (calendar : Calendar) (book : Book) (table : List Trade) (event : Event) → (rising 1 (eventCauses calendar book table event) ≡ true) × (numbers (λ k. not (unused k)) (eventCauses calendar book table event) ≡ true)
+pub event-numbers : (calendar : Calendar) (book : Book) (table : List Trade) (event : Event) → (rising 1 (eventCauses calendar book table event) ≡ true) × (numbers (λ k. not (unused k)) (eventCauses calendar book table event) ≡ true)
 unfolding eventCauses openCauses fundInCauses fundOutCauses sizeCauses rateCauses pledgeCauses freezeCauses withdrawCauses initialCauses earlyCauses payCauses closeCauses
 event-numbers calendar book table Open = (refl, refl)
 event-numbers calendar book table (FundIn account amount) = (refl, refl)

@@ -37,18 +37,18 @@ use Rattle.book.specs.Demand3.{seenFrom}
 -- ---- the journal of document 01
 
 -- days 1, 2, 3, 6 and 7 trade
-abbrev week : Calendar
+abbrev pub week : Calendar
 week = 206 ∷ []
 
-abbrev noTrades : List Trade
+abbrev pub noTrades : List Trade
 noTrades = replicate 8 noTrade
 
-abbrev initial : (count contract price fallback due : ℕ) → Entry
+abbrev pub initial : (count contract price fallback due : ℕ) → Entry
 initial count contract price fallback due =
     Known (Initial (record { contract = record { 0 = contract }; sheets = sheets count; price = ticks price; fallback = ticks fallback; due = due }))
 
 -- up to the second Open: cover of 180 sheets, no trade yet
-abbrev covers : List Entry
+abbrev pub covers : List Entry
 covers =
     Known (Size (sheets 1000))
     ∷ Known (FundIn Own (fen 5000000))
@@ -66,7 +66,7 @@ abbrev pub _then_ : List Entry → List Entry → List Entry
 (entry ∷ entries) then more = entry ∷ (entries then more)
 
 infixr 20 _then_
-abbrev journal : List Entry
+abbrev pub journal : List Entry
 journal =
     covers
     then (initial 100 7 3650 1000 4 ∷ Known Pay ∷ Known Close ∷ Known Open ∷ [])
@@ -115,25 +115,25 @@ given gives said = record { gives = given; says = said }
 
 infix 10 _gives_
 -- the book and the table after a list, from a fresh book
-abbrev after : Calendar → List Entry → Book
+abbrev pub after : Calendar → List Entry → Book
 after calendar entries = lastBook calendar freshBook noTrades entries
 
-abbrev tableAfter : Calendar → List Entry → List Trade
+abbrev pub tableAfter : Calendar → List Entry → List Trade
 tableAfter calendar entries = lastTable calendar freshBook noTrades entries
 
 -- the answer to one more entry
-abbrev answerTo : Calendar → List Entry → Entry → Answer
+abbrev pub answerTo : Calendar → List Entry → Entry → Answer
 answerTo calendar entries entry = step calendar (after calendar entries) (tableAfter calendar entries) entry .answer
 
-abbrev clearedAfter : Calendar → List Entry → ℕ
+abbrev pub clearedAfter : Calendar → List Entry → ℕ
 clearedAfter calendar entries = natAbs (after calendar entries .nets .cleared)
 
-abbrev statusNumber : Status → ℕ
+abbrev pub statusNumber : Status → ℕ
 statusNumber Normal = 0
 statusNumber Suspended = 1
 statusNumber Terminated = 2
 
-abbrev statusAfter : Calendar → List Entry → ℕ
+abbrev pub statusAfter : Calendar → List Entry → ℕ
 statusAfter calendar entries = statusNumber (after calendar entries .standing .status)
 
 -- day 6, paid: contract 7 was due on day 4, a holiday
@@ -145,16 +145,16 @@ abbrev fromDay3 : List Entry
 fromDay3 = covers then (Known Pay ∷ Known Close ∷ Known Open ∷ initial 100 9 3650 1000 6 ∷ Known Pay ∷ Known Close ∷ Known Open ∷ Known Pay ∷ [])
 
 -- every day trades
-abbrev daily : Calendar
+abbrev pub daily : Calendar
 daily = 255 ∷ []
 
 -- the clients hold nothing, so their payment of the initial amount fails
-abbrev failedOnce : List Entry
+abbrev pub failedOnce : List Entry
 failedOnce =
     covers
     then (Known (FundOut Client (fen 3000000)) ∷ initial 100 7 3650 1000 6 ∷ Known Pay ∷ Known Close ∷ Known Open ∷ Known Pay ∷ Known Close ∷ [])
 
-abbrev failedTwice : List Entry
+abbrev pub failedTwice : List Entry
 failedTwice = failedOnce then (Known Open ∷ Known Pay ∷ Known Close ∷ [])
 
 abbrev pub cases : List Case

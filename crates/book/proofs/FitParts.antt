@@ -67,13 +67,13 @@ pub record Fit (calendar : Calendar) (book : Book) (table : List Trade) : Type 0
 
 -- ---- each group, there and back
 
-capacity-fits : (count : ℕ) (table : List Trade) → capacityFit count table ≡ true → CapacityFits count table
+pub capacity-fits : (count : ℕ) (table : List Trade) → capacityFit count table ≡ true → CapacityFits count table
 unfolding capacityFit
 capacity-fits count table e =
     let b = both (leb (length table) capacityLimit) (leb count (length table)) e in
     record { within = leb-true (length table) capacityLimit (b .0); room = leb-true count (length table) (b .1) }
 
-fits-capacity : (count : ℕ) (table : List Trade) → CapacityFits count table → capacityFit count table ≡ true
+pub fits-capacity : (count : ℕ) (table : List Trade) → CapacityFits count table → capacityFit count table ≡ true
 unfolding capacityFit
 fits-capacity count table f =
     both-of (leb (length table) capacityLimit) (leb count (length table)) (le-leb (length table) capacityLimit (f .within)) (le-leb count (length table) (f .room))
@@ -81,53 +81,53 @@ fits-capacity count table f =
 abbrev securityTests : Security → List Bool
 securityTests security = leb (security .effective + security .arriving) unitLimit ∷ leb (security .rate) rateLimit ∷ leb (security .frozen) (security .effective) ∷ []
 
-security-fits : (s : Security) → securityFit s ≡ true → SecurityFits s
+pub security-fits : (s : Security) → securityFit s ≡ true → SecurityFits s
 security-fits s e =
     let h = every-holds (securityTests s) e in
     record { units = leb-true (s .effective + s .arriving) unitLimit (h .0); rate = leb-true (s .rate) rateLimit (h .1 .0); free = leb-true (s .frozen) (s .effective) (h .1 .1 .0) }
 
-fits-security : (s : Security) → SecurityFits s → securityFit s ≡ true
+pub fits-security : (s : Security) → SecurityFits s → securityFit s ≡ true
 fits-security s f =
     every-of (securityTests s)
     (le-leb (s .effective + s .arriving) unitLimit (f .units), (le-leb (s .rate) rateLimit (f .rate), (le-leb (s .frozen) (s .effective) (f .free), tt)))
 
-securities-fit : (vault : Vault) → securitiesFit vault ≡ true → SecuritiesFit vault
+pub securities-fit : (vault : Vault) → securitiesFit vault ≡ true → SecuritiesFit vault
 unfolding securitiesFit
 securities-fit vault e kind h = security-fits (securityAt vault kind) (all-at 32 (λ kind. securityFit (securityAt vault kind)) e kind h)
 
-fit-securities : (vault : Vault) → SecuritiesFit vault → securitiesFit vault ≡ true
+pub fit-securities : (vault : Vault) → SecuritiesFit vault → securitiesFit vault ≡ true
 unfolding securitiesFit
 fit-securities vault f = all-of 32 (λ kind. securityFit (securityAt vault kind)) (λ kind h. fits-security (securityAt vault kind) (f kind h))
 
-cash-fits : (cash : Cash) (guarantee : Guarantee) → cashFit cash guarantee ≡ true → CashFits cash guarantee
+pub cash-fits : (cash : Cash) (guarantee : Guarantee) → cashFit cash guarantee ≡ true → CashFits cash guarantee
 unfolding cashFit
 cash-fits cash guarantee e =
     let b = both (leb (allCash cash guarantee) cashLimit) (leb (guarantee .frozen .0) (guarantee .effective .0)) e in
     record { sum = leb-true (allCash cash guarantee) cashLimit (b .0); free = leb-true (guarantee .frozen .0) (guarantee .effective .0) (b .1) }
 
-fits-cash : (cash : Cash) (guarantee : Guarantee) → CashFits cash guarantee → cashFit cash guarantee ≡ true
+pub fits-cash : (cash : Cash) (guarantee : Guarantee) → CashFits cash guarantee → cashFit cash guarantee ≡ true
 unfolding cashFit
 fits-cash cash guarantee f =
     both-of (leb (allCash cash guarantee) cashLimit) (leb (guarantee .frozen .0) (guarantee .effective .0))
     (le-leb (allCash cash guarantee) cashLimit (f .sum)) (le-leb (guarantee .frozen .0) (guarantee .effective .0) (f .free))
 
-size-fits : (size outstanding : ℕ) → sizeFit size outstanding ≡ true → SizeFits size outstanding
+pub size-fits : (size outstanding : ℕ) → sizeFit size outstanding ≡ true → SizeFits size outstanding
 unfolding sizeFit
 size-fits size outstanding e =
     let b = both (leb size sizeLimit) (leb outstanding size) e in
     record { within = leb-true size sizeLimit (b .0); covers = leb-true outstanding size (b .1) }
 
-fits-size : (size outstanding : ℕ) → SizeFits size outstanding → sizeFit size outstanding ≡ true
+pub fits-size : (size outstanding : ℕ) → SizeFits size outstanding → sizeFit size outstanding ≡ true
 unfolding sizeFit
 fits-size size outstanding f = both-of (leb size sizeLimit) (leb outstanding size) (le-leb size sizeLimit (f .within)) (le-leb outstanding size (f .covers))
 
-nets-fit : (nets : Nets) → netsFit nets ≡ true → NetsFit nets
+pub nets-fit : (nets : Nets) → netsFit nets ≡ true → NetsFit nets
 unfolding netsFit
 nets-fit nets e =
     let b = both (netFit (nets .today)) (netFit (nets .cleared)) e in
     record { today = leb-true (natAbs (nets .today)) netLimit (b .0); cleared = leb-true (natAbs (nets .cleared)) netLimit (b .1) }
 
-fit-nets : (nets : Nets) → NetsFit nets → netsFit nets ≡ true
+pub fit-nets : (nets : Nets) → NetsFit nets → netsFit nets ≡ true
 unfolding netsFit
 fit-nets nets f =
     both-of (netFit (nets .today)) (netFit (nets .cleared)) (le-leb (natAbs (nets .today)) netLimit (f .today)) (le-leb (natAbs (nets .cleared)) netLimit (f .cleared))
@@ -144,7 +144,7 @@ fits-application kind units f = both-of (leb kind 32) (leb units cashLimit) (le-
 abbrev applicationAt : Withdrawals → ℕ → Bool
 applicationAt w i = applicationFit (getD (w .kinds) i 0) (getD (w .units) i 0)
 
-withdrawals-fit : (w : Withdrawals) → withdrawalsFit w ≡ true → WithdrawalsFit w
+pub withdrawals-fit : (w : Withdrawals) → withdrawalsFit w ≡ true → WithdrawalsFit w
 unfolding withdrawalsFit
 withdrawals-fit w e =
     let b = both (leb (w .count) applicationLimit) (allBelow (w .count) (applicationAt w)) e in
@@ -153,7 +153,7 @@ withdrawals-fit w e =
       each = λ i h. application-fits (getD (w .kinds) i 0) (getD (w .units) i 0) (all-at (w .count) (applicationAt w) (b .1) i h);
     }
 
-fit-withdrawals : (w : Withdrawals) → WithdrawalsFit w → withdrawalsFit w ≡ true
+pub fit-withdrawals : (w : Withdrawals) → WithdrawalsFit w → withdrawalsFit w ≡ true
 unfolding withdrawalsFit
 fit-withdrawals w f =
     both-of (leb (w .count) applicationLimit) (allBelow (w .count) (applicationAt w)) (le-leb (w .count) applicationLimit (f .count))

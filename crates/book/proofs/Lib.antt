@@ -23,3 +23,28 @@ pub mod Kept
 pub mod Demand3Proof
 -- the worked cases
 pub mod Cases
+pub mod Slips
+-- laws for the code: the core's table
+pub mod FlatLaws
+pub mod StoreLaws
+pub mod PlaceLaws
+pub mod RedemptionLaws
+pub mod PackingLaws
+-- laws for the code: the vault and the evening
+pub mod SumLaws
+pub mod VaultLaws
+pub mod EveningLaws
+-- laws for the code: bytes, nets, days and refusals
+pub mod Bytes
+pub mod Unused
+pub mod NetLaws
+pub mod PayLaws
+pub mod DayLaws
+pub mod Refusing
+pub mod FitFacts
+pub mod Fitting
+pub mod ContractLaws
+pub mod EarlyLaws
+pub mod InitialLaws
+pub mod Dispatch
+pub mod Column

@@ -69,15 +69,22 @@ withdrawalsFit withdrawals =
     leb (withdrawals .count) applicationLimit
     && allBelow (withdrawals .count) (λ i. applicationFit (getD (withdrawals .kinds) i 0) (getD (withdrawals .units) i 0))
 
--- "the day, if there is one, trades and another follows, no first payment day is past today's payment day, and a book with no day is Closed with an empty table"
-abbrev pub dayFit : Calendar → Day → Phase → List Trade → (count : ℕ) → Bool
-dayFit calendar Never phase inUse count = isClosed phase && eqb count 0
-dayFit calendar (On day) phase inUse count =
+-- "a book with no day is Closed with an empty table"
+abbrev pub unopenedFit : Phase → (count : ℕ) → Bool
+unopenedFit phase count = isClosed phase && eqb count 0
+
+-- "the day, if there is one, trades and another follows, no first payment day is past today's payment day"
+abbrev pub openedFit : Calendar → (today : ℕ) → List Trade → Bool
+openedFit calendar today inUse =
     every
-    (trades calendar day
-    ∷ followed calendar (some day)
-    ∷ allTrades (λ trade. leb (trade .first) (paymentDay calendar (On day))) inUse
+    (trades calendar today
+    ∷ followed calendar (some today)
+    ∷ allTrades (λ trade. leb (trade .first) (paymentDay calendar (On today))) inUse
     ∷ [])
+
+abbrev pub dayFit : Calendar → Day → Phase → List Trade → (count : ℕ) → Bool
+dayFit calendar Never phase inUse count = unopenedFit phase count
+dayFit calendar (On day) phase inUse count = openedFit calendar day inUse
 
 unfoldable pub fit : Calendar → Book → List Trade → Bool
 fit calendar book table =

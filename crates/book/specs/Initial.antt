@@ -7,6 +7,7 @@ use lib.Dec.{ltb, leb, eqb}
 use lib.IntN.{ℤ, pos, natAbs, _-ℤ_}
 use lib.ListN.{length, set}
 use lib.Signed.{ltZ}
+use Rattle.money.specs.declared.units.Ticks.{Ticks}
 use Rattle.money.specs.Limits.{tradeLimit, priceLimit}
 use Rattle.money.specs.Causes.{Cause, _⇒_}
 use Rattle.money.specs.Days.{Calendar, atOrAfter}
@@ -29,9 +30,25 @@ offTerm today due = leb due today || ltb (today + termLimit) due
 abbrev pub noMaturity : Calendar → (due : ℕ) → Bool
 noMaturity calendar due = not (followed calendar (atOrAfter calendar due))
 
+abbrev pub badDue : Calendar → (today due : ℕ) → Bool
+badDue calendar today due = offTerm today due || noMaturity calendar due
+
+-- "a price above 100,000"
+abbrev pub badPrices : (price fallback : Ticks) → Bool
+badPrices price fallback = ltb priceLimit (price .0) || ltb priceLimit (fallback .0)
+
 -- today's net with an initial trade taken from it
 abbrev pub netLess : Book → Terms → ℤ
 netLess book terms = book .nets .today -ℤ pos (principal (terms .sheets) .0)
+
+-- what the table, headroom and today's net must have room for
+abbrev pub roomCauses : Book → List Trade → Terms → List Cause
+roomCauses book table terms =
+    (onTable (terms .contract) (inUse (book .trades) table) ⇒ 10)
+    ∷ (leb (length table) (book .trades) ⇒ 11)
+    ∷ (ltZ (headroom book table) (pos (terms .sheets .0)) ⇒ 12)
+    ∷ (ltb netLimit (natAbs (netLess book terms)) ⇒ 14)
+    ∷ []
 
 unfoldable pub initialCauses : Calendar → Book → List Trade → Terms → List Cause
 initialCauses calendar book table terms =
@@ -39,13 +56,9 @@ initialCauses calendar book table terms =
     ∷ (isTerminated (book .standing .status) ⇒ 5)
     ∷ (isSuspended (book .standing .status) ⇒ 6)
     ∷ (badCount (terms .sheets .0) ⇒ 7)
-    ∷ (ltb priceLimit (terms .price .0) || ltb priceLimit (terms .fallback .0) ⇒ 8)
-    ∷ (offTerm (dayNumber (book .standing .day)) (terms .due) || noMaturity calendar (terms .due) ⇒ 9)
-    ∷ (onTable (terms .contract) (inUse (book .trades) table) ⇒ 10)
-    ∷ (leb (length table) (book .trades) ⇒ 11)
-    ∷ (ltZ (headroom book table) (pos (terms .sheets .0)) ⇒ 12)
-    ∷ (ltb netLimit (natAbs (netLess book terms)) ⇒ 14)
-    ∷ []
+    ∷ (badPrices (terms .price) (terms .fallback) ⇒ 8)
+    ∷ (badDue calendar (dayNumber (book .standing .day)) (terms .due) ⇒ 9)
+    ∷ roomCauses book table terms
 
 -- the record of a trade that begins today
 abbrev pub begun : Calendar → Book → Terms → Trade

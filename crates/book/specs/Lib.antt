@@ -22,3 +22,5 @@ pub mod Step
 pub mod Run
 pub mod Tally
 pub mod Demand3
+pub mod Listing
+pub mod Flat

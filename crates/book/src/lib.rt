@@ -9,8 +9,36 @@ pub mod trade;
 // The twelve events.
 pub mod event;
 
+// How 40 bytes give an event.
+pub mod decode;
+
 // What a call answers.
 pub mod answer;
 
+// The core's table: six numbers a trade.
+mod days;
+mod evening;
+mod fit;
+mod flat;
+mod nets;
+mod packing;
+mod redemption;
+mod standing;
+mod trades;
+mod vault;
+
 // The end of the day.
 mod close;
+
+// The events, a file each.
+mod early;
+mod freeze;
+mod funds;
+mod initial;
+mod open;
+mod pay;
+mod pledge;
+mod rate;
+mod size;
+mod step;
+mod withdraw;

@@ -6,4 +6,5 @@ pub mod Scan
 pub mod Words
 pub mod Least
 pub mod Bounds
+pub mod Answers
 pub mod Cases

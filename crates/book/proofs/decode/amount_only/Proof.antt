@@ -1,0 +1,16 @@
+use borrow.Author.Needs.{needs}
+use Rattle.book.proofs.Unused.{unusedFields}
+use Rattle.book.proofs.decode.amount_only.Statement.{statement}
+use Rattle.book.proofs.decode.amount_only.Tie as tie
+
+returns : tie.Need-returns
+returns c = search unusedFields
+
+kind-and-amount-requires : tie.Need-kind-and-amount-requires
+kind-and-amount-requires c κs = search needs
+
+returns-2 : tie.Need-returns-2
+returns-2 c = search unusedFields
+
+pub amount-only-spec : {M : Type 1} → statement M
+amount-only-spec = tie.close (tie.spec returns kind-and-amount-requires returns-2)

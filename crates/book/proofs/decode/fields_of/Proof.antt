@@ -1,0 +1,53 @@
+use native.Mathlib.Omega.{arith}
+use borrow.Author.Needs.{needs}
+use Rattle.book.proofs.Bytes.{past-two}
+use Rattle.book.proofs.decode.fields_of.Statement.{statement}
+use Rattle.book.proofs.decode.fields_of.Tie as tie
+
+shared-slice-read-t3 : tie.Need-shared-slice-read-t3
+shared-slice-read-t3 c = search needs
+
+shared-slice-read-t5 : tie.Need-shared-slice-read-t5
+shared-slice-read-t5 c = search needs
+
+number8-requires : tie.Need-number8-requires
+number8-requires c κs = search needs
+
+number8-requires-2 : tie.Need-number8-requires-2
+number8-requires-2 c κs = search needs
+
+number8-requires-3 : tie.Need-number8-requires-3
+number8-requires-3 c κs = search needs
+
+number4-requires : tie.Need-number4-requires
+number4-requires c κs = search needs
+
+number4-requires-2 : tie.Need-number4-requires-2
+number4-requires-2 c κs = search needs
+
+number4-requires-3 : tie.Need-number4-requires-3
+number4-requires-3 c κs = search needs
+
+number4-requires-4 : tie.Need-number4-requires-4
+number4-requires-4 c κs = search needs
+
+returns : tie.Need-returns
+returns c =
+    let known = c .before .before .before .before .before .before .before .before .before .shared-slice-known .given in
+    let bytes = c .before .before .before .before .before .before .before .before .before .before .args .bytes .now in
+    cc (past-two bytes 6 (omega arith) (known 0 .fits) (known 1 .fits))
+
+pub fields-of-spec : {M : Type 1} → statement M
+fields-of-spec =
+    tie.close
+    (tie.spec
+    shared-slice-read-t3
+    shared-slice-read-t5
+    number8-requires
+    number8-requires-2
+    number8-requires-3
+    number4-requires
+    number4-requires-2
+    number4-requires-3
+    number4-requires-4
+    returns)

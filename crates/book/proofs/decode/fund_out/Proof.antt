@@ -1,0 +1,24 @@
+use borrow.Author.Tests.{ne-eqb}
+use borrow.Author.Needs.{needs}
+use Rattle.book.proofs.decode.fund_out.Statement.{statement}
+use Rattle.book.proofs.decode.fund_out.Tie as tie
+
+kind-and-amount-requires : tie.Need-kind-and-amount-requires
+kind-and-amount-requires c κs = search needs
+
+kind-and-amount-requires-2 : tie.Need-kind-and-amount-requires-2
+kind-and-amount-requires-2 c κs = search needs
+
+returns : tie.Need-returns
+returns c = rw (c .before .match .keys1) (c .kind-and-amount .ensures)
+
+returns-2 : tie.Need-returns-2
+returns-2 c = rw (c .before .match .keys2) (c .kind-and-amount2 .ensures)
+
+returns-3 : tie.Need-returns-3
+returns-3 c = search ne-eqb
+
+pub fund-out-spec : {M : Type 1} → statement M
+fund-out-spec =
+    tie.close
+    (tie.spec kind-and-amount-requires kind-and-amount-requires-2 returns returns-2 returns-3)

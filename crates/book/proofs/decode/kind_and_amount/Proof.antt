@@ -1,0 +1,28 @@
+use Rattle.book.proofs.Unused.{unusedFields}
+use Rattle.book.proofs.decode.kind_and_amount.Statement.{statement}
+use Rattle.book.proofs.decode.kind_and_amount.Tie as tie
+
+returns : tie.Need-returns
+returns c = search unusedFields
+
+returns-2 : tie.Need-returns-2
+returns-2 c = search unusedFields
+
+returns-3 : tie.Need-returns-3
+returns-3 c = search unusedFields
+
+returns-4 : tie.Need-returns-4
+returns-4 c = search unusedFields
+
+returns-5 : tie.Need-returns-5
+returns-5 c = search unusedFields depth 6
+
+returns-6 : tie.Need-returns-6
+returns-6 c = search unusedFields depth 7
+
+returns-7 : tie.Need-returns-7
+returns-7 c = search unusedFields depth 8
+
+pub kind-and-amount-spec : {M : Type 1} → statement M
+kind-and-amount-spec =
+    tie.close (tie.spec returns returns-2 returns-3 returns-4 returns-5 returns-6 returns-7)

@@ -1,0 +1,286 @@
+use Prim.Native.Nat.{ℕ, _+_, _-_, _≤_, _<_}
+use mathlib.Core.Path.{_≡_, refl, sym, ap, _∙_}
+use mathlib.Core.Bool.{Bool, true, false, cond}
+use mathlib.Core.Logic.{_⊎_, inl, inr, ⊎-elim}
+use borrow.Author.Tests.{eq-eqb, ne-eqb}
+use native.Mathlib.Decide.{ℕ-discrete}
+use native.Mathlib.Omega.{arith}
+use borrow.Author.Needs.{needs}
+use lib.ListN.{length, length-map, getD}
+use Rattle.money.specs.Units.{fen}
+use Rattle.book.specs.Folds.{inTurn}
+use Rattle.book.specs.Book.{Security, Vault, Withdrawals}
+use Rattle.book.specs.Vault.{securityAt, isCash, effectiveOf, value as valueOf}
+use Rattle.book.specs.Close.{Evening, takenOut, mayGo, settled, applications}
+use Rattle.book.proofs.FitParts.{ApplicationFits, withdrawals-fit}
+use Rattle.book.proofs.SumLaws.{turn-none, turn-more}
+use Rattle.book.proofs.EveningLaws.{Kept, Held, held-security, held-cash, held-fits, security-taken, cash-taken, sound-of, turn, turns-keep, turns-full, turns-count, ready-kept, unfrozen}
+use Rattle.book.proofs.evening.applications.Statement.{statement}
+use Rattle.book.proofs.evening.applications.Tie as tie
+
+-- the evening that the code's variables make up
+abbrev made : ℕ → Vault → ℕ → ℕ → Evening
+made own vault done dropped = record { own = fen own; vault = vault; done = done; dropped = dropped }
+
+-- it is the evening after an application that goes, or stays
+module _ (served : Bool) (outstanding kind units : ℕ) (e : Evening) {own done dropped : ℕ} {vault : Vault} where
+  went : mayGo served outstanding kind units (e .vault) ≡ true → own ≡ cond (isCash kind) (e .own .0 + units) (e .own .0) → vault ≡ takenOut kind units (e .vault) → done ≡ e .done + 1 → dropped ≡ e .dropped
+      → made own vault done dropped ≡ settled served outstanding kind units e
+  went goes o v d r = rw (goes, o, v, d, r)
+
+  stayed : mayGo served outstanding kind units (e .vault) ≡ false → own ≡ e .own .0 → vault ≡ e .vault → done ≡ e .done → dropped ≡ e .dropped + 1
+      → made own vault done dropped ≡ settled served outstanding kind units e
+  stayed stays o v d r = rw (stays, o, v, d, r)
+
+abbrev Inv-loop : tie.InvT-loop
+Inv-loop served outstanding withdrawals vault₀ own₀ value₀ done₀ dropped₀ count i₀ vault own value done dropped i =
+    (i ≤ count)
+    × (count ≡ withdrawals .count)
+    × (made own vault done dropped ≡ inTurn i (turn served outstanding withdrawals) (made own₀ vault₀ done₀ dropped₀))
+    × (value ≡ valueOf vault)
+
+abbrev μ-loop : tie.MeasureT-loop
+μ-loop served outstanding withdrawals vault₀ own₀ value₀ done₀ dropped₀ count i₀ vault own value done dropped i = count - i
+
+value-of-requires : tie.Need-value-of-requires Inv-loop μ-loop
+value-of-requires c κs = (c .before .pre .1, c .before .pre .2, c .before .pre .3)
+
+loop-holds : tie.Need-loop-holds Inv-loop μ-loop
+loop-holds c = (omega arith, refl, sym (turn-none _ _), c .value-of .ensures)
+
+-- the turn at hand: the application, and the evening before it
+module _ (c : tie.In-loop Inv-loop μ-loop) where
+  abbrev s : tie.Start Inv-loop μ-loop
+  s = c .before .before .before .before
+
+  abbrev w : Withdrawals
+  w = s .args .t3
+
+  abbrev i : ℕ
+  i = c .before .loop .i
+
+  abbrev kind : ℕ
+  kind = getD (w .kinds) i 0
+
+  abbrev units : ℕ
+  units = getD (w .units) i 0
+
+  abbrev vault : Vault
+  vault = c .before .loop .vault
+
+  abbrev before : Evening
+  before = made (c .before .loop .own) vault (c .before .loop .done) (c .before .loop .dropped)
+
+  abbrev turns : ℕ → Evening → Evening
+  turns = turn (s .args .served) (s .args .outstanding) w
+
+  few : w .count ≤ 128
+  few = withdrawals-fit w (s .pre .0) .count
+
+  application : ApplicationFits kind units
+  application = withdrawals-fit w (s .pre .0) .each i (omega arith)
+
+  kept : Kept before
+  kept = rw (c .before .loop .inv .2) (turns-keep (s .args .served) (s .args .outstanding) w (s .args .evening) i (ready-kept (s .args .served) (s .args .outstanding) w (s .args .evening) (s .pre)))
+
+  seen : before .done + before .dropped ≡ i
+  seen =
+      omega (
+        arith,
+        ap (λ (e : Evening). e .done + e .dropped) (c .before .loop .inv .2),
+        turns-count (s .args .served) (s .args .outstanding) w (s .args .evening) i,
+        s .pre .5,
+        s .pre .6,
+      )
+
+  full : length (vault .securities) ≡ 32
+  full =
+      ap (λ (e : Evening). length (e .vault .securities)) (c .before .loop .inv .2)
+      ∙ turns-full (s .args .served) (s .args .outstanding) w (s .args .evening) i (simp length-map at (s .good .1 .1 .1 .0 .1 .1 .1 .0 .1 .1 .1 .0 .1 .0 .1))
+
+element-copy-out-kind : tie.Need-element-copy-out-kind Inv-loop μ-loop
+element-copy-out-kind c = omega (arith, few c)
+
+mul-units : tie.Need-mul-units Inv-loop μ-loop
+mul-units c = omega (arith, few (c .before))
+
+element-copy-out-units : tie.Need-element-copy-out-units Inv-loop μ-loop
+element-copy-out-units c = omega (arith, few (c .before))
+
+as-security-requires : tie.Need-as-security-requires Inv-loop μ-loop
+as-security-requires c κs = search needs
+
+cast-had : tie.Need-cast-had Inv-loop μ-loop
+cast-had c = search needs
+
+mul-had : tie.Need-mul-had Inv-loop μ-loop
+mul-had c = search needs
+
+element-copy-out-had : tie.Need-element-copy-out-had Inv-loop μ-loop
+element-copy-out-had c = search needs
+
+-- what is had of the kind
+module _ (c : tie.Joined1 Inv-loop μ-loop) where
+  abbrev at : tie.In-loop Inv-loop μ-loop
+  at = c .before .before .before .before .before
+
+  had-security : kind at < 32 → c .if1 .had ≡ securityAt (vault at) (kind at)
+  had-security h = ⊎-elim (λ a. a .2) (λ a. absurd (omega (arith, a .0 .left))) (c .if1 .came)
+
+  had-cash : kind at ≡ 32 → c .if1 .had ≡ c .before .as-security .result
+  had-cash h = ⊎-elim (λ a. absurd (omega (arith, a .0 .taken))) (λ a. a .1) (c .if1 .came)
+
+  held : Held (vault at) (kind at) (c .if1 .had)
+  held = by (ℕ-discrete (kind at) 32)
+    where
+      by : Dec (kind at ≡ 32) → Held (vault at) (kind at) (c .if1 .had)
+      by (yes e) =
+          let cash = c .before .as-security .ensures in
+          let had = had-cash e in
+          held-cash (vault at) (kind at) (c .if1 .had) e (full at) (ap (λ (s : Security). s .effective) had ∙ cash .0) (ap (λ (s : Security). s .frozen) had ∙ cash .2) (ap (λ (s : Security). s .rate) had ∙ cash .3)
+      by (no other) = let h : kind at < 32 = omega (arith, application at .known) in held-security (vault at) (kind at) (c .if1 .had) h (had-security h)
+
+judged-requires : tie.Need-judged-requires Inv-loop μ-loop
+judged-requires c κs =
+    let at = c .before .before .before .before .before in
+    held-fits (vault at) (kind at) (c .if1 .had) (at .before .loop .value) (sound-of (before at) (kept at)) (application at .known) (held c) (at .before .loop .inv .3)
+
+-- what is judged, of this vault
+module _ (c : tie.After-judged Inv-loop μ-loop) where
+  abbrev turn-at : tie.In-loop Inv-loop μ-loop
+  turn-at = c .before .before .before .before .before .before
+
+  judgement : (c .judged .result .goes ≡ mayGo (s turn-at .args .served) (s turn-at .args .outstanding) (kind turn-at) (units turn-at) (vault turn-at))
+      × (c .judged .result .value ≡ cond (c .judged .result .goes) (valueOf (takenOut (kind turn-at) (units turn-at) (vault turn-at))) (c .before .before .before .before .before .before .before .loop .value))
+  judgement = c .judged .ensures (vault turn-at) (full turn-at) (held (c .before) .effective) (held (c .before) .frozen) (held (c .before) .rate) (turn-at .before .loop .inv .3)
+
+  enough : c .judged .result .goes ≡ true → units turn-at ≤ effectiveOf (vault turn-at) (kind turn-at)
+  enough goes =
+      omega (arith, unfrozen (s turn-at .args .served) (s turn-at .args .outstanding) (kind turn-at) (units turn-at) (vault turn-at) (sym (judgement .0) ∙ goes))
+
+add-done : tie.Need-add-done Inv-loop μ-loop
+add-done c = let at = turn-at (c .before) in omega (arith, seen at, few at, at .loop-test .taken)
+
+sub-had : tie.Need-sub-had Inv-loop μ-loop
+sub-had c = omega (arith, enough (c .before .before) (c .before .if2 .taken), held (c .before .before .before) .effective)
+
+cast-had-2 : tie.Need-cast-had-2 Inv-loop μ-loop
+cast-had-2 c = search needs
+
+mul-had-2 : tie.Need-mul-had-2 Inv-loop μ-loop
+mul-had-2 c = search needs
+
+element-set-from-had : tie.Need-element-set-from-had Inv-loop μ-loop
+element-set-from-had c = search needs
+
+as-guarantee-requires : tie.Need-as-guarantee-requires Inv-loop μ-loop
+as-guarantee-requires c κs = search needs
+
+add-own : tie.Need-add-own Inv-loop μ-loop
+add-own c = let at = turn-at (c .before .before .before .before) in omega (arith, kept at .cash, application at .within)
+
+add-dropped : tie.Need-add-dropped Inv-loop μ-loop
+add-dropped c = let at = turn-at (c .before) in omega (arith, seen at, few at, at .loop-test .taken)
+
+add-i : tie.Need-add-i Inv-loop μ-loop
+add-i c = let at = turn-at (c .before) in omega (arith, few at, at .loop-test .taken)
+
+loop-less : tie.Need-loop-less Inv-loop μ-loop
+loop-less c = search needs
+
+-- after the turn: the application went, or stayed
+module _ (c : tie.Joined2 Inv-loop μ-loop) where
+  abbrev here : tie.In-loop Inv-loop μ-loop
+  here = turn-at (c .before)
+
+  abbrev Went : Type 0
+  Went =
+      (c .before .judged .result .goes ≡ true)
+      × (c .if2 .own ≡ cond (isCash (kind here)) (before here .own .0 + units here) (before here .own .0))
+      × (c .if2 .vault ≡ takenOut (kind here) (units here) (vault here))
+      × (c .if2 .done ≡ before here .done + 1)
+      × (c .if2 .dropped ≡ before here .dropped)
+
+  abbrev Stayed : Type 0
+  Stayed =
+      (c .before .judged .result .goes ≡ false)
+      × (c .if2 .own ≡ before here .own .0)
+      × (c .if2 .vault ≡ vault here)
+      × (c .if2 .done ≡ before here .done)
+      × (c .if2 .dropped ≡ before here .dropped + 1)
+
+  way : Went ⊎ Stayed
+  way =
+      ⊎-elim
+      (λ a.
+      let h = a .2 .taken in
+      inl (a .0 .taken, rw (ne-eqb (kind here) 32 (λ q. omega arith)) (a .4), a .3 ∙ security-taken (vault here) (kind here) (c .before .before .if1 .had) (units here) h (had-security (c .before .before) h), a .5, a .6))
+      (⊎-elim
+      (λ a.
+      let e : kind here ≡ 32 = omega (arith, a .2 .left, application here .known) in
+      let had = had-cash (c .before .before) e in
+      let cash = c .before .before .before .as-security .ensures in
+      let back = a .3 .ensures in
+      inl (
+        a .0 .taken,
+        rw (eq-eqb (kind here) 32 e) (a .5),
+        a .4
+            ∙ cash-taken (vault here) (kind here) (units here) (a .3 .result) e (back .0 ∙ ap (λ (s : Security). s .effective - units here) had ∙ ap (λ n. n - units here) (cash .0))
+            (back .1 ∙ ap (λ (s : Security). s .arriving) had ∙ cash .1) (back .2 ∙ ap (λ (s : Security). s .frozen) had ∙ cash .2),
+        a .6,
+        a .7,
+      ))
+      (λ a. inr (a .0 .left, a .2, a .1, a .3, a .4)))
+      (c .if2 .came)
+
+  settled-so : made (c .if2 .own) (c .if2 .vault) (c .if2 .done) (c .if2 .dropped) ≡ turns here (i here) (before here)
+  settled-so =
+      let so = sym (judgement (c .before) .0) in
+      ⊎-elim (λ a. went _ _ _ _ (before here) (so ∙ a .0) (a .1) (a .2) (a .3) (a .4)) (λ a. stayed _ _ _ _ (before here) (so ∙ a .0) (a .1) (a .2) (a .3) (a .4)) way
+
+  valued-so : c .before .judged .result .value ≡ valueOf (c .if2 .vault)
+  valued-so =
+      let valued : Bool → ℕ = λ goes. cond goes (valueOf (takenOut (kind here) (units here) (vault here))) (here .before .loop .value) in
+      ⊎-elim (λ a. judgement (c .before) .1 ∙ ap valued (a .0) ∙ sym (ap valueOf (a .2)))
+      (λ a. judgement (c .before) .1 ∙ ap valued (a .0) ∙ here .before .loop .inv .3 ∙ sym (ap valueOf (a .2))) way
+
+loop-again : tie.Need-loop-again Inv-loop μ-loop
+loop-again c =
+    let at = turn-at (c .before) in
+    (omega (arith, at .loop-test .taken), refl, settled-so c ∙ ap (turns at (i at)) (at .before .loop .inv .2) ∙ sym (turn-more (turns at) (s at .args .evening) (i at)), valued-so c)
+
+returns : tie.Need-returns Inv-loop μ-loop
+unfolding applications
+returns c =
+    let s = c .before .before .before .before in
+    let e : c .before .loop .i ≡ s .args .t3 .count = omega arith in
+    c .before .loop .inv .2 ∙ ap (λ n. inTurn n (turn (s .args .served) (s .args .outstanding) (s .args .t3)) (s .args .evening)) e
+
+pub applications-spec : {M : Type 1} → statement M
+applications-spec =
+    tie.close
+    (tie.spec
+    Inv-loop
+    μ-loop
+    value-of-requires
+    loop-holds
+    element-copy-out-kind
+    mul-units
+    element-copy-out-units
+    as-security-requires
+    cast-had
+    mul-had
+    element-copy-out-had
+    judged-requires
+    add-done
+    sub-had
+    cast-had-2
+    mul-had-2
+    element-set-from-had
+    as-guarantee-requires
+    add-own
+    add-dropped
+    add-i
+    loop-less
+    loop-again
+    returns)

@@ -1,0 +1,58 @@
+use borrow.Author.Needs.{needs}
+use Rattle.book.proofs.FitFacts.{room-where-fit, kept-where-fit}
+use Rattle.book.proofs.Fitting.{fitting, upheld, by-flat-tests}
+use Rattle.book.proofs.fit.is_fit.Statement.{statement}
+use Rattle.book.proofs.fit.is_fit.Tie as tie
+
+capacity-fit-requires : tie.Need-capacity-fit-requires
+capacity-fit-requires c κs = search needs
+
+returns : tie.Need-returns
+returns c = by-flat-tests _ _ _ _ (search fitting depth 12)
+
+securities-fit-requires : tie.Need-securities-fit-requires
+securities-fit-requires c κs = search needs
+
+returns-2 : tie.Need-returns-2
+returns-2 c = by-flat-tests _ _ _ _ (search fitting depth 12)
+
+cash-fit-requires : tie.Need-cash-fit-requires
+cash-fit-requires c κs = search needs
+
+returns-3 : tie.Need-returns-3
+returns-3 c = by-flat-tests _ _ _ _ (search fitting depth 12)
+
+trades-fit-requires : tie.Need-trades-fit-requires
+trades-fit-requires c κs = room-where-fit _ _ (upheld (c .before .before .before .before .before .before .before .before .capacity-fit .ensures) (c .before .before .before .before .before .before .before .if1 .left))
+
+returns-4 : tie.Need-returns-4
+returns-4 c = by-flat-tests _ _ _ _ (search fitting depth 12)
+
+size-fit-requires : tie.Need-size-fit-requires
+size-fit-requires c κs = kept-where-fit _ _ (upheld (c .before .before .before .before .before .before .before .before .before .before .capacity-fit .ensures) (c .before .before .before .before .before .before .before .before .before .if1 .left)) (upheld (c .before .trades-fit .ensures) (c .if4 .left))
+
+returns-5 : tie.Need-returns-5
+returns-5 c = by-flat-tests _ _ _ _ (search fitting depth 12)
+
+others-fit-requires : tie.Need-others-fit-requires
+others-fit-requires c κs = (search needs, room-where-fit _ _ (upheld (c .before .before .before .before .before .before .before .before .before .before .before .before .capacity-fit .ensures) (c .before .before .before .before .before .before .before .before .before .before .before .if1 .left)))
+
+returns-6 : tie.Need-returns-6
+returns-6 c = by-flat-tests _ _ _ _ (search fitting depth 12)
+
+pub is-fit-spec : {M : Type 1} → statement M
+is-fit-spec =
+    tie.close
+    (tie.spec
+    capacity-fit-requires
+    returns
+    securities-fit-requires
+    returns-2
+    cash-fit-requires
+    returns-3
+    trades-fit-requires
+    returns-4
+    size-fit-requires
+    returns-5
+    others-fit-requires
+    returns-6)

@@ -1,0 +1,130 @@
+use native.Mathlib.Omega.{arith}
+use borrow.Author.Needs.{needs}
+use lib.ListN.{length-set}
+use Rattle.book.proofs.StoreLaws.{trade-put}
+use Rattle.book.proofs.flat.put_trade.Statement.{statement}
+use Rattle.book.proofs.flat.put_trade.Tie as tie
+
+mul-table : tie.Need-mul-table
+mul-table c = search needs
+
+mul-table-2 : tie.Need-mul-table-2
+mul-table-2 c = search needs
+
+slice-write-table : tie.Need-slice-write-table
+slice-write-table c = search needs
+
+mul-table-3 : tie.Need-mul-table-3
+mul-table-3 c = search needs
+
+add-table : tie.Need-add-table
+add-table c = search needs
+
+mul-table-4 : tie.Need-mul-table-4
+mul-table-4 c = search needs
+
+slice-write-table-2 : tie.Need-slice-write-table-2
+slice-write-table-2 c = simp length-set (omega arith)
+
+cast-table : tie.Need-cast-table
+cast-table c = search needs
+
+mul-table-5 : tie.Need-mul-table-5
+mul-table-5 c = search needs
+
+add-table-2 : tie.Need-add-table-2
+add-table-2 c = search needs
+
+mul-table-6 : tie.Need-mul-table-6
+mul-table-6 c = search needs
+
+slice-write-table-3 : tie.Need-slice-write-table-3
+slice-write-table-3 c = simp length-set (omega arith)
+
+cast-table-2 : tie.Need-cast-table-2
+cast-table-2 c = search needs
+
+mul-table-7 : tie.Need-mul-table-7
+mul-table-7 c = search needs
+
+add-table-3 : tie.Need-add-table-3
+add-table-3 c = search needs
+
+mul-table-8 : tie.Need-mul-table-8
+mul-table-8 c = search needs
+
+slice-write-table-4 : tie.Need-slice-write-table-4
+slice-write-table-4 c = simp length-set (omega arith)
+
+cast-table-3 : tie.Need-cast-table-3
+cast-table-3 c = search needs
+
+mul-table-9 : tie.Need-mul-table-9
+mul-table-9 c = search needs
+
+add-table-4 : tie.Need-add-table-4
+add-table-4 c = search needs
+
+mul-table-10 : tie.Need-mul-table-10
+mul-table-10 c = search needs
+
+slice-write-table-5 : tie.Need-slice-write-table-5
+slice-write-table-5 c = simp length-set (omega arith)
+
+cast-table-4 : tie.Need-cast-table-4
+cast-table-4 c = search needs
+
+mul-table-11 : tie.Need-mul-table-11
+mul-table-11 c = search needs
+
+add-table-5 : tie.Need-add-table-5
+add-table-5 c = search needs
+
+mul-table-12 : tie.Need-mul-table-12
+mul-table-12 c = search needs
+
+slice-write-table-6 : tie.Need-slice-write-table-6
+slice-write-table-6 c = simp length-set (omega arith)
+
+same-length : tie.Need-same-length
+same-length c = simp length-set
+
+returns : tie.Need-returns
+returns c =
+    let start = c .before .before .before .before in
+    trade-put (start .args .table .now) (start .args .place) (start .args .trade) (start .pre)
+    (record { price = omega arith; fallback = omega arith; first = omega arith; due = omega arith })
+
+pub put-trade-spec : {M : Type 1} → statement M
+put-trade-spec =
+    tie.close
+    (tie.spec
+    mul-table
+    mul-table-2
+    slice-write-table
+    mul-table-3
+    add-table
+    mul-table-4
+    slice-write-table-2
+    cast-table
+    mul-table-5
+    add-table-2
+    mul-table-6
+    slice-write-table-3
+    cast-table-2
+    mul-table-7
+    add-table-3
+    mul-table-8
+    slice-write-table-4
+    cast-table-3
+    mul-table-9
+    add-table-4
+    mul-table-10
+    slice-write-table-5
+    cast-table-4
+    mul-table-11
+    add-table-5
+    mul-table-12
+    slice-write-table-6
+    same-length
+    returns)

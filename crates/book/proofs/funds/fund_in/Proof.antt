@@ -1,0 +1,75 @@
+use mathlib.Core.Path.{_≡_, refl, _∙_}
+use mathlib.Core.List.{[]}
+use mathlib.Core.Option.{none}
+use Prim.Native.Nat.{_+_, _≤_}
+use native.Mathlib.Omega.{arith}
+use borrow.Author.Needs.{needs}
+use borrow.Author.Tests.{ltb-false}
+use Rattle.money.specs.Limits.{cashLimit}
+use Rattle.money.specs.declared.units.Fen.{Fen}
+use Rattle.money.specs.Causes.{firstOf}
+use Rattle.money.proofs.Refusals.{failed}
+use Rattle.book.specs.Book.{Book}
+use Rattle.book.specs.Entry.{Account, Own, Client, FundIn}
+use Rattle.book.specs.Fit.{allCash}
+use Rattle.book.specs.Funds.{holds, fundInCauses, fundedIn}
+use Rattle.book.specs.Step.{eventCauses}
+use Rattle.book.proofs.Refusing.{turned-down, carried-out, done}
+use Rattle.book.proofs.funds.fund_in.Statement.{statement}
+use Rattle.book.proofs.funds.fund_in.Tie as tie
+
+none-applies : (c : tie.Else1) → firstOf (fundInCauses (c .before .before .args .book) (c .before .before .args .account) (c .before .before .args .amount)) ≡ none
+unfolding eventCauses
+none-applies c =
+    let a = c .before .before .args in
+    done [] (a .book) [] (FundIn (a .account) (a .amount)) _ (c .before .fund-in-refusal .ensures) (c .if1 .left)
+
+-- an account holds at most all cash, so that there is room for the amount
+room : (book : Book) (account : Account) (amount : Fen) → firstOf (fundInCauses book account amount) ≡ none → holds account (book .cash) + amount .0 ≤ cashLimit
+unfolding fundInCauses
+room book account amount e = go account (ltb-false cashLimit (allCash (book .cash) (book .vault .guarantee) + amount .0) (failed (fundInCauses book account amount) e 14 .1 .0 refl))
+  where
+    go : (account : Account) → allCash (book .cash) (book .vault .guarantee) + amount .0 ≤ cashLimit → holds account (book .cash) + amount .0 ≤ cashLimit
+    go Own h = omega arith
+    go Client h = omega arith
+
+fund-in-refusal-requires : tie.Need-fund-in-refusal-requires
+fund-in-refusal-requires c κs = search needs
+
+answered-requires : tie.Need-answered-requires
+answered-requires c κs = search needs
+
+returns : tie.Need-returns
+returns c = turned-down _ _ _ (c .before .before .fund-in-refusal .ensures) (c .before .if1 .taken) (c .answered .ensures)
+
+held-requires : tie.Need-held-requires
+held-requires c κs = search needs
+
+add-with-account : tie.Need-add-with-account
+add-with-account c =
+    let q = c .before .before .before in
+    let a = q .before .before .args in
+    omega (arith, c .before .held .ensures, room (a .book) (a .account) (a .amount) (none-applies q))
+
+with-account-requires : tie.Need-with-account-requires
+with-account-requires c κs = search needs
+
+answered-requires-2 : tie.Need-answered-requires-2
+answered-requires-2 c κs = search needs
+
+returns-2 : tie.Need-returns-2
+unfolding fundedIn
+returns-2 c = carried-out _ _ _ (none-applies (c .before .before .before .before .before)) (c .answered2 .ensures ∙ rw (c .before .with-account .ensures, c .before .before .before .held .ensures))
+
+pub fund-in-spec : {M : Type 1} → statement M
+fund-in-spec =
+    tie.close
+    (tie.spec
+    fund-in-refusal-requires
+    answered-requires
+    returns
+    held-requires
+    add-with-account
+    with-account-requires
+    answered-requires-2
+    returns-2)

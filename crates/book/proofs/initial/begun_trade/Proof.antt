@@ -1,0 +1,13 @@
+use mathlib.Core.Path.{_≡_, refl, sym, ap, _∙_}
+use borrow.Author.Needs.{needs}
+use Rattle.book.proofs.initial.begun_trade.Statement.{statement}
+use Rattle.book.proofs.initial.begun_trade.Tie as tie
+
+payment-day-requires : tie.Need-payment-day-requires
+payment-day-requires c κs = search needs
+
+returns : tie.Need-returns
+returns c = rw (c .payment-day .ensures) refl
+
+pub begun-trade-spec : {M : Type 1} → statement M
+begun-trade-spec = tie.close (tie.spec payment-day-requires returns)

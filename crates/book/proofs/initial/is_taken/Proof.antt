@@ -1,0 +1,24 @@
+use mathlib.Core.Path.{_≡_, refl, sym, ap, _∙_}
+use borrow.Author.Needs.{needs}
+use Prim.Native.Nat.{ℕ}
+use lib.Dec.{ltb}
+use lib.ListN.{length}
+use Rattle.book.specs.Flat.{tradesTo, placeOf}
+use Rattle.book.proofs.FlatLaws.{length-trades}
+use Rattle.book.proofs.PlaceLaws.{on-table-by-place}
+use Rattle.book.proofs.initial.is_taken.Statement.{statement}
+use Rattle.book.proofs.initial.is_taken.Tie as tie
+
+place-of-requires : tie.Need-place-of-requires
+place-of-requires c κs = search needs
+
+returns : tie.Need-returns
+returns c =
+    let s = c .before .before in
+    let l = tradesTo (s .args .table .now) (s .args .count) in
+    ap (λ (p : ℕ). ltb p (s .args .count)) (c .place-of .ensures)
+    ∙ ap (λ (n : ℕ). ltb (placeOf (s .args .contract) l) n) (sym (length-trades _ _))
+    ∙ sym (on-table-by-place _ _)
+
+pub is-taken-spec : {M : Type 1} → statement M
+is-taken-spec = tie.close (tie.spec place-of-requires returns)

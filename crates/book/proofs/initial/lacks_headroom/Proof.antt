@@ -1,0 +1,44 @@
+use mathlib.Core.Path.{_≡_, refl, sym, ap, _∙_}
+use Prim.Native.Nat.{ℕ}
+use borrow.Author.Needs.{needs}
+use native.Mathlib.Omega.{arith}
+use lib.IntN.{pos}
+use lib.ListN.{take}
+use lib.Signed.{ltZ}
+use Rattle.book.specs.Flat.{tradesOf}
+use Rattle.book.specs.Trades.{outstanding}
+use Rattle.book.specs.Vault.{value, headroomOf, headroom}
+use Rattle.book.proofs.FitParts.{fit-parts, fit-securities}
+use Rattle.book.proofs.FitFacts.{fit-keeps, fit-in-use}
+use Rattle.book.proofs.initial.lacks_headroom.Statement.{statement}
+use Rattle.book.proofs.initial.lacks_headroom.Tie as tie
+
+-- O is counted over the flat table
+counted : (c : tie.After-outstanding-of) → (let s = c .before .before .before .before .args in c .outstanding-of .result ≡ outstanding (take (s .book .trades) (tradesOf (s .table .now))))
+counted c = c .outstanding-of .ensures ∙ ap outstanding (sym (fit-in-use _ _ _ (c .before .before .before .before .pre .0)))
+
+outstanding-of-requires : tie.Need-outstanding-of-requires
+outstanding-of-requires c κs = fit-keeps _ _ _ (c .before .before .before .pre .0)
+
+value-of-requires : tie.Need-value-of-requires
+value-of-requires c κs =
+    let parts = fit-parts _ _ _ (c .before .before .before .before .pre .0) in
+    (fit-securities _ (parts .securities), parts .cash .free, omega (arith, parts .cash .sum))
+
+above-headroom-requires : tie.Need-above-headroom-requires
+above-headroom-requires c κs =
+    let size = fit-parts _ _ _ (c .before .before .before .before .before .pre .0) .size in
+    (omega (arith, counted (c .before), size .within, size .covers), c .before .before .before .before .before .pre .1)
+
+returns : tie.Need-returns
+unfolding headroom
+returns c = rw (counted (c .before .before), c .before .value-of .ensures) at (c .above-headroom .ensures)
+
+pub lacks-headroom-spec : {M : Type 1} → statement M
+lacks-headroom-spec =
+    tie.close
+    (tie.spec
+    outstanding-of-requires
+    value-of-requires
+    above-headroom-requires
+    returns)

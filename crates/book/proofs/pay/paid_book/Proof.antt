@@ -1,0 +1,26 @@
+use borrow.Author.Needs.{needs}
+use Rattle.book.specs.Pay.{paidBook}
+use Rattle.book.proofs.pay.paid_book.Statement.{statement}
+use Rattle.book.proofs.pay.paid_book.Tie as tie
+
+settled-requires : tie.Need-settled-requires
+settled-requires c κs = search needs
+
+cash-moved-requires : tie.Need-cash-moved-requires
+cash-moved-requires c κs = search needs
+
+paid-standing-requires : tie.Need-paid-standing-requires
+paid-standing-requires c κs = search needs
+
+returns : tie.Need-returns
+unfolding paidBook
+returns c = rw (c .paid-standing .ensures, c .before .cash-moved .ensures, c .before .before .settled .ensures)
+
+pub paid-book-spec : {M : Type 1} → statement M
+paid-book-spec =
+    tie.close
+    (tie.spec
+    settled-requires
+    cash-moved-requires
+    paid-standing-requires
+    returns)

@@ -1,0 +1,79 @@
+use mathlib.Core.Path.{_≡_, sym, _∙_}
+use mathlib.Core.Bool.{true}
+use mathlib.Core.List.{[]}
+use mathlib.Core.Option.{none}
+use native.Mathlib.Omega.{arith}
+use borrow.Author.Needs.{needs}
+use borrow.Author.Tests.{ltb-false}
+use Rattle.money.specs.Causes.{firstOf}
+use Rattle.book.specs.Book.{Nets}
+use Rattle.book.specs.Entry.{Pay}
+use Rattle.book.specs.Fit.{netFit, netsFit}
+use Rattle.book.specs.Pay.{payCauses}
+use Rattle.book.specs.Step.{eventCauses}
+use Rattle.book.proofs.FoldLaws.{both}
+use Rattle.book.proofs.FitParts.{cash-fits}
+use Rattle.book.proofs.Refusing.{refused, done}
+use Rattle.book.proofs.pay.pay.Statement.{statement}
+use Rattle.book.proofs.pay.pay.Tie as tie
+
+none-applies : (c : tie.Else1) → firstOf (payCauses (c .before .before .args .book)) ≡ none
+unfolding eventCauses
+none-applies c = done [] (c .before .before .args .book) [] Pay _ (c .before .pay-refusal .ensures) (c .if1 .left)
+
+cleared-fits : (nets : Nets) → netsFit nets ≡ true → netFit (nets .cleared) ≡ true
+unfolding netsFit
+cleared-fits nets e = both (netFit (nets .today)) (netFit (nets .cleared)) e .1
+
+pay-refusal-requires : tie.Need-pay-refusal-requires
+pay-refusal-requires c κs = search needs
+
+answered-requires : tie.Need-answered-requires
+answered-requires c κs = search needs
+
+returns : tie.Need-returns
+returns c = c .answered .ensures ∙ rw (refused (firstOf (payCauses (c .before .before .before .args .book))) _ (c .before .before .pay-refusal .ensures) (c .before .if1 .taken))
+
+falls-short-requires : tie.Need-falls-short-requires
+falls-short-requires c κs = cleared-fits _ (c .before .before .before .before .pre .0)
+
+unpaid-book-requires : tie.Need-unpaid-book-requires
+unpaid-book-requires c κs = search needs
+
+answered-requires-2 : tie.Need-answered-requires-2
+answered-requires-2 c κs = search needs
+
+returns-2 : tie.Need-returns-2
+returns-2 c =
+    let q = c .before .before in
+    c .answered2 .ensures
+    ∙ rw (c .before .unpaid-book .ensures, none-applies (q .before .before .before .before), sym (q .before .falls-short .ensures) ∙ q .if2 .taken)
+
+paid-book-requires : tie.Need-paid-book-requires
+paid-book-requires c κs =
+    let s = c .before .before .before .before .before .before in
+    (cleared-fits _ (s .pre .0), ltb-false _ _ (sym (c .before .falls-short .ensures) ∙ c .if2 .left), omega (arith, cash-fits _ _ (s .pre .1) .sum))
+
+answered-requires-3 : tie.Need-answered-requires-3
+answered-requires-3 c κs = search needs
+
+returns-3 : tie.Need-returns-3
+returns-3 c =
+    let q = c .before .before in
+    c .answered3 .ensures
+    ∙ rw (c .before .paid-book .ensures, none-applies (q .before .before .before .before), sym (q .before .falls-short .ensures) ∙ q .if2 .left)
+
+pub pay-spec : {M : Type 1} → statement M
+pay-spec =
+    tie.close
+    (tie.spec
+    pay-refusal-requires
+    answered-requires
+    returns
+    falls-short-requires
+    unpaid-book-requires
+    answered-requires-2
+    returns-2
+    paid-book-requires
+    answered-requires-3
+    returns-3)

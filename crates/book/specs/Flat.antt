@@ -1,0 +1,93 @@
+-- How the core lays its table out, six numbers a trade: what private contracts read it by. No rule of document 01 stands here.
+-- Assumes nothing.
+use Prim.Native.Nat.{ℕ, zero, suc, _+_, _*_, _/_, _%_, _≤_}
+use mathlib.Core.Path.{_≡_}
+use mathlib.Core.Bool.{true, cond}
+use mathlib.Core.List.{List, [], _∷_, _++_}
+use mathlib.Core.Option.{Option, none, some}
+use lib.Dec.{leb}
+use lib.ListN.{length, getD}
+use Rattle.money.specs.Limits.{termLimit}
+use Rattle.money.specs.Units.{sheets, ticks}
+use Rattle.book.specs.Limits.{capacityLimit}
+use Rattle.book.specs.Book.{Book, answer}
+use Rattle.book.specs.declared.step.Applied.{Applied}
+use Rattle.money.specs.Days.{Calendar}
+use Rattle.book.specs.Pay.{fails, paidBook, payNumber}
+use Rattle.book.specs.Close.{closeAnswer, closedBook}
+use Rattle.book.specs.Step.{Outcome}
+use Rattle.book.specs.Trades.{Contract, Trade, same}
+use Rattle.book.specs.Fit.{tradeFit, allTrades}
+
+-- a number of the trade at a place
+abbrev pub word : List ℕ → (place field : ℕ) → ℕ
+word table place field = getD table (place * 6 + field) 0
+
+-- prices and days have 32 bits
+abbrev pub short : ℕ → ℕ
+short number = number % 4294967296
+
+unfoldable pub tradeAt : List ℕ → ℕ → Trade
+tradeAt table place = record {
+  contract = record { 0 = getD table (place * 6) 0 };
+  sheets = sheets (word table place 1);
+  price = ticks (short (word table place 2));
+  fallback = ticks (short (word table place 3));
+  first = short (word table place 4);
+  due = short (word table place 5);
+}
+
+-- the first trades of the table, and all of them
+unfoldable pub tradesTo : List ℕ → ℕ → List Trade
+tradesTo table zero = []
+tradesTo table (suc count) = tradesTo table count ++ (tradeAt table count ∷ [])
+
+abbrev pub capacity : List ℕ → ℕ
+capacity table = length table / 6
+
+abbrev pub tradesOf : List ℕ → List Trade
+tradesOf table = tradesTo table (capacity table)
+
+-- where a contract's trade stands, or how many trades there are
+unfoldable pub placeOf : Contract → List Trade → ℕ
+placeOf contract [] = 0
+placeOf contract (trade ∷ trades) = cond (same (trade .contract) contract) 0 (suc (placeOf contract trades))
+
+-- ---- what the core may rely on
+
+-- the trades in use stand in the table, within their limits
+pub record Kept (table : List ℕ) (count : ℕ) : Type 0 where
+  pub room : count * 6 ≤ length table
+  pub few : count ≤ capacityLimit
+  pub within : allTrades tradeFit (tradesTo table count) ≡ true
+
+-- and can be redeemed on a day that is paid on `payment`
+pub record Redeemable (table : List ℕ) (count payment : ℕ) : Type 0 where
+  pub kept : Kept table count
+  pub begun : allTrades (λ trade. leb (trade .first) payment) (tradesTo table count) ≡ true
+  pub term : payment ≤ termLimit
+
+-- ---- what an event that leaves the table gives back
+
+abbrev pub appliedBy : Option ℕ → (before after : Book) → Applied
+appliedBy none before after = record { answer = answer 0; book = after }
+appliedBy (some number) before after = record { answer = answer number; book = before }
+
+-- the table of an event that may change it
+abbrev pub tableBy : Option ℕ → (before after : List Trade) → List Trade
+tableBy none before after = after
+tableBy (some number) before after = before
+
+-- Pay answers 99 where it fails, and then changes the book too
+abbrev pub paidBy : Option ℕ → Book → Applied
+paidBy none before = record { answer = answer (payNumber (fails before)); book = paidBook (fails before) before }
+paidBy (some number) before = record { answer = answer number; book = before }
+
+-- Close carries its figures in the answer
+abbrev pub closedBy : Option ℕ → Calendar → Book → List Trade → Applied
+closedBy none calendar before table = record { answer = closeAnswer before table; book = closedBook calendar before table }
+closedBy (some number) calendar before table = record { answer = answer number; book = before }
+
+-- what a step gives back beside the table
+abbrev pub appliedOf : Outcome → Applied
+appliedOf outcome = record { answer = outcome .answer; book = outcome .book }

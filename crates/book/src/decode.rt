@@ -1,0 +1,226 @@
+// One event from 40 bytes of a journal.
+ghost use mathlib.Core.Path.{_≡_};
+ghost use mathlib.Core.List.{[], _∷_};
+ghost use Prim.Native.Nat.{_+_, _≤_, _<_};
+ghost use lib.ListN.{length};
+ghost use Rattle.money.specs.Units.{fen, sheets, ticks};
+ghost use Rattle.book.specs.Entry.{numberAt, fieldsOf, restOf, termsOf, unless, onAccount, entryOf, decoded};
+use crate::event::Account;
+use crate::event::Entry;
+use crate::event::Event;
+use crate::trade::Contract;
+use crate::trade::Terms;
+use money::units::Fen;
+use money::units::Sheets;
+use money::units::Ticks;
+
+// The numbers in the 40 bytes; `spare` and `last` are the bytes that no event uses.
+struct Fields {
+    code: u8,
+    kind: u8,
+    spare: u64,
+    amount: u64,
+    contract: u64,
+    price: u32,
+    fallback: u32,
+    due: u32,
+    last: u32,
+}
+
+// A byte as a number of 4 bytes.
+fn wide(byte: u8) -> u32
+    ensures { λ r. ⌜ (r ≡ byte) × (r < 256) ⌝ }
+{
+    byte as u32
+}
+
+// The number of 4 bytes, the least byte first.
+fn number4(bytes: &[u8], at: usize) -> u32
+    requires { ⌜ at + 4 ≤ length (now bytes) ⌝ }
+    ensures { λ r. ⌜ r ≡ numberAt at 4 (now (bytes .entry)) ⌝ }
+{
+    let low = wide(bytes[at]) + wide(bytes[at + 1]) * 256;
+    let high = wide(bytes[at + 2]) + wide(bytes[at + 3]) * 256;
+    low + high * 65_536
+}
+
+// The number of 8 bytes, from its two halves.
+fn number8(bytes: &[u8], at: usize) -> u64
+    requires { ⌜ at + 8 ≤ length (now bytes) ⌝ }
+    ensures { λ r. ⌜ r ≡ numberAt at 8 (now (bytes .entry)) ⌝ }
+{
+    let low = number4(bytes, at);
+    let high = number4(bytes, at + 4);
+    (low as u64) + (high as u64) * 4_294_967_296
+}
+
+// The spare bytes are what the first 8 have beyond code and kind.
+fn fields_of(bytes: &[u8]) -> Fields
+    requires { ⌜ length (now bytes) ≡ 40 ⌝ }
+    ensures { λ r. ⌜ r ≡ fieldsOf (now (bytes .entry)) ⌝ }
+{
+    Fields {
+        code: bytes[0],
+        kind: bytes[1],
+        spare: number8(bytes, 0) / 65_536,
+        amount: number8(bytes, 8),
+        contract: number8(bytes, 16),
+        price: number4(bytes, 24),
+        fallback: number4(bytes, 28),
+        due: number4(bytes, 32),
+        last: number4(bytes, 36),
+    }
+}
+
+// An event that may use kind and amount.
+fn kind_and_amount(fields: Fields, event: Event) -> Entry
+    ensures { λ r. ⌜ r ≡ unless event (restOf fields) ⌝ }
+{
+    if fields.spare != 0 {
+        return Entry::Undecodable;
+    }
+    if fields.contract != 0 {
+        return Entry::Undecodable;
+    }
+    if fields.price != 0 {
+        return Entry::Undecodable;
+    }
+    if fields.fallback != 0 {
+        return Entry::Undecodable;
+    }
+    if fields.due != 0 {
+        return Entry::Undecodable;
+    }
+    if fields.last != 0 {
+        return Entry::Undecodable;
+    }
+    Entry::Known(event)
+}
+
+// An event that may use the amount.
+fn amount_only(fields: Fields, event: Event) -> Entry
+    ensures { λ r. ⌜ r ≡ unless event (fields .kind ∷ restOf fields) ⌝ }
+{
+    if fields.kind != 0 {
+        return Entry::Undecodable;
+    }
+    kind_and_amount(fields, event)
+}
+
+// An event that is its code.
+fn code_only(fields: Fields, event: Event) -> Entry
+    ensures { λ r. ⌜ r ≡ unless event (fields .amount ∷ fields .kind ∷ restOf fields) ⌝ }
+{
+    if fields.amount != 0 {
+        return Entry::Undecodable;
+    }
+    amount_only(fields, event)
+}
+
+// The account stands where other events have a kind.
+fn fund_in(fields: Fields) -> Entry
+    ensures { λ r. ⌜ r ≡ onAccount (fields .kind) (λ account. Event.FundIn account (fen (fields .amount))) (restOf fields) ⌝ }
+{
+    let account = fields.kind;
+    let amount = Fen(fields.amount);
+    match account {
+        0 => kind_and_amount(fields, Event::FundIn(Account::Own, amount)),
+        1 => kind_and_amount(fields, Event::FundIn(Account::Client, amount)),
+        _ => Entry::Undecodable,
+    }
+}
+
+// As fund_in, the other way.
+fn fund_out(fields: Fields) -> Entry
+    ensures { λ r. ⌜ r ≡ onAccount (fields .kind) (λ account. Event.FundOut account (fen (fields .amount))) (restOf fields) ⌝ }
+{
+    let account = fields.kind;
+    let amount = Fen(fields.amount);
+    match account {
+        0 => kind_and_amount(fields, Event::FundOut(Account::Own, amount)),
+        1 => kind_and_amount(fields, Event::FundOut(Account::Client, amount)),
+        _ => Entry::Undecodable,
+    }
+}
+
+fn initial(fields: Fields) -> Entry
+    ensures { λ r. ⌜ r ≡ unless (Event.Initial (termsOf fields)) (fields .kind ∷ fields .spare ∷ fields .last ∷ []) ⌝ }
+{
+    if fields.kind != 0 {
+        return Entry::Undecodable;
+    }
+    if fields.spare != 0 {
+        return Entry::Undecodable;
+    }
+    if fields.last != 0 {
+        return Entry::Undecodable;
+    }
+    let event = Event::Initial(Terms {
+        contract: Contract(fields.contract),
+        sheets: Sheets(fields.amount),
+        price: Ticks(fields.price),
+        fallback: Ticks(fields.fallback),
+        due: fields.due,
+    });
+    Entry::Known(event)
+}
+
+fn early(fields: Fields) -> Entry
+    ensures { λ r. ⌜ r ≡ unless (Event.Early (record { 0 = fields .contract }) (sheets (fields .amount)) (ticks (fields .price))) (fields .kind ∷ fields .spare ∷ fields .fallback ∷ fields .due ∷ fields .last ∷ []) ⌝ }
+{
+    if fields.kind != 0 {
+        return Entry::Undecodable;
+    }
+    if fields.spare != 0 {
+        return Entry::Undecodable;
+    }
+    if fields.fallback != 0 {
+        return Entry::Undecodable;
+    }
+    if fields.due != 0 {
+        return Entry::Undecodable;
+    }
+    if fields.last != 0 {
+        return Entry::Undecodable;
+    }
+    let event = Event::Early(
+        Contract(fields.contract),
+        Sheets(fields.amount),
+        Ticks(fields.price),
+    );
+    Entry::Known(event)
+}
+
+// Each code with its event, and with the test that the fields it does not use are 0.
+fn entry_of(fields: Fields) -> Entry
+    ensures { λ r. ⌜ r ≡ entryOf fields ⌝ }
+{
+    let code = fields.code;
+    let kind = fields.kind;
+    let amount = fields.amount;
+    match code {
+        1 => code_only(fields, Event::Open),
+        2 => fund_in(fields),
+        3 => fund_out(fields),
+        4 => amount_only(fields, Event::Size(Sheets(amount))),
+        5 => kind_and_amount(fields, Event::Rate(kind, amount)),
+        6 => kind_and_amount(fields, Event::Pledge(kind, amount)),
+        7 => kind_and_amount(fields, Event::Freeze(kind, amount)),
+        8 => kind_and_amount(fields, Event::Withdraw(kind, amount)),
+        9 => initial(fields),
+        10 => early(fields),
+        11 => code_only(fields, Event::Pay),
+        12 => code_only(fields, Event::Close),
+        _ => Entry::Undecodable,
+    }
+}
+
+// The event of 40 bytes; any other number of bytes is no event.
+pub fn decode(bytes: &[u8]) -> Entry
+    ensures { λ r. ⌜ r ≡ decoded (now (bytes .entry)) ⌝ }
+{
+    if bytes.len() != 40 {
+        return Entry::Undecodable;
+    }
+    entry_of(fields_of(bytes))
+}

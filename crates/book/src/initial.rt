@@ -1,0 +1,165 @@
+// 9 Initial: a new last trade; its amount is taken from today's net.
+ghost use mathlib.Core.Path.{_≡_};
+ghost use mathlib.Core.Bool.{true};
+ghost use Prim.Native.Nat.{_≤_, _<_, _*_};
+ghost use lib.Dec.{ltb};
+ghost use lib.IntN.{pos, natAbs};
+ghost use lib.ListN.{length};
+ghost use lib.Signed.{ltZ};
+ghost use Rattle.money.specs.Causes.{firstOf, numberOf};
+ghost use Rattle.book.specs.Fit.{fit};
+ghost use Rattle.book.specs.Limits.{netLimit};
+ghost use Rattle.book.specs.Trades.{onTable};
+ghost use Rattle.book.specs.Vault.{headroom};
+ghost use Rattle.book.specs.Initial.{badCount, badPrices, badDue, begun, roomCauses, initialCauses, initialBook, initialTable};
+ghost use Rattle.book.specs.Flat.{tradesTo, tradesOf, appliedBy, tableBy};
+use crate::book::Book;
+use crate::days;
+use crate::evening;
+use crate::flat;
+use crate::nets;
+use crate::standing;
+use crate::step;
+use crate::step::Applied;
+use crate::trade::Contract;
+use crate::trade::Terms;
+use crate::trade::Trade;
+use crate::trades;
+use crate::vault;
+use money::units::Sheets;
+use money::units::Ticks;
+
+fn bad_count(count: u64) -> bool
+    ensures { λ r. ⌜ r ≡ badCount count ⌝ }
+{
+    if count == 0 {
+        return true;
+    }
+    if count % 10 != 0 {
+        return true;
+    }
+    count > 100_000_000
+}
+
+fn bad_prices(price: Ticks, fallback: Ticks) -> bool
+    ensures { λ r. ⌜ r ≡ badPrices price fallback ⌝ }
+{
+    if price.0 > 100_000 {
+        return true;
+    }
+    fallback.0 > 100_000
+}
+
+fn bad_due(calendar: &[u32], today: u32, due: u32) -> bool
+    requires { ⌜ (length (now calendar) ≤ 1200) × (today < 38400) ⌝ }
+    ensures { λ r. ⌜ r ≡ badDue (now (calendar .entry)) today due ⌝ }
+{
+    if due <= today {
+        return true;
+    }
+    if due > today + 365 {
+        return true;
+    }
+    !days::matures(calendar, due)
+}
+
+fn is_taken(table: &[u64], count: usize, contract: Contract) -> bool
+    requires { ⌜ count * 6 ≤ length (now table) ⌝ }
+    ensures { λ r. ⌜ r ≡ onTable contract (tradesTo (now (table .entry)) count) ⌝ }
+{
+    trades::place_of(table, count, contract) < count
+}
+
+// Whether sheets are above headroom.
+fn lacks_headroom(calendar: &[u32], book: Book, table: &[u64], count: u64) -> bool
+    requires { ⌜ (fit (now calendar) book (tradesOf (now table)) ≡ true) × (count ≤ 100000000) ⌝ }
+    ensures { λ r. ⌜ r ≡ ltZ (headroom book (tradesOf (now (table .entry)))) (pos count) ⌝ }
+{
+    let held = book.vault;
+    let outstanding = trades::outstanding_of(table, book.trades);
+    evening::above_headroom(book.size.0, vault::value_of(held), outstanding, count)
+}
+
+fn room_refusal(calendar: &[u32], book: Book, table: &[u64], terms: Terms) -> u8
+    requires { ⌜ (fit (now calendar) book (tradesOf (now table)) ≡ true) × (terms .sheets .0 ≤ 100000000) ⌝ }
+    ensures { λ r. ⌜ r ≡ numberOf (firstOf (roomCauses book (tradesOf (now (table .entry))) terms)) ⌝ }
+{
+    let contract = terms.contract;
+    if is_taken(table, book.trades, contract) {
+        return 10;
+    }
+    if table.len() / 6 <= book.trades {
+        return 11;
+    }
+    if lacks_headroom(calendar, book, table, terms.sheets.0) {
+        return 12;
+    }
+    let nets = book.nets;
+    if !nets::today_fit(nets::today_less(nets, 10_000 * terms.sheets.0)) {
+        return 14;
+    }
+    0
+}
+
+fn initial_refusal(calendar: &[u32], book: Book, table: &[u64], terms: Terms) -> u8
+    requires { ⌜ (fit (now calendar) book (tradesOf (now table)) ≡ true) × (length (now calendar) ≤ 1200) ⌝ }
+    ensures { λ r. ⌜ r ≡ numberOf (firstOf (initialCauses (now (calendar .entry)) book (tradesOf (now (table .entry))) terms)) ⌝ }
+{
+    let standing = book.standing;
+    if !standing::is_trading(standing) {
+        return 4;
+    }
+    if standing::is_terminated(standing) {
+        return 5;
+    }
+    if standing::is_suspended(standing) {
+        return 6;
+    }
+    if bad_count(terms.sheets.0) {
+        return 7;
+    }
+    let price = terms.price;
+    let fallback = terms.fallback;
+    if bad_prices(price, fallback) {
+        return 8;
+    }
+    let day = standing.day;
+    if bad_due(calendar, days::day_number(day), terms.due) {
+        return 9;
+    }
+    room_refusal(calendar, book, table, terms)
+}
+
+// The record of a trade that begins today.
+fn begun_trade(calendar: &[u32], book: Book, terms: Terms) -> Trade
+    requires { ⌜ length (now calendar) ≤ 1200 ⌝ }
+    ensures { λ r. ⌜ r ≡ begun (now (calendar .entry)) book terms ⌝ }
+{
+    let standing = book.standing;
+    let day = standing.day;
+    Trade {
+        contract: Contract(terms.contract.0),
+        sheets: Sheets(terms.sheets.0),
+        price: Ticks(terms.price.0),
+        fallback: Ticks(terms.fallback.0),
+        first: days::payment_day(calendar, day),
+        due: terms.due,
+    }
+}
+
+pub fn initial(calendar: &[u32], book: Book, table: &mut [u64], terms: Terms) -> Applied
+    requires { ⌜ (fit (now calendar) book (tradesOf (now table)) ≡ true) × (length (now calendar) ≤ 1200) ⌝ }
+    ensures { λ r. ⌜ (r ≡ appliedBy (firstOf (initialCauses (now (calendar .entry)) book (tradesOf (now (table .entry))) terms)) book (initialBook book terms)) × (tradesOf (now (table .exit)) ≡ tableBy (firstOf (initialCauses (now (calendar .entry)) book (tradesOf (now (table .entry))) terms)) (tradesOf (now (table .entry))) (initialTable (now (calendar .entry)) book (tradesOf (now (table .entry))) terms)) ⌝ }
+{
+    let refusal = initial_refusal(calendar, book, &*table, terms);
+    if refusal != 0 {
+        return step::answered(refusal, book);
+    }
+    let place = book.trades;
+    flat::put_trade(table, place, begun_trade(calendar, book, terms));
+    let nets = book.nets;
+    let mut next = book;
+    next.nets = nets::today_less(nets, 10_000 * terms.sheets.0);
+    next.trades = place + 1;
+    step::answered(0, next)
+}

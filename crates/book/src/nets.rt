@@ -1,0 +1,129 @@
+// The two nets: the few places where signed numbers are added and compared.
+ghost use mathlib.Core.Path.{_≡_};
+ghost use mathlib.Core.Bool.{true};
+ghost use Prim.Native.Nat.{_≤_};
+ghost use lib.IntN.{pos, negℤ, natAbs, _+ℤ_, _-ℤ_};
+ghost use lib.Signed.{ltZ};
+ghost use Rattle.book.specs.Fit.{netFit};
+use crate::book::Nets;
+
+// Whether a net is within 4×10^18, up or down.
+fn net_fit(net: i64) -> bool
+    ensures { λ r. ⌜ r ≡ netFit net ⌝ }
+{
+    if net > 4_000_000_000_000_000_000 {
+        return false;
+    }
+    if net < -4_000_000_000_000_000_000 {
+        return false;
+    }
+    true
+}
+
+fn plus(net: i64, more: i64) -> i64
+    requires { ⌜ natAbs net ≤ 4500000000000000000 ⌝ }
+    requires { ⌜ natAbs more ≤ 4500000000000000000 ⌝ }
+    ensures { λ r. ⌜ r ≡ net +ℤ more ⌝ }
+{
+    net + more
+}
+
+fn signed(amount: u64) -> i64
+    requires { ⌜ amount ≤ 500000000000000000 ⌝ }
+    ensures { λ r. ⌜ r ≡ pos amount ⌝ }
+{
+    amount as i64
+}
+
+fn negative(amount: u64) -> i64
+    requires { ⌜ amount ≤ 500000000000000000 ⌝ }
+    ensures { λ r. ⌜ r ≡ negℤ (pos amount) ⌝ }
+{
+    let size = signed(amount);
+    0 - size
+}
+
+pub fn today_fit(nets: Nets) -> bool
+    ensures { λ r. ⌜ r ≡ netFit (nets .today) ⌝ }
+{
+    net_fit(nets.today)
+}
+
+pub fn cleared_fit(nets: Nets) -> bool
+    ensures { λ r. ⌜ r ≡ netFit (nets .cleared) ⌝ }
+{
+    net_fit(nets.cleared)
+}
+
+// An initial trade is taken from today's net.
+pub fn today_less(nets: Nets, amount: u64) -> Nets
+    requires { ⌜ (netFit (nets .today) ≡ true) × (amount ≤ 500000000000000000) ⌝ }
+    ensures { λ r. ⌜ r ≡ record { today = nets .today -ℤ pos amount; cleared = nets .cleared } ⌝ }
+{
+    Nets {
+        today: plus(nets.today, negative(amount)),
+        cleared: nets.cleared,
+    }
+}
+
+// A redemption joins today's net.
+pub fn today_plus(nets: Nets, amount: u64) -> Nets
+    requires { ⌜ (netFit (nets .today) ≡ true) × (amount ≤ 500000000000000000) ⌝ }
+    ensures { λ r. ⌜ r ≡ record { today = nets .today +ℤ pos amount; cleared = nets .cleared } ⌝ }
+{
+    Nets {
+        today: plus(nets.today, signed(amount)),
+        cleared: nets.cleared,
+    }
+}
+
+// A redemption on termination joins the cleared net.
+pub fn cleared_plus(nets: Nets, amount: u64) -> Nets
+    requires { ⌜ (netFit (nets .cleared) ≡ true) × (amount ≤ 500000000000000000) ⌝ }
+    ensures { λ r. ⌜ r ≡ record { today = nets .today; cleared = nets .cleared +ℤ pos amount } ⌝ }
+{
+    Nets {
+        today: nets.today,
+        cleared: plus(nets.cleared, signed(amount)),
+    }
+}
+
+// Today's net joins the cleared net and becomes 0.
+pub fn joined(nets: Nets) -> Nets
+    requires { ⌜ (netFit (nets .today) ≡ true) × (netFit (nets .cleared) ≡ true) ⌝ }
+    ensures { λ r. ⌜ r ≡ record { today = pos 0; cleared = nets .cleared +ℤ nets .today } ⌝ }
+{
+    Nets {
+        today: 0,
+        cleared: plus(nets.cleared, nets.today),
+    }
+}
+
+// The net due is paid.
+pub fn settled(nets: Nets) -> Nets
+    ensures { λ r. ⌜ r ≡ record { today = nets .today; cleared = pos 0 } ⌝ }
+{
+    Nets {
+        today: nets.today,
+        cleared: 0,
+    }
+}
+
+// Whether the clients pay.
+pub fn client_pays(nets: Nets) -> bool
+    ensures { λ r. ⌜ r ≡ ltZ (nets .cleared) (pos 0) ⌝ }
+{
+    nets.cleared < 0
+}
+
+// The size of the net due.
+pub fn net_due(nets: Nets) -> u64
+    requires { ⌜ netFit (nets .cleared) ≡ true ⌝ }
+    ensures { λ r. ⌜ r ≡ natAbs (nets .cleared) ⌝ }
+{
+    let net = nets.cleared;
+    if net < 0 {
+        return (0 - net) as u64;
+    }
+    net as u64
+}

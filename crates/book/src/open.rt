@@ -1,0 +1,98 @@
+// 1 Open: goes to the next trading day; on turning terminated every trade is redeemed at its fallback price.
+ghost use mathlib.Core.Path.{_≡_};
+ghost use mathlib.Core.Bool.{true, cond};
+ghost use Prim.Native.Nat.{_≤_};
+ghost use lib.ListN.{length};
+ghost use Rattle.money.specs.Causes.{firstOf};
+ghost use Rattle.book.specs.Book.{Normal, NotFailed, FailedOnce};
+ghost use Rattle.book.specs.Days.{following, followed};
+ghost use Rattle.book.specs.Fit.{fit};
+ghost use Rattle.book.specs.Open.{statusAtOpen, turnsTerminated, openedStanding, netWithFallbacks, openCauses, openedBook, openedTable};
+ghost use Rattle.book.specs.Flat.{tradesOf, appliedBy, tableBy};
+use crate::book::Book;
+use crate::book::FailedRun;
+use crate::book::Nets;
+use crate::book::Phase;
+use crate::book::ShortRun;
+use crate::book::Standing;
+use crate::book::Status;
+use crate::days;
+use crate::nets;
+use crate::standing;
+use crate::step;
+use crate::step::Applied;
+
+// Art. 69: short of collateral, initial trades are not taken from the next day on, and are again once headroom is not below
+// zero; still short two days later, the permission ends.
+fn status_by_short(short: ShortRun) -> Status
+    ensures { λ r. ⌜ r ≡ statusAtOpen Normal NotFailed short ⌝ }
+{
+    match short {
+        ShortRun::NotShort => Status::Normal,
+        ShortRun::ShortOnce => Status::Suspended,
+        ShortRun::ShortTwice => Status::Suspended,
+        ShortRun::ShortThrice => Status::Terminated,
+    }
+}
+
+// Art. 70: a payment failed, initial trades are not taken, whatever else holds them up.
+fn status_after_failure(short: ShortRun) -> Status
+    ensures { λ r. ⌜ r ≡ statusAtOpen Normal FailedOnce short ⌝ }
+{
+    match short {
+        ShortRun::NotShort => Status::Suspended,
+        ShortRun::ShortOnce => Status::Suspended,
+        ShortRun::ShortTwice => Status::Suspended,
+        ShortRun::ShortThrice => Status::Terminated,
+    }
+}
+
+// Art. 70: a payment failed two days in a row ends the permission.
+fn status_by_runs(failed: FailedRun, short: ShortRun) -> Status
+    ensures { λ r. ⌜ r ≡ statusAtOpen Normal failed short ⌝ }
+{
+    match failed {
+        FailedRun::NotFailed => status_by_short(short),
+        FailedRun::FailedOnce => status_after_failure(short),
+        FailedRun::FailedTwice => Status::Terminated,
+    }
+}
+
+// A permission that has ended stays so.
+fn status_at_open(status: Status, failed: FailedRun, short: ShortRun) -> Status
+    ensures { λ r. ⌜ r ≡ statusAtOpen status failed short ⌝ }
+{
+    match status {
+        Status::Normal => status_by_runs(failed, short),
+        Status::Suspended => status_by_runs(failed, short),
+        Status::Terminated => Status::Terminated,
+    }
+}
+
+fn opened_standing(calendar: &[u32], standing: Standing) -> Standing
+    requires { ⌜ length (now calendar) ≤ 1200 ⌝ }
+    ensures { λ r. ⌜ r ≡ openedStanding (now (calendar .entry)) standing ⌝ }
+{
+    let day = standing.day;
+    let status = standing.status;
+    let failed = standing.failed;
+    let short = standing.short;
+    Standing {
+        day: days::next_day(calendar, day),
+        phase: Phase::Trading,
+        status: status_at_open(status, failed, short),
+        failed,
+        short,
+    }
+}
+
+// Whether the firm turns terminated between two standings.
+fn turns_terminated(before: Standing, after: Standing) -> bool
+    requires { ⌜ after .status ≡ statusAtOpen (before .status) (before .failed) (before .short) ⌝ }
+    ensures { λ r. ⌜ r ≡ turnsTerminated before ⌝ }
+{
+    if standing::is_terminated(before) {
+        return false;
+    }
+    standing::is_terminated(after)
+}

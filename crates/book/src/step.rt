@@ -1,0 +1,26 @@
+// What an event leaves beside the table.
+ghost use mathlib.Core.Path.{_≡_};
+ghost use Rattle.book.specs.Book.{answer};
+use crate::answer::Answer;
+use crate::book::Book;
+use money::units::Sheets;
+
+pub struct Applied {
+    pub answer: Answer,
+    pub book: Book,
+}
+
+// An answer that carries its number alone.
+pub fn answered(number: u8, book: Book) -> Applied
+    ensures { λ r. ⌜ r ≡ record { answer = answer number; book = book } ⌝ }
+{
+    Applied {
+        answer: Answer {
+            number,
+            matured: Sheets(0),
+            done: 0,
+            dropped: 0,
+        },
+        book,
+    }
+}
