@@ -55,12 +55,7 @@ impl Answer {
     pub const UNPAID: Answer = Answer::of(99);
 
     const fn of(number: u32) -> Answer {
-        Answer {
-            number,
-            matured: 0,
-            done: 0,
-            dropped: 0,
-        }
+        Answer { number, matured: 0, done: 0, dropped: 0 }
     }
 
     pub fn refused(cause: Refusal) -> Answer {
@@ -68,6 +63,6 @@ impl Answer {
     }
 
     pub fn is_accepted(self) -> bool {
-        self == Answer::UNPAID || self.number == 0
+        matches!(self.number, 0 | 99)
     }
 }

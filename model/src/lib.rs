@@ -1,7 +1,19 @@
 //! A reference model of one firm's pledged quoted repo book: plain Rust,
-//! written from document 01 alone, and the proved calls to hold it against.
+//! written from document 01 alone, for other programs to be run against.
+//!
+//! Bytes are parsed by `journal`, decoded by `event`, answered by `step`, and
+//! the book's own rules stand in `book` and `money`. `tally` is the second,
+//! coarser account of the same history; `generator` and `coverage` make
+//! journals and show which answers they met.
 
 pub mod answer;
+pub mod book;
+pub mod coverage;
+pub mod event;
+pub mod generator;
+pub mod journal;
 pub mod limits;
 pub mod money;
 pub mod proved;
+pub mod step;
+pub mod tally;

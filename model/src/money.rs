@@ -22,9 +22,7 @@ const TICK_DAYS_PER_FEN: u64 = 3_650;
 
 /// Whether `day` trades: bit b of word w is day 32w + b.
 pub fn trades(calendar: &[u32], day: u32) -> bool {
-    calendar
-        .get((day / 32) as usize)
-        .is_some_and(|word| word >> (day % 32) & 1 == 1)
+    calendar.get((day / 32) as usize).is_some_and(|word| word >> (day % 32) & 1 == 1)
 }
 
 /// The first trading day after `day`: the payment day of a trading day (art. 61).

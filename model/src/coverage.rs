@@ -1,0 +1,133 @@
+//! Which (event, answer) pairs were met, and which document 01 allows.
+//!
+//! An event that cannot be decoded counts under its code byte where that is 1
+//! to 12, and else under "other code".
+
+use std::fmt;
+
+use crate::event::EVENT_BYTES;
+
+/// Row of codes that are not 1 to 12.
+pub const OTHER_CODE: u8 = 0;
+const CODES: usize = 13;
+/// Answers 0 to 17, then 99. A malformed journal (18) answers no event.
+const ANSWERS: [u32; 19] = [0, 1, 2, 3, 4, 5, 6, 7, 8, 9, 10, 11, 12, 13, 14, 15, 16, 17, 99];
+
+const NAMES: [&str; CODES] = [
+    "other code",
+    "Open",
+    "Fund in",
+    "Fund out",
+    "Size",
+    "Rate",
+    "Pledge",
+    "Freeze",
+    "Withdraw",
+    "Initial",
+    "Early",
+    "Pay",
+    "Close",
+];
+
+/// The answers that a journal on a fresh book can meet, row by row.
+const ALLOWED: [&[u32]; CODES] = [
+    &[2],
+    &[0, 2, 4, 16],
+    &[0, 2, 7, 14],
+    &[0, 2, 7, 13],
+    &[0, 2, 14, 15],
+    &[0, 2, 3, 14],
+    &[0, 2, 3, 4, 7, 13, 14],
+    &[0, 2, 3, 13],
+    &[0, 2, 3, 4, 5, 7, 13, 17],
+    &[0, 2, 4, 5, 6, 7, 8, 9, 10, 11, 12],
+    &[0, 2, 4, 5, 7, 8, 9, 10, 13],
+    &[0, 2, 4, 5, 99],
+    &[0, 2, 4],
+];
+
+/// The rows of the table of causes that no journal can meet, with the reason.
+pub const OUT_OF_REACH: [(&[u8], u32, &str); 3] = [
+    (
+        &[0, 1, 2, 3, 4, 5, 6, 7, 8, 9, 10, 11, 12],
+        1,
+        "a fresh book is fit and every event keeps it fit; a calendar above 1,200 words is a malformed journal",
+    ),
+    (
+        &[1, 10, 12],
+        14,
+        "at most 1,500 trades of 10^8 sheets are begun, each sheet brings less than 1,070,000 fen once \
+         (10,000 and 100,000 ticks over 38,399 days), so no net passes 1.61×10^17, far from 4×10^18",
+    ),
+    (
+        &[9],
+        14,
+        "1,500 trades of 10^8 sheets take at most 1.5×10^15 fen from a net, far from 4×10^18 down",
+    ),
+];
+
+#[derive(Clone, Debug, Default, PartialEq, Eq)]
+pub struct Coverage {
+    counts: [[u64; ANSWERS.len()]; CODES],
+    /// Answers that are none of the paper's.
+    strangers: Vec<(u8, u32)>,
+}
+
+impl Coverage {
+    pub fn record(&mut self, event: &[u8; EVENT_BYTES], number: u32) {
+        let code = if (1..=12).contains(&event[0]) { event[0] } else { OTHER_CODE };
+        match column(number) {
+            Some(column) => self.counts[usize::from(code)][column] += 1,
+            None => self.strangers.push((code, number)),
+        }
+    }
+
+    pub fn count(&self, code: u8, number: u32) -> u64 {
+        column(number).map_or(0, |column| self.counts[usize::from(code)][column])
+    }
+
+    /// Allowed pairs that were never met.
+    pub fn missing(&self) -> Vec<(u8, u32)> {
+        allowed().filter(|&(code, number)| self.count(code, number) == 0).collect()
+    }
+
+    /// Pairs that were met although the paper does not allow them.
+    pub fn unexpected(&self) -> Vec<(u8, u32)> {
+        let pairs = (0..CODES as u8).flat_map(|code| ANSWERS.map(|number| (code, number)));
+        pairs
+            .filter(|&(code, number)| self.count(code, number) > 0 && !is_allowed(code, number))
+            .chain(self.strangers.iter().copied())
+            .collect()
+    }
+}
+
+fn column(number: u32) -> Option<usize> {
+    ANSWERS.iter().position(|&answer| answer == number)
+}
+
+/// Every pair that a journal on a fresh book can meet.
+pub fn allowed() -> impl Iterator<Item = (u8, u32)> {
+    (0..).zip(ALLOWED).flat_map(|(code, answers)| answers.iter().map(move |&number| (code, number)))
+}
+
+pub fn is_allowed(code: u8, number: u32) -> bool {
+    ALLOWED[usize::from(code)].contains(&number)
+}
+
+/// One line an event, one column an answer; "-" marks a pair that is not allowed.
+impl fmt::Display for Coverage {
+    fn fmt(&self, f: &mut fmt::Formatter) -> fmt::Result {
+        write!(f, "{:<10}", "")?;
+        ANSWERS.iter().try_for_each(|number| write!(f, "{number:>8}"))?;
+        for (code, name) in (0..).zip(NAMES) {
+            write!(f, "\n{name:<10}")?;
+            for number in ANSWERS {
+                match (self.count(code, number), is_allowed(code, number)) {
+                    (0, false) => write!(f, "{:>8}", "-")?,
+                    (count, _) => write!(f, "{count:>8}")?,
+                }
+            }
+        }
+        writeln!(f)
+    }
+}

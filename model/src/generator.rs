@@ -1,0 +1,160 @@
+//! Journals that lead the book into deep states, one for each seed.
+//!
+//! A model book goes along while a journal is written, so that most events are
+//! plausible. What a journal can reach: cash at its 10^16, each security at its
+//! 10^12, size, rates, trades and prices at theirs, a table of 1,024 trades,
+//! 128 applications. The nets cannot come near 4×10^18: O is at most 10^10
+//! sheets, and even these, at 100,000 ticks over all 38,399 days, bring some
+//! 1.06×10^16 fen. That is more than all the cash a book may hold, so a payment
+//! that nobody can make is within reach.
+
+pub mod calendars;
+mod draft;
+mod life;
+mod noise;
+pub mod random;
+
+use calendars::{calendar, Sort};
+use draft::Draft;
+use life::Habits;
+use random::Random;
+
+use crate::journal;
+
+#[derive(Clone, Copy, Debug, PartialEq, Eq)]
+pub enum Profile {
+    /// A firm that pays and keeps its pledges, for up to 1,500 events.
+    Healthy,
+    /// Failed payments and short closes, often mended the day after.
+    Troubled,
+    /// Trouble that is not mended: the firm is soon terminated.
+    Doomed,
+    /// 1,024 trades on the table.
+    FullTable,
+    /// 128 applications in one day.
+    ManyApplications,
+    /// Cash, units, size, trades and prices at their limits, over decades.
+    Limits,
+    /// Few trading days, or a calendar that ends.
+    ThinCalendar,
+    /// No day to open, or only one.
+    EmptyCalendar,
+    /// Fields and phases drawn with little regard to the book.
+    Careless,
+    /// Cut short, too long, or with a count past its limit.
+    Damaged,
+}
+
+impl Profile {
+    pub const ALL: [Profile; 10] = [
+        Profile::Healthy,
+        Profile::Troubled,
+        Profile::Doomed,
+        Profile::FullTable,
+        Profile::ManyApplications,
+        Profile::Limits,
+        Profile::ThinCalendar,
+        Profile::EmptyCalendar,
+        Profile::Careless,
+        Profile::Damaged,
+    ];
+
+    /// The profile of a seed: the cheap and telling ones more often.
+    pub fn of(seed: u64) -> Profile {
+        const CYCLE: [Profile; 20] = [
+            Profile::Healthy,
+            Profile::Troubled,
+            Profile::Careless,
+            Profile::ThinCalendar,
+            Profile::Doomed,
+            Profile::Damaged,
+            Profile::Limits,
+            Profile::Troubled,
+            Profile::ManyApplications,
+            Profile::Healthy,
+            Profile::Troubled,
+            Profile::Careless,
+            Profile::ThinCalendar,
+            Profile::Doomed,
+            Profile::Damaged,
+            Profile::Limits,
+            Profile::Troubled,
+            Profile::EmptyCalendar,
+            Profile::FullTable,
+            Profile::Doomed,
+        ];
+        CYCLE[(seed % CYCLE.len() as u64) as usize]
+    }
+
+    fn calendar_sort(self, random: &mut Random) -> Sort {
+        match self {
+            Profile::FullTable | Profile::ManyApplications => {
+                random.pick(&[Sort::Weekdays, Sort::Everyday])
+            }
+            Profile::Limits => {
+                random.pick(&[Sort::Scattered, Sort::Scattered, Sort::Sparse, Sort::Weekdays])
+            }
+            Profile::ThinCalendar => random.pick(&[Sort::Sparse, Sort::Scattered, Sort::Short]),
+            Profile::EmptyCalendar => Sort::Empty,
+            _ => random.pick(&[Sort::Weekdays, Sort::Weekdays, Sort::Everyday, Sort::Sparse]),
+        }
+    }
+
+    fn habits(self, random: &mut Random) -> Habits {
+        let usual = Habits { events: random.between(60, 400) as usize, ..Habits::USUAL };
+        match self {
+            Profile::Healthy => Habits {
+                events: random.pick(&[300, 700, 1_500]),
+                drained: 2,
+                shrunk: 2,
+                mending: 95,
+                ..usual
+            },
+            Profile::Troubled => Habits { drained: 35, shrunk: 35, mending: 75, ..usual },
+            Profile::Doomed => {
+                let (drained, shrunk, mending) = random.pick(&[(70, 5, 15), (0, 90, 5)]);
+                Habits { events: random.between(60, 200) as usize, drained, shrunk, mending, ..usual }
+            }
+            Profile::Limits => Habits {
+                events: random.between(150, 500) as usize,
+                largest_trade: u64::MAX,
+                rich: true,
+                bold: 15,
+                ..usual
+            },
+            Profile::Careless => Habits { slips: 40, noise: 15, bold: 35, ..usual },
+            Profile::EmptyCalendar => Habits { events: random.below(40) as usize, slips: 60, ..usual },
+            Profile::Damaged => Habits { events: random.below(20) as usize, ..usual },
+            Profile::FullTable | Profile::ManyApplications | Profile::ThinCalendar => usual,
+        }
+    }
+}
+
+/// The journal of a seed, as bytes.
+pub fn generate(seed: u64) -> Vec<u8> {
+    generate_as(Profile::of(seed), seed)
+}
+
+pub fn generate_as(profile: Profile, seed: u64) -> Vec<u8> {
+    let mut random = Random::new(seed);
+    let sort = profile.calendar_sort(&mut random);
+    let calendar = calendar(&mut random, sort);
+    let habits = profile.habits(&mut random);
+    let mut draft = Draft::new(random, calendar);
+    life::set_up(&mut draft, &habits);
+    match profile {
+        Profile::FullTable => life::fill_table(&mut draft),
+        Profile::Limits if draft.random.percent(50) => life::fill_size(&mut draft),
+        Profile::ManyApplications => life::fill_applications(&mut draft),
+        _ => {}
+    }
+    life::live(&mut draft, &habits);
+    if matches!(profile, Profile::EmptyCalendar | Profile::Damaged) {
+        // Down to journals without any event.
+        draft.events.truncate(habits.events);
+    }
+    match profile {
+        Profile::Damaged => noise::damaged(&mut draft.random, &draft.calendar, &draft.events),
+        _ => journal::write(&draft.calendar, &draft.events),
+    }
+}

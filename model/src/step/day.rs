@@ -1,0 +1,163 @@
+//! The day's course: Open, Pay and Close, events 1, 11 and 12.
+
+use super::net_within_limit;
+use crate::answer::{Answer, Refusal};
+use crate::book::{Book, Phase, Status, Trade};
+use crate::limits::{APPLICATIONS, FAILED_PAYMENTS, SHORT_CLOSES};
+use crate::money::{first_from, next_after, CASH_KIND};
+
+/// "goes to the next trading day, at first the earliest", which needs another
+/// after it: "for Open, 14 doesn't apply where 16 does", so 16 is tested first.
+pub fn open(calendar: &[u32], book: &mut Book, table: &mut [Trade]) -> Result<Answer, Refusal> {
+    Refusal::WrongPhase.when(book.phase != Phase::Closed)?;
+    let day = match book.day {
+        Some(today) => next_after(calendar, today),
+        None => first_from(calendar, 0),
+    };
+    let day = day.ok_or(Refusal::NoTradingDay)?;
+    let payment_day = next_after(calendar, day).ok_or(Refusal::NoTradingDay)?;
+    let status = status_at_open(book);
+    if status == Status::Terminated && book.status != Status::Terminated {
+        redeem_at_fallback(book, table, payment_day)?;
+    }
+    book.day = Some(day);
+    book.status = status;
+    book.phase = Phase::Trading;
+    Ok(Answer::DONE)
+}
+
+/// The status of the day that opens (arts. 69, 70).
+pub fn status_at_open(book: &Book) -> Status {
+    let failed_out = book.failed_run >= FAILED_PAYMENTS || book.short_run >= SHORT_CLOSES;
+    if book.status == Status::Terminated || failed_out {
+        Status::Terminated
+    } else if book.failed_run > 0 || book.short_run > 0 {
+        Status::Suspended
+    } else {
+        Status::Normal
+    }
+}
+
+/// "On turning terminated, every trade is redeemed whole at its fallback
+/// price, the one due that day included, into the cleared net (art. 72)."
+fn redeem_at_fallback(book: &mut Book, table: &mut [Trade], payment_day: u32) -> Result<(), Refusal> {
+    let trades = &mut table[..book.trades];
+    let amounts = trades.iter().map(|trade| trade.redeem(trade.sheets, trade.fallback, payment_day));
+    book.cleared_net = net_within_limit(book.cleared_net + amounts.sum::<i64>())?;
+    trades.iter_mut().for_each(|trade| trade.sheets = 0);
+    Ok(())
+}
+
+/// "the whole cleared net N moves, own to client if above 0, the other way if
+/// below." A net of 0 is paid by a payer that holds at least 0.
+pub fn pay(book: &mut Book) -> Result<Answer, Refusal> {
+    Refusal::WrongPhase.when(book.phase != Phase::Trading)?;
+    Refusal::Terminated.when(book.status == Status::Terminated)?;
+    book.phase = Phase::Paid;
+    let fen = book.cleared_net.unsigned_abs();
+    let (payer, payee) = if book.cleared_net >= 0 {
+        (&mut book.own, &mut book.client)
+    } else {
+        (&mut book.client, &mut book.own)
+    };
+    if *payer < fen {
+        book.failed_run = FAILED_PAYMENTS.min(book.failed_run + 1);
+        return Ok(Answer::UNPAID);
+    }
+    *payer -= fen;
+    *payee += fen;
+    book.cleared_net = 0;
+    book.failed_run = 0;
+    Ok(Answer::DONE)
+}
+
+pub fn close(calendar: &[u32], book: &mut Book, table: &mut [Trade]) -> Result<Answer, Refusal> {
+    let today = closing_day(book)?;
+    let payment_day = next_after(calendar, today).expect("a fit book's day has a payment day");
+    // 14 looks at today's net as (b) begins and at the cleared net after it.
+    let due = || table[..book.trades].iter().filter(|trade| trade.due <= today);
+    let amount: i64 = due().map(|trade| trade.redeem(trade.sheets, trade.price, payment_day)).sum();
+    let matured = due().map(|trade| trade.sheets).sum();
+    let todays_net = net_within_limit(book.todays_net + amount)?;
+    let cleared_net = net_within_limit(book.cleared_net + todays_net)?;
+
+    // (a), (b)
+    let trades = &mut table[..book.trades];
+    trades.iter_mut().filter(|trade| trade.due <= today).for_each(|trade| trade.sheets = 0);
+    book.todays_net = 0;
+    book.cleared_net = cleared_net;
+    settle_arrivals(book);
+    let outstanding = book.outstanding(table);
+    let (done, dropped) = settle_applications(book, outstanding);
+    remove_redeemed(book, table);
+    let short = book.headroom_over(outstanding) < 0;
+    book.short_run = if short { SHORT_CLOSES.min(book.short_run + 1) } else { 0 };
+    book.phase = Phase::Closed;
+    Ok(Answer { number: 0, matured, done, dropped })
+}
+
+/// "12 Close, in Paid, or in Trading if terminated".
+fn closing_day(book: &Book) -> Result<u32, Refusal> {
+    let may_close = match book.phase {
+        Phase::Paid => true,
+        Phase::Trading => book.status == Status::Terminated,
+        Phase::Closed => false,
+    };
+    book.day.filter(|_| may_close).ok_or(Refusal::WrongPhase)
+}
+
+/// (c) "arriving becomes effective"
+fn settle_arrivals(book: &mut Book) {
+    for held in &mut book.holdings {
+        held.effective += held.arriving;
+        held.arriving = 0;
+    }
+}
+
+/// (d) "applications in order: done if the phase was Paid with no failed run,
+/// unfrozen units suffice, and V afterwards is at least O, else dropped (arts.
+/// 52, 53); cash goes to own; the list empties to zeros". Gives the numbers
+/// done and dropped.
+fn settle_applications(book: &mut Book, outstanding: u64) -> (u32, u32) {
+    let day_was_paid = book.phase == Phase::Paid && book.failed_run == 0;
+    let mut value = book.value();
+    let mut done = 0;
+    for place in 0..book.applications {
+        let kind = usize::from(book.application_kinds[place]);
+        let units = book.application_units[place];
+        if !day_was_paid || units > book.unfrozen(kind) {
+            continue;
+        }
+        let others = value - book.value_of(kind);
+        book.holdings[kind].effective -= units;
+        let value_afterwards = others + book.value_of(kind);
+        if value_afterwards < outstanding {
+            book.holdings[kind].effective += units;
+            continue;
+        }
+        if kind == CASH_KIND {
+            book.own += units;
+        }
+        value = value_afterwards;
+        done += 1;
+    }
+    let dropped = book.applications as u32 - done;
+    book.applications = 0;
+    book.application_kinds = [0; APPLICATIONS];
+    book.application_units = [0; APPLICATIONS];
+    (done, dropped)
+}
+
+/// (e) "trades with nothing left leave the table, order kept"; the slots that
+/// this frees are filled with zeros, other spare slots keep their content.
+fn remove_redeemed(book: &mut Book, table: &mut [Trade]) {
+    let mut kept = 0;
+    for place in 0..book.trades {
+        if table[place].sheets > 0 {
+            table[kept] = table[place];
+            kept += 1;
+        }
+    }
+    table[kept..book.trades].fill(Trade::default());
+    book.trades = kept;
+}

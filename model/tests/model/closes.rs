@@ -1,0 +1,129 @@
+//! The evening: why applications are done or dropped, and what a Close may do.
+
+use crate::ledger::{trade, Ledger};
+use model::book::{Phase, Status};
+use model::event::{Account, Event};
+
+/// The third day, with 30,000 fen of guarantee cash; V is 183, O 100.
+fn with_cash_pledged() -> Ledger {
+    let mut ledger = Ledger::second_day(&[u32::MAX]);
+    ledger.does(Event::Pledge { kind: 32, units: 30_000 });
+    ledger.does(trade(7, 100, 20));
+    ledger.next_day();
+    assert_eq!((ledger.book.value(), ledger.headroom()), (183, 83));
+    assert_eq!(ledger.does(Event::Withdraw { kind: 32, units: 20_000 }).number, 0);
+    assert_eq!(ledger.does(Event::Withdraw { kind: 0, units: 50 }).number, 0);
+    ledger
+}
+
+fn done_and_dropped(ledger: &mut Ledger) -> (u32, u32) {
+    let answer = ledger.does(Event::Close);
+    assert_eq!((answer.number, ledger.book.phase, ledger.book.applications), (0, Phase::Closed, 0));
+    (answer.done, answer.dropped)
+}
+
+#[test]
+fn done_after_a_payment() {
+    let mut ledger = with_cash_pledged();
+    assert_eq!(ledger.does(Event::Pay).number, 0);
+    let own = ledger.book.own;
+    assert_eq!(done_and_dropped(&mut ledger), (2, 0));
+    assert_eq!((ledger.book.own, ledger.book.guarantee()), (own + 20_000, 10_000));
+    assert_eq!(ledger.book.holdings[0].effective, 150);
+}
+
+#[test]
+fn dropped_after_a_failed_payment() {
+    let mut ledger = with_cash_pledged();
+    ledger.does(Event::FundOut { account: Account::Client, fen: 3_000_000 });
+    assert_eq!(ledger.does(Event::Pay).number, 99);
+    let before = ledger.book.clone();
+    assert_eq!(done_and_dropped(&mut ledger), (0, 2));
+    assert_eq!((ledger.book.own, ledger.book.holdings), (before.own, before.holdings));
+}
+
+/// The second application asks for 50 of 200 units, of which 151 are frozen.
+#[test]
+fn dropped_where_too_much_is_frozen() {
+    let mut ledger = with_cash_pledged();
+    ledger.does(Event::Pay);
+    assert_eq!(ledger.does(Event::Rate { kind: 0, rate: 20_000 }).number, 0);
+    assert_eq!(ledger.does(Event::Freeze { kind: 0, units: 151 }).number, 0);
+    // With a single sheet left, value cannot be the reason.
+    ledger.table[0].sheets = 1;
+    let mut just_enough = ledger.clone();
+    assert_eq!(just_enough.does(Event::Freeze { kind: 0, units: 150 }).number, 0);
+    assert_eq!(done_and_dropped(&mut ledger), (1, 1));
+    assert_eq!(done_and_dropped(&mut just_enough), (2, 0));
+}
+
+/// Applications are weighed in order, each after those done before it.
+#[test]
+fn dropped_where_value_would_fall_below_outstanding() {
+    let mut ledger = with_cash_pledged();
+    ledger.does(Event::Pay);
+    // V is 108 and 3: the cash may go down to 1, then 50 units at 5,400 may not.
+    ledger.does(Event::Rate { kind: 0, rate: 5_400 });
+    assert_eq!(done_and_dropped(&mut ledger), (1, 1));
+    assert_eq!((ledger.book.value(), ledger.book.holdings[0].effective), (109, 200));
+}
+
+/// S plays no part in an application: V does, whatever the declared size.
+#[test]
+fn the_declared_size_is_not_looked_at() {
+    let mut ledger = with_cash_pledged();
+    ledger.does(Event::Size { sheets: 100 });
+    ledger.does(Event::Pay);
+    assert_eq!(done_and_dropped(&mut ledger), (2, 0));
+    assert_eq!(ledger.book.short_run, 0);
+}
+
+/// Out of a journal's reach: a terminated book with applications standing.
+#[test]
+fn a_terminated_book_closes_from_trading_and_from_paid() {
+    let mut ledger = with_cash_pledged();
+    assert_eq!(ledger.does(Event::Close).number, 4);
+    ledger.book.status = Status::Terminated;
+    assert_eq!(done_and_dropped(&mut ledger.clone()), (0, 2));
+    ledger.book.phase = Phase::Paid;
+    assert_eq!(done_and_dropped(&mut ledger), (2, 0));
+    assert_eq!(ledger.does(Event::Close).number, 4);
+}
+
+/// "These five fit any phase and act immediately."
+#[test]
+fn funds_size_rate_and_freeze_act_in_any_phase() {
+    for phase in [Phase::Closed, Phase::Trading, Phase::Paid] {
+        for status in [Status::Normal, Status::Suspended, Status::Terminated] {
+            let mut ledger = with_cash_pledged();
+            (ledger.book.phase, ledger.book.status) = (phase, status);
+            let mut expected = ledger.book.clone();
+            expected.own += 5;
+            expected.client -= 7;
+            expected.size = 100;
+            expected.rates[31] = 20_000;
+            expected.holdings[0].frozen = 200;
+            for event in [
+                Event::FundIn { account: Account::Own, fen: 5 },
+                Event::FundOut { account: Account::Client, fen: 7 },
+                Event::Size { sheets: 100 },
+                Event::Rate { kind: 31, rate: 20_000 },
+                Event::Freeze { kind: 0, units: 200 },
+            ] {
+                assert_eq!(ledger.does(event).number, 0);
+            }
+            assert_eq!(ledger.book, expected);
+        }
+    }
+}
+
+/// "a net of 0 is made": the failed run ends with it.
+#[test]
+fn a_net_of_nothing_is_paid() {
+    let mut ledger = Ledger::second_day(&[u32::MAX]);
+    ledger.book.failed_run = 2;
+    (ledger.book.own, ledger.book.client) = (0, 0);
+    assert_eq!(ledger.does(Event::Pay).number, 0);
+    assert_eq!((ledger.book.failed_run, ledger.book.phase), (0, Phase::Paid));
+    assert_eq!(ledger.does(Event::Pay).number, 4);
+}
