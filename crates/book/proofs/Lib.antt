@@ -45,6 +45,8 @@ pub mod FitFacts
 pub mod Fitting
 pub mod ContractLaws
 pub mod EarlyLaws
+pub mod OpenLaws
+pub mod CloseLaws
 pub mod InitialLaws
-pub mod Dispatch
+pub mod StepLaws
 pub mod Column

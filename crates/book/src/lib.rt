@@ -31,6 +31,7 @@ mod vault;
 mod close;
 
 // The events, a file each.
+mod dispatch;
 mod early;
 mod freeze;
 mod funds;

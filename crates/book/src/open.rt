@@ -1,10 +1,10 @@
 // 1 Open: goes to the next trading day; on turning terminated every trade is redeemed at its fallback price.
 ghost use mathlib.Core.Path.{_≡_};
-ghost use mathlib.Core.Bool.{true, cond};
+ghost use mathlib.Core.Bool.{true};
 ghost use Prim.Native.Nat.{_≤_};
 ghost use lib.ListN.{length};
 ghost use Rattle.money.specs.Causes.{firstOf};
-ghost use Rattle.book.specs.Book.{Normal, NotFailed, FailedOnce};
+ghost use Rattle.book.specs.Book.{Normal, NotFailed, FailedOnce, isClosed};
 ghost use Rattle.book.specs.Days.{following, followed};
 ghost use Rattle.book.specs.Fit.{fit};
 ghost use Rattle.book.specs.Open.{statusAtOpen, turnsTerminated, openedStanding, netWithFallbacks, openCauses, openedBook, openedTable};
@@ -18,6 +18,7 @@ use crate::book::Standing;
 use crate::book::Status;
 use crate::days;
 use crate::nets;
+use crate::redemption;
 use crate::standing;
 use crate::step;
 use crate::step::Applied;
@@ -95,4 +96,58 @@ fn turns_terminated(before: Standing, after: Standing) -> bool
         return false;
     }
     standing::is_terminated(after)
+}
+
+// Art. 72: every trade is redeemed whole at its fallback price on the day opened, into the cleared net.
+fn with_fallbacks(calendar: &[u32], book: Book, table: &[u64], after: Standing) -> Nets
+    requires { ⌜ (fit (now calendar) book (tradesOf (now table)) ≡ true) × (length (now calendar) ≤ 1200) ⌝ }
+    requires { ⌜ (followed (now calendar) (following (now calendar) (book .standing .day)) ≡ true) × (after ≡ openedStanding (now calendar) (book .standing)) ⌝ }
+    ensures { λ r. ⌜ r ≡ record { today = book .nets .today; cleared = netWithFallbacks (now (calendar .entry)) book (tradesOf (now (table .entry))) } ⌝ }
+{
+    let nets = book.nets;
+    let day = after.day;
+    let payment = days::payment_day(calendar, day);
+    let amount = redemption::fallback_total(table, book.trades, payment);
+    nets::cleared_plus(nets, amount)
+}
+
+// On turning terminated the table is emptied, unless the net would leave its limit.
+fn terminated(calendar: &[u32], book: Book, table: &mut [u64], after: Standing) -> Applied
+    requires { ⌜ (fit (now calendar) book (tradesOf (now table)) ≡ true) × (length (now calendar) ≤ 1200) ⌝ }
+    requires { ⌜ (followed (now calendar) (following (now calendar) (book .standing .day)) ≡ true) × (after ≡ openedStanding (now calendar) (book .standing)) ⌝ }
+    requires { ⌜ (isClosed (book .standing .phase) ≡ true) × (turnsTerminated (book .standing) ≡ true) ⌝ }
+    ensures { λ r. ⌜ (r ≡ appliedBy (firstOf (openCauses (now (calendar .entry)) book (tradesOf (now (table .entry))))) book (openedBook (now (calendar .entry)) book (tradesOf (now (table .entry))))) × (tradesOf (now (table .exit)) ≡ tableBy (firstOf (openCauses (now (calendar .entry)) book (tradesOf (now (table .entry))))) (tradesOf (now (table .entry))) (openedTable book (tradesOf (now (table .entry))))) ⌝ }
+{
+    let nets = with_fallbacks(calendar, book, &*table, after);
+    if !nets::cleared_fit(nets) {
+        return step::answered(14, book);
+    }
+    // every due day has 32 bits, so every trade is due by the last of them
+    redemption::redeem_due(table, book.trades, 4_294_967_295);
+    let mut next = book;
+    next.nets = nets;
+    next.standing = after;
+    step::answered(0, next)
+}
+
+pub fn open(calendar: &[u32], book: Book, table: &mut [u64]) -> Applied
+    requires { ⌜ (fit (now calendar) book (tradesOf (now table)) ≡ true) × (length (now calendar) ≤ 1200) ⌝ }
+    ensures { λ r. ⌜ (r ≡ appliedBy (firstOf (openCauses (now (calendar .entry)) book (tradesOf (now (table .entry))))) book (openedBook (now (calendar .entry)) book (tradesOf (now (table .entry))))) × (tradesOf (now (table .exit)) ≡ tableBy (firstOf (openCauses (now (calendar .entry)) book (tradesOf (now (table .entry))))) (tradesOf (now (table .entry))) (openedTable book (tradesOf (now (table .entry))))) ⌝ }
+{
+    let standing = book.standing;
+    if !standing::is_closed(standing) {
+        return step::answered(4, book);
+    }
+    let day = standing.day;
+    // before 14: that one does not apply where this one does
+    if !days::opens(calendar, day) {
+        return step::answered(16, book);
+    }
+    let after = opened_standing(calendar, standing);
+    if turns_terminated(standing, after) {
+        return terminated(calendar, book, table, after);
+    }
+    let mut next = book;
+    next.standing = after;
+    step::answered(0, next)
 }

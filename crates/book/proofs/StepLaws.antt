@@ -1,0 +1,79 @@
+-- An event's contract against the step: on a fit book cause 1 falls away, and what the event gives back is what the step says.
+-- Assumes nothing.
+use mathlib.Core.Path.{_≡_, refl, sym, ap, _∙_}
+use mathlib.Core.Bool.{Bool, true, false, not, _||_}
+use mathlib.Core.List.{List, [], _∷_}
+use mathlib.Core.Option.{Option, none, some}
+use Prim.Native.Nat.{ℕ, _≤_, _<_}
+use borrow.Author.Tests.{le-ltb, lt-ltb}
+use lib.Dec.{ltb}
+use lib.ListN.{length}
+use Rattle.money.specs.Causes.{firstOf}
+use Rattle.money.specs.Days.{Calendar}
+use Rattle.money.proofs.Refusals.{hit, skip}
+use Rattle.book.specs.Book.{Book, answer}
+use Rattle.book.specs.Trades.{Trade}
+use Rattle.book.specs.Fit.{fit}
+use Rattle.book.specs.Pay.{fails, paidBook, payNumber}
+use Rattle.book.specs.Close.{closeAnswer, closedBook}
+use Rattle.book.specs.Entry.{Event, Entry, Known, Undecodable}
+use Rattle.book.specs.declared.step.Applied.{Applied}
+use Rattle.book.specs.Step.{Outcome, outcome, unfit, eventCauses, entryCauses, causes, act, actOn, refuseOr, step}
+use Rattle.book.specs.Flat.{appliedBy, paidBy, closedBy, tableBy, appliedOf}
+
+module _ (calendar : Calendar) (book : Book) (table : List Trade) where
+  -- where the book is fit and the calendar is not too long, the entry's own causes decide
+  pub fit-step : fit calendar book table ≡ true → length calendar ≤ 1200 → (entry : Entry) → step calendar book table entry ≡ refuseOr (firstOf (entryCauses calendar book table entry)) book table (actOn calendar book table entry)
+  unfolding step causes
+  fit-step fits few entry = ap (λ (o : Option ℕ). refuseOr o book table (actOn calendar book table entry)) (skip 1 _ fine refl)
+    where
+      fine : unfit calendar book table ≡ false
+      fine = rw (fits, le-ltb 1200 (length calendar) few) refl
+
+  -- else the number is 1
+  pub unfit-step : unfit calendar book table ≡ true → (entry : Entry) → step calendar book table entry ≡ outcome (answer 1) book table
+  unfolding step causes
+  unfit-step bad entry = ap (λ (o : Option ℕ). refuseOr o book table (actOn calendar book table entry)) (hit 1 _ bad)
+
+-- ---- what an event's function gives back by its own causes is what the step gives on a fit book
+
+-- what is given back and the table afterwards
+abbrev Gives : Outcome → Applied → List Trade → Type 0
+Gives left r after = (r ≡ appliedOf left) × (after ≡ left .table)
+
+module _ (calendar : Calendar) (book : Book) (table : List Trade) (fits : fit calendar book table ≡ true) (few : length calendar ≤ 1200) (event : Event) where
+  abbrev refusal : Option ℕ
+  refusal = firstOf (eventCauses calendar book table event)
+
+  by-step : (left : Outcome) → act calendar book table event ≡ left → (r : Applied) (after : List Trade) → Gives (refuseOr refusal book table left) r after → Gives (step calendar book table (Known event)) r after
+  by-step left acts r after given = rw (fit-step calendar book table fits few (Known event), acts) given
+
+  -- an event that leaves the table
+  pub leaves-table : (next : Book) → act calendar book table event ≡ outcome (answer 0) next table → (r : Applied) → r ≡ appliedBy refusal book next → Gives (step calendar book table (Known event)) r table
+  leaves-table next acts r e = by-step _ acts r table (by-refusal refusal e)
+    where
+      by-refusal : (o : Option ℕ) → r ≡ appliedBy o book next → Gives (refuseOr o book table (outcome (answer 0) next table)) r table
+      by-refusal none e = (e, refl)
+      by-refusal (some n) e = (e, refl)
+
+  -- one that may change it
+  pub changes-table : (next : Book) (changed : List Trade) → act calendar book table event ≡ outcome (answer 0) next changed → (r : Applied) (after : List Trade) → (r ≡ appliedBy refusal book next) × (after ≡ tableBy refusal table changed) → Gives (step calendar book table (Known event)) r after
+  changes-table next changed acts r after e = by-step _ acts r after (by-refusal refusal e)
+    where
+      by-refusal : (o : Option ℕ) → (r ≡ appliedBy o book next) × (after ≡ tableBy o table changed) → Gives (refuseOr o book table (outcome (answer 0) next changed)) r after
+      by-refusal none e = e
+      by-refusal (some n) e = e
+
+  pub pays : act calendar book table event ≡ outcome (answer (payNumber (fails book))) (paidBook (fails book) book) table → (r : Applied) → r ≡ paidBy refusal book → Gives (step calendar book table (Known event)) r table
+  pays acts r e = by-step _ acts r table (by-refusal refusal e)
+    where
+      by-refusal : (o : Option ℕ) → r ≡ paidBy o book → Gives (refuseOr o book table (outcome (answer (payNumber (fails book))) (paidBook (fails book) book) table)) r table
+      by-refusal none e = (e, refl)
+      by-refusal (some n) e = (e, refl)
+
+  pub closes : (changed : List Trade) → act calendar book table event ≡ outcome (closeAnswer book table) (closedBook calendar book table) changed → (r : Applied) (after : List Trade) → (r ≡ closedBy refusal calendar book table) × (after ≡ tableBy refusal table changed) → Gives (step calendar book table (Known event)) r after
+  closes changed acts r after e = by-step _ acts r after (by-refusal refusal e)
+    where
+      by-refusal : (o : Option ℕ) → (r ≡ closedBy o calendar book table) × (after ≡ tableBy o table changed) → Gives (refuseOr o book table (outcome (closeAnswer book table) (closedBook calendar book table) changed)) r after
+      by-refusal none e = e
+      by-refusal (some n) e = e

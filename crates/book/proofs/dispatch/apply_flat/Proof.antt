@@ -1,0 +1,63 @@
+use mathlib.Core.Path.{_≡_, refl, sym, ap, _∙_}
+use mathlib.Core.Bool.{Bool, true, false, not, _||_}
+use borrow.Author.Needs.{needs}
+use borrow.Author.Tests.{lt-ltb, not-true, not-false}
+use lib.Dec.{ltb}
+use lib.ListN.{length}
+use Rattle.book.specs.Fit.{fit}
+use Rattle.book.specs.Flat.{tradesOf}
+use Rattle.book.specs.Step.{unfit}
+use Rattle.book.proofs.StepLaws.{unfit-step}
+use Rattle.book.proofs.dispatch.apply_flat.Statement.{statement}
+use Rattle.book.proofs.dispatch.apply_flat.Tie as tie
+
+or-true : (x : Bool) → (x || true) ≡ true
+or-true true = refl
+or-true false = refl
+
+answered-requires : tie.Need-answered-requires
+answered-requires c κs = search needs
+
+returns : tie.Need-returns
+returns c =
+    let s = c .before .before .before .before .args in
+    let bad : unfit (s .calendar .now) (s .book) (tradesOf (s .table .now)) ≡ true = rw (lt-ltb 1200 (length (s .calendar .now)) (c .before .if1 .taken)) (or-true (not (fit (s .calendar .now) (s .book) (tradesOf (s .table .now))))) in
+    rw (unfit-step _ _ _ bad _) (c .answered .ensures, refl)
+
+is-fit-requires : tie.Need-is-fit-requires
+is-fit-requires c κs = search needs
+
+answered-requires-2 : tie.Need-answered-requires-2
+answered-requires-2 c κs = search needs
+
+same-length : tie.Need-same-length
+same-length c = search needs
+
+returns-2 : tie.Need-returns-2
+returns-2 c =
+    let s = c .before .before .before .before .before .before .before .args in
+    let bad : unfit (s .calendar .now) (s .book) (tradesOf (s .table .now)) ≡ true = rw (sym (c .before .before .is-fit .ensures) ∙ not-true _ (c .before .if2 .taken)) refl in
+    rw (unfit-step _ _ _ bad _) (c .answered2 .ensures, refl)
+
+entry-on-requires : tie.Need-entry-on-requires
+entry-on-requires c κs = (sym (c .before .before .is-fit .ensures) ∙ not-false _ (c .before .if2 .left), c .before .before .before .before .if1 .left)
+
+same-length-2 : tie.Need-same-length-2
+same-length-2 c = search needs
+
+returns-3 : tie.Need-returns-3
+returns-3 c = c .before .before .entry-on .ensures
+
+pub apply-flat-spec : {M : Type 1} → statement M
+apply-flat-spec =
+    tie.close
+    (tie.spec
+    answered-requires
+    returns
+    is-fit-requires
+    answered-requires-2
+    same-length
+    returns-2
+    entry-on-requires
+    same-length-2
+    returns-3)

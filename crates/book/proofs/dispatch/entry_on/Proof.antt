@@ -1,0 +1,43 @@
+use mathlib.Core.Path.{_≡_, refl, sym, ap, _∙_}
+use mathlib.Core.Bool.{true}
+use borrow.Author.Needs.{needs}
+use Rattle.book.specs.Step.{step}
+use Rattle.book.proofs.StepLaws.{fit-step}
+use Rattle.money.proofs.Refusals.{hit}
+use Rattle.book.proofs.dispatch.entry_on.Statement.{statement}
+use Rattle.book.proofs.dispatch.entry_on.Tie as tie
+
+enum-known-entry : tie.Need-enum-known-entry
+enum-known-entry c = search needs
+
+event-on-requires : tie.Need-event-on-requires
+event-on-requires c κs = search needs
+
+enum-told : tie.Need-enum-told
+enum-told c = search needs
+
+answered-requires : tie.Need-answered-requires
+answered-requires c κs = search needs
+
+same-length : tie.Need-same-length
+same-length c = search needs
+
+returns : tie.Need-returns
+returns c = rw (c .before .before .before .before .before .entry .given .1) (c .before .before .event-on .ensures)
+
+returns-2 : tie.Need-returns-2
+returns-2 c =
+    let s = c .before .before .before .before .before in
+    rw (fit-step _ _ _ (s .pre .0) (s .pre .1) _, c .before .enum-told .given .1, hit 2 _ refl) (c .answered .ensures, refl)
+
+pub entry-on-spec : {M : Type 1} → statement M
+entry-on-spec =
+    tie.close
+    (tie.spec
+    enum-known-entry
+    event-on-requires
+    enum-told
+    answered-requires
+    same-length
+    returns
+    returns-2)

@@ -1,0 +1,242 @@
+use mathlib.Core.Path.{_≡_, refl, sym, ap, _∙_}
+use mathlib.Core.Bool.{true}
+use mathlib.Core.List.{List}
+use borrow.Author.Needs.{needs}
+use Rattle.money.specs.Days.{Calendar}
+use Rattle.book.specs.Trades.{Trade}
+use Rattle.book.specs.Fit.{cashFit, securitiesFit, withdrawalsFit, netsFit}
+use Rattle.book.specs.Step.{eventCauses, act}
+use Rattle.book.specs.Flat.{tradesOf}
+use Rattle.book.proofs.FitParts.{Fit, fit-parts, fits-cash, fit-securities, fit-withdrawals, fit-nets}
+use Rattle.book.proofs.FitFacts.{fit-keeps}
+use Rattle.book.proofs.StepLaws.{leaves-table, changes-table, pays, closes}
+use Rattle.book.proofs.dispatch.event_on.Statement.{statement}
+use Rattle.book.proofs.dispatch.event_on.Tie as tie
+
+-- what the step is on a fit book, and the groups of its fitness
+module _ (s : tie.Start) where
+  abbrev calendar : Calendar
+  calendar = s .args .calendar .now
+
+  abbrev table : List Trade
+  table = tradesOf (s .args .table .now)
+
+  parts : Fit calendar (s .args .book) table
+  parts = fit-parts _ _ _ (s .pre .0)
+
+  cash : cashFit (s .args .book .cash) (s .args .book .vault .guarantee) ≡ true
+  cash = fits-cash _ _ (parts .cash)
+
+  securities : securitiesFit (s .args .book .vault) ≡ true
+  securities = fit-securities _ (parts .securities)
+
+  withdrawals : withdrawalsFit (s .args .book .withdrawals) ≡ true
+  withdrawals = fit-withdrawals _ (parts .withdrawals)
+
+  nets : netsFit (s .args .book .nets) ≡ true
+  nets = fit-nets _ (parts .nets)
+
+enum-told : tie.Need-enum-told
+enum-told c = search needs
+
+open-requires : tie.Need-open-requires
+open-requires c κs = search needs
+
+enum-known-event : tie.Need-enum-known-event
+enum-known-event c = search needs
+
+fund-in-requires : tie.Need-fund-in-requires
+fund-in-requires c κs = cash (c .before .before .before .before .before)
+
+enum-known-event-2 : tie.Need-enum-known-event-2
+enum-known-event-2 c = search needs
+
+fund-out-requires : tie.Need-fund-out-requires
+fund-out-requires c κs = search needs
+
+enum-known-event-3 : tie.Need-enum-known-event-3
+enum-known-event-3 c = search needs
+
+set-size-requires : tie.Need-set-size-requires
+set-size-requires c κs = fit-keeps _ _ _ (c .before .before .before .before .before .before .pre .0)
+
+enum-known-event-4 : tie.Need-enum-known-event-4
+enum-known-event-4 c = search needs
+
+set-rate-requires : tie.Need-set-rate-requires
+set-rate-requires c κs = search needs
+
+enum-known-event-5 : tie.Need-enum-known-event-5
+enum-known-event-5 c = search needs
+
+pledge-requires : tie.Need-pledge-requires
+pledge-requires c κs = (securities (c .before .before .before .before .before), cash (c .before .before .before .before .before))
+
+enum-known-event-6 : tie.Need-enum-known-event-6
+enum-known-event-6 c = search needs
+
+freeze-requires : tie.Need-freeze-requires
+freeze-requires c κs = search needs
+
+enum-known-event-7 : tie.Need-enum-known-event-7
+enum-known-event-7 c = search needs
+
+withdraw-requires : tie.Need-withdraw-requires
+withdraw-requires c κs = (withdrawals (c .before .before .before .before .before), securities (c .before .before .before .before .before), cash (c .before .before .before .before .before))
+
+enum-known-event-8 : tie.Need-enum-known-event-8
+enum-known-event-8 c = search needs
+
+initial-requires : tie.Need-initial-requires
+initial-requires c κs = search needs
+
+enum-known-event-9 : tie.Need-enum-known-event-9
+enum-known-event-9 c = search needs
+
+early-requires : tie.Need-early-requires
+early-requires c κs = search needs
+
+enum-told-2 : tie.Need-enum-told-2
+enum-told-2 c = search needs
+
+pay-requires : tie.Need-pay-requires
+pay-requires c κs = (nets (c .before .before .before .before), cash (c .before .before .before .before))
+
+enum-told-3 : tie.Need-enum-told-3
+enum-told-3 c = search needs
+
+close-requires : tie.Need-close-requires
+close-requires c κs = search needs
+
+same-length : tie.Need-same-length
+same-length c = search needs
+
+returns : tie.Need-returns
+unfolding eventCauses act
+returns c =
+    let s = c .before .before .before .before .before .before .before .before in
+    rw (c .before .before .before .before .enum-told .given .1) (changes-table _ _ (table s) (s .pre .0) (s .pre .1) _ _ _ refl _ _ (c .before .before .«open» .ensures))
+
+returns-2 : tie.Need-returns-2
+unfolding eventCauses act
+returns-2 c =
+    let s = c .before .before .before .before .before .before in
+    rw (c .before .before .event .given .1) (leaves-table _ _ (table s) (s .pre .0) (s .pre .1) _ _ refl _ (c .fund-in .ensures))
+
+returns-3 : tie.Need-returns-3
+unfolding eventCauses act
+returns-3 c =
+    let s = c .before .before .before .before .before .before in
+    rw (c .before .before .event2 .given .1) (leaves-table _ _ (table s) (s .pre .0) (s .pre .1) _ _ refl _ (c .fund-out .ensures))
+
+same-length-2 : tie.Need-same-length-2
+same-length-2 c = search needs
+
+returns-4 : tie.Need-returns-4
+unfolding eventCauses act
+returns-4 c =
+    let s = c .before .before .before .before .before .before .before in
+    rw (c .before .before .before .event3 .given .1) (leaves-table _ _ (table s) (s .pre .0) (s .pre .1) _ _ refl _ (c .set-size .ensures))
+
+returns-5 : tie.Need-returns-5
+unfolding eventCauses act
+returns-5 c =
+    let s = c .before .before .before .before .before .before in
+    rw (c .before .before .event4 .given .1) (leaves-table _ _ (table s) (s .pre .0) (s .pre .1) _ _ refl _ (c .set-rate .ensures))
+
+returns-6 : tie.Need-returns-6
+unfolding eventCauses act
+returns-6 c =
+    let s = c .before .before .before .before .before .before in
+    rw (c .before .before .event5 .given .1) (leaves-table _ _ (table s) (s .pre .0) (s .pre .1) _ _ refl _ (c .pledge .ensures))
+
+returns-7 : tie.Need-returns-7
+unfolding eventCauses act
+returns-7 c =
+    let s = c .before .before .before .before .before .before in
+    rw (c .before .before .event6 .given .1) (leaves-table _ _ (table s) (s .pre .0) (s .pre .1) _ _ refl _ (c .freeze .ensures))
+
+returns-8 : tie.Need-returns-8
+unfolding eventCauses act
+returns-8 c =
+    let s = c .before .before .before .before .before .before in
+    rw (c .before .before .event7 .given .1) (leaves-table _ _ (table s) (s .pre .0) (s .pre .1) _ _ refl _ (c .withdraw .ensures))
+
+same-length-3 : tie.Need-same-length-3
+same-length-3 c = search needs
+
+returns-9 : tie.Need-returns-9
+unfolding eventCauses act
+returns-9 c =
+    let s = c .before .before .before .before .before .before .before .before .before in
+    rw (c .before .before .before .before .before .event8 .given .1) (changes-table _ _ (table s) (s .pre .0) (s .pre .1) _ _ _ refl _ _ (c .before .before .initial .ensures))
+
+same-length-4 : tie.Need-same-length-4
+same-length-4 c = search needs
+
+returns-10 : tie.Need-returns-10
+unfolding eventCauses act
+returns-10 c =
+    let s = c .before .before .before .before .before .before .before .before .before in
+    rw (c .before .before .before .before .before .event9 .given .1) (changes-table _ _ (table s) (s .pre .0) (s .pre .1) _ _ _ refl _ _ (c .before .before .early .ensures))
+
+returns-11 : tie.Need-returns-11
+unfolding eventCauses act
+returns-11 c =
+    let s = c .before .before .before .before .before in
+    rw (c .before .enum-told2 .given .1) (pays _ _ (table s) (s .pre .0) (s .pre .1) _ refl _ (c .pay .ensures))
+
+same-length-5 : tie.Need-same-length-5
+same-length-5 c = search needs
+
+returns-12 : tie.Need-returns-12
+unfolding eventCauses act
+returns-12 c =
+    let s = c .before .before .before .before .before .before .before .before in
+    rw (c .before .before .before .before .enum-told3 .given .1) (closes _ _ (table s) (s .pre .0) (s .pre .1) _ _ refl _ _ (c .before .before .close .ensures))
+
+pub event-on-spec : {M : Type 1} → statement M
+event-on-spec =
+    tie.close
+    (tie.spec
+    enum-told
+    open-requires
+    enum-known-event
+    fund-in-requires
+    enum-known-event-2
+    fund-out-requires
+    enum-known-event-3
+    set-size-requires
+    enum-known-event-4
+    set-rate-requires
+    enum-known-event-5
+    pledge-requires
+    enum-known-event-6
+    freeze-requires
+    enum-known-event-7
+    withdraw-requires
+    enum-known-event-8
+    initial-requires
+    enum-known-event-9
+    early-requires
+    enum-told-2
+    pay-requires
+    enum-told-3
+    close-requires
+    same-length
+    returns
+    returns-2
+    returns-3
+    same-length-2
+    returns-4
+    returns-5
+    returns-6
+    returns-7
+    returns-8
+    same-length-3
+    returns-9
+    same-length-4
+    returns-10
+    returns-11
+    same-length-5
+    returns-12)
