@@ -1,12 +1,10 @@
 -- Worked cases, each computed from the definitions that the promises cite: the journal of document 01, and M1 to M10.
 -- Assumes nothing.
 use mathlib.Core.Path.{_≡_, refl}
-use mathlib.Core.Bool.{cond}
 use mathlib.Core.List.{List, [], _∷_, map}
 use Prim.Native.Nat.{ℕ, _+_}
-use lib.IntN.{ℤ, pos, negsuc, natAbs}
-use lib.ListN.{replicate, getD, length, take, drop}
-use Rattle.money.specs.declared.units.Sheets.{Sheets}
+use lib.IntN.{ℤ, pos, natAbs}
+use lib.ListN.{replicate}
 use Rattle.money.specs.Units.{fen, sheets, ticks}
 use Rattle.money.specs.Causes.{firstOf}
 use Rattle.money.specs.Days.{Calendar, trades, firstTrading, atOrAfter, nextAfter, earliest}
@@ -15,21 +13,18 @@ use Rattle.money.specs.Collateral.{kindValue, kindWorth}
 use Rattle.book.specs.Folds.{sumBelow, allBelow, inTurn, every}
 use Rattle.book.specs.Book.{Status, Normal, Suspended, Terminated, Book, Answer, freshBook}
 use Rattle.book.specs.Days.{following, paymentDay, followed}
-use Rattle.book.specs.Trades.{Contract, Trade, Terms, noTrade, total, outstanding, onTable, tradeOf, differ, takeOff, remaining}
+use Rattle.book.specs.Trades.{Trade, noTrade, total, outstanding, onTable, differ, remaining}
 use Rattle.book.specs.Vault.{value, headroom, outstandingOf}
 use Rattle.book.specs.Fit.{capacityFit, securitiesFit, cashFit, allTrades, sizeFit, netsFit, withdrawalsFit, fit}
-use Rattle.book.specs.Entry.{Account, Own, Client, Event, Open, FundIn, FundOut, Size, Rate, Pledge, Freeze, Withdraw, Initial, Early, Pay, Close, Entry, Known, Undecodable}
+use Rattle.book.specs.Entry.{Own, Client, Open, FundIn, FundOut, Size, Rate, Pledge, Initial, Pay, Close, Entry, Known}
 use Rattle.book.specs.Open.{openCauses, openedBook, openedTable, statusAtOpen, turnsTerminated}
 use Rattle.book.specs.Funds.{fundInCauses, fundedIn, fundOutCauses, fundedOut}
 use Rattle.book.specs.Size.{sizeCauses, sized}
 use Rattle.book.specs.Rate.{rateCauses, rated}
 use Rattle.book.specs.Pledge.{pledgeCauses, pledged}
-use Rattle.book.specs.Freeze.{freezeCauses, frozen}
-use Rattle.book.specs.Withdraw.{withdrawCauses, withdrawn, applied}
 use Rattle.book.specs.Initial.{initialCauses, initialBook, initialTable}
-use Rattle.book.specs.Early.{earlyCauses, earlyBook, earlyTable}
 use Rattle.book.specs.Pay.{payCauses, paidBook}
-use Rattle.book.specs.Close.{maturedTrades, maturedSheets, maturedAmount, closeCauses, allArrived, takenOut, covered, mayGo, applications, evening, closedTable, isShortClose, closedBook, closeAnswer}
+use Rattle.book.specs.Close.{maturedTrades, maturedSheets, maturedAmount, closeCauses, allArrived, applications, evening, closedTable, isShortClose, closedBook, closeAnswer}
 use Rattle.book.specs.Step.{eventCauses, causes, act, step}
 use Rattle.book.specs.Run.{Seen, run, lastBook, lastTable}
 use Rattle.book.specs.Demand3.{seenFrom}

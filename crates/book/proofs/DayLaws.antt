@@ -1,7 +1,7 @@
 -- The book's days, by what the searches of the calendar answer.
 -- Assumes nothing.
-use mathlib.Core.Path.{_≡_, refl, sym, ap, _∙_}
-use mathlib.Core.Bool.{Bool, true, false, not}
+use mathlib.Core.Path.{_≡_, refl, _∙_}
+use mathlib.Core.Bool.{true, false, not}
 use mathlib.Core.Option.{Option, none, some}
 use Prim.Native.Nat.{ℕ, _≤_}
 use native.Mathlib.Decide.{ℕ-discrete}
@@ -9,7 +9,7 @@ use native.Mathlib.Omega.{arith}
 use borrow.Author.Tests.{eq-eqb, ne-eqb}
 use lib.Dec.{eqb}
 use lib.ListN.{length}
-use Rattle.money.specs.Days.{Calendar, nextAfter, missing, searchResult}
+use Rattle.money.specs.Days.{Calendar, missing, searchResult}
 use Rattle.money.proofs.Answers.{found-at-0, none-elsewhere}
 use Rattle.book.specs.Days.{followed}
 

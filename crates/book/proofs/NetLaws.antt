@@ -1,15 +1,15 @@
 -- Signed numbers of 64 bits: which sums fit, and what the machine reads back. For the nets' few functions.
 -- Assumes nothing.
-use mathlib.Core.Path.{_≡_, refl, sym, ap, _∙_}
+use mathlib.Core.Path.{_≡_, refl, sym, ap}
 use mathlib.Core.Bool.{Bool, true, false, cond, false≢true}
-use Prim.Native.Nat.{ℕ, zero, suc, _+_, _-_, _<_, _≤_}
+use Prim.Native.Nat.{ℕ, zero, suc, _+_, _-_, _≤_}
 use native.Mathlib.Nat.{zero-add}
 use native.Mathlib.Omega.{arith}
 use borrow.Author.Tests.{le-leb, lt-leb, lt-ltb, le-ltb, ltb-true, ltb-false, leb-true, leb-false}
-use lib.Dec.{T, leb, ltb}
-use lib.IntN.{ℤ, pos, negsuc, negℤ, _+ℤ_, _-ℤ_, natAbs, subℕ, +ℤ-idl}
-use lib.Signed.{ltZ, mag, nonNeg}
-use mir.Val.{SFits, toZ, ofZ}
+use lib.Dec.{T, ltb}
+use lib.IntN.{ℤ, pos, negsuc, negℤ, _+ℤ_, _-ℤ_, natAbs, +ℤ-idl}
+use lib.Signed.{ltZ, nonNeg}
+use mir.Val.{SFits}
 use mir.Syntax.{w64}
 use Rattle.book.specs.Fit.{netFit}
 

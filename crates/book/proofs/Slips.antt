@@ -3,21 +3,20 @@
 use mathlib.Core.Path.{_≡_, refl}
 use mathlib.Core.List.{List, [], _∷_, map}
 use Prim.Native.Nat.{ℕ, _+_}
-use lib.IntN.{ℤ, pos, negsuc, natAbs}
-use lib.ListN.{replicate, getD, length, take, drop}
-use Rattle.money.specs.declared.units.Sheets.{Sheets}
+use lib.IntN.{natAbs}
+use lib.ListN.{replicate}
 use Rattle.money.specs.Units.{fen, sheets, ticks}
 use Rattle.money.specs.Causes.{firstOf}
 use Rattle.money.specs.Days.{Calendar, trades, firstTrading, atOrAfter, nextAfter, earliest}
 use Rattle.money.specs.Money.{principal, income, redemption, redemptionAmount}
 use Rattle.money.specs.Collateral.{kindValue, kindWorth}
 use Rattle.book.specs.Folds.{sumBelow, allBelow, inTurn, every}
-use Rattle.book.specs.Book.{Status, Normal, Suspended, Terminated, FailedRun, NotFailed, FailedOnce, FailedTwice, ShortRun, NotShort, ShortOnce, ShortTwice, ShortThrice, Book, Answer, freshBook}
+use Rattle.book.specs.Book.{Status, Normal, Suspended, Terminated, FailedRun, NotFailed, FailedOnce, FailedTwice, ShortRun, NotShort, ShortOnce, ShortTwice, ShortThrice, freshBook}
 use Rattle.book.specs.Days.{following, paymentDay, followed}
-use Rattle.book.specs.Trades.{Contract, Trade, Terms, noTrade, total, outstanding, onTable, tradeOf, differ, takeOff, remaining}
-use Rattle.book.specs.Vault.{value, headroom, outstandingOf}
+use Rattle.book.specs.Trades.{total, outstanding, onTable, tradeOf, differ, takeOff, remaining}
+use Rattle.book.specs.Vault.{value, headroom}
 use Rattle.book.specs.Fit.{capacityFit, securitiesFit, cashFit, allTrades, sizeFit, netsFit, withdrawalsFit, fit}
-use Rattle.book.specs.Entry.{Account, Own, Client, Event, Open, FundIn, FundOut, Size, Rate, Pledge, Freeze, Withdraw, Initial, Early, Pay, Close, Entry, Known, Undecodable}
+use Rattle.book.specs.Entry.{Own, Client, Open, FundIn, FundOut, Size, Rate, Pledge, Freeze, Withdraw, Early, Pay, Close, Entry, Known, Undecodable}
 use Rattle.book.specs.Open.{openCauses, openedBook, openedTable, statusAtOpen, turnsTerminated}
 use Rattle.book.specs.Funds.{fundInCauses, fundedIn, fundOutCauses, fundedOut}
 use Rattle.book.specs.Size.{sizeCauses, sized}
@@ -30,9 +29,8 @@ use Rattle.book.specs.Early.{earlyCauses, earlyBook, earlyTable}
 use Rattle.book.specs.Pay.{payCauses, paidBook, failedMore}
 use Rattle.book.specs.Close.{shortMore, maturedTrades, maturedSheets, maturedAmount, closeCauses, allArrived, takenOut, covered, mayGo, applications, evening, closedTable, isShortClose, closedBook, closeAnswer}
 use Rattle.book.specs.Step.{eventCauses, causes, act, step}
-use Rattle.book.specs.Run.{Seen, run, lastBook, lastTable}
-use Rattle.book.specs.Demand3.{seenFrom}
-use Rattle.book.proofs.Cases.{Case, _gives_, _then_, week, daily, noTrades, initial, covers, failedOnce, failedTwice, after, tableAfter, answerTo, clearedAfter, statusNumber, statusAfter}
+use Rattle.book.specs.Run.{run, lastBook, lastTable}
+use Rattle.book.proofs.Cases.{Case, _gives_, _then_, daily, initial, covers, failedOnce, after, tableAfter, answerTo, statusNumber}
 
 -- ---- the status at Open, over every old status and both runs (arts. 69, 70)
 

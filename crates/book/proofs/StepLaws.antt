@@ -1,12 +1,11 @@
 -- An event's contract against the step: on a fit book cause 1 falls away, and what the event gives back is what the step says.
 -- Assumes nothing.
-use mathlib.Core.Path.{_≡_, refl, sym, ap, _∙_}
-use mathlib.Core.Bool.{Bool, true, false, not, _||_}
-use mathlib.Core.List.{List, [], _∷_}
+use mathlib.Core.Path.{_≡_, refl, ap}
+use mathlib.Core.Bool.{true, false, not}
+use mathlib.Core.List.{List}
 use mathlib.Core.Option.{Option, none, some}
-use Prim.Native.Nat.{ℕ, _≤_, _<_}
-use borrow.Author.Tests.{le-ltb, lt-ltb}
-use lib.Dec.{ltb}
+use Prim.Native.Nat.{ℕ, _≤_}
+use borrow.Author.Tests.{le-ltb}
 use lib.ListN.{length}
 use Rattle.money.specs.Causes.{firstOf}
 use Rattle.money.specs.Days.{Calendar}
@@ -16,7 +15,7 @@ use Rattle.book.specs.Trades.{Trade}
 use Rattle.book.specs.Fit.{fit}
 use Rattle.book.specs.Pay.{fails, paidBook, payNumber}
 use Rattle.book.specs.Close.{closeAnswer, closedBook}
-use Rattle.book.specs.Entry.{Event, Entry, Known, Undecodable}
+use Rattle.book.specs.Entry.{Event, Entry, Known}
 use Rattle.book.specs.declared.step.Applied.{Applied}
 use Rattle.book.specs.Step.{Outcome, outcome, unfit, eventCauses, entryCauses, causes, act, actOn, refuseOr, step}
 use Rattle.book.specs.Flat.{appliedBy, paidBy, closedBy, tableBy, appliedOf}

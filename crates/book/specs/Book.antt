@@ -1,11 +1,9 @@
 -- The book, its parts and a fresh one. (01, The book)
 -- Assumes nothing.
-use Prim.Native.Nat.{ℕ, _+_}
+use Prim.Native.Nat.{ℕ}
 use mathlib.Core.Bool.{Bool, true, false}
-use mathlib.Core.List.{List}
-use lib.IntN.{ℤ, pos}
+use lib.IntN.{pos}
 use lib.ListN.{replicate}
-use Rattle.money.specs.declared.units.Fen.{Fen}
 use Rattle.money.specs.declared.units.Sheets.{Sheets}
 use Rattle.money.specs.Units.{fen, sheets}
 use Rattle.book.specs.Limits.{applicationLimit}

@@ -1,20 +1,19 @@
 -- "12 Close, in Paid, or in Trading if terminated": its parts (a) to (f). (arts. 52, 53, 60, 61)
 -- Assumes nothing.
-use Prim.Native.Nat.{ℕ, suc, _+_, _-_}
+use Prim.Native.Nat.{ℕ, _+_, _-_}
 use mathlib.Core.Bool.{Bool, true, false, cond, not, _&&_, _||_}
 use mathlib.Core.List.{List, [], _∷_, map}
 use lib.Dec.{ltb, leb}
 use lib.IntN.{ℤ, pos, natAbs, _+ℤ_}
 use lib.ListN.{length, getD, set}
 use lib.Signed.{ltZ}
-use Rattle.money.specs.declared.units.Fen.{Fen}
 use Rattle.money.specs.Units.{fen, sheets}
 use Rattle.money.specs.Causes.{Cause, _⇒_}
 use Rattle.money.specs.Days.{Calendar}
 pub use Rattle.book.specs.declared.close.Evening.{Evening}
 use Rattle.book.specs.Folds.{inTurn}
 use Rattle.book.specs.Limits.{netLimit}
-use Rattle.book.specs.Book.{Nets, Cash, Security, Guarantee, Vault, Closed, ShortRun, NotShort, ShortOnce, ShortTwice, ShortThrice, Standing, Withdrawals, Book, Answer, isPaid, isTrading, isTerminated, hasFailed, noApplications}
+use Rattle.book.specs.Book.{Security, Guarantee, Vault, Closed, ShortRun, NotShort, ShortOnce, ShortTwice, ShortThrice, Standing, Withdrawals, Book, Answer, isPaid, isTrading, isTerminated, hasFailed, noApplications}
 use Rattle.book.specs.Days.{dayNumber, paymentDay}
 use Rattle.book.specs.Trades.{Trade, inUse, total, outstanding, maturing, maturityAmount, matured, remaining, packed}
 use Rattle.book.specs.Vault.{securityAt, isCash, effectiveOf, frozenOf, value, headroomOf}

@@ -1,15 +1,15 @@
 -- Demand 3: a single claim about every list of entries put to a fresh book. (00, demand 3; 01, Twelve events, "Demand 3")
 -- Assumes nothing.
 use mathlib.Core.Path.{_≡_}
-use mathlib.Core.Bool.{Bool, true, false, cond, _&&_}
+use mathlib.Core.Bool.{Bool, cond, _&&_}
 use mathlib.Core.List.{List, [], _∷_, map}
-use mathlib.Core.Option.{Option, none, some}
+use mathlib.Core.Option.{none, some}
 use Prim.Native.Nat.{ℕ, _≤_, _<_}
 use lib.Dec.{T, eqb}
 use lib.IntN.{ℤ, pos, natAbs, _+ℤ_, _-ℤ_}
 use lib.Signed.{_≤ℤ_}
 use Rattle.money.specs.Days.{Calendar}
-use Rattle.book.specs.Book.{Cash, Status, Book, freshBook}
+use Rattle.book.specs.Book.{Cash, freshBook}
 use Rattle.book.specs.Trades.{Trade}
 use Rattle.book.specs.Vault.{outstandingOf, headroom}
 use Rattle.book.specs.Fit.{allCash}

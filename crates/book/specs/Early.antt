@@ -11,7 +11,7 @@ use Rattle.money.specs.Limits.{priceLimit}
 use Rattle.money.specs.Causes.{Cause, _⇒_}
 use Rattle.money.specs.Days.{Calendar}
 use Rattle.book.specs.Limits.{netLimit}
-use Rattle.book.specs.Book.{Nets, Book, isTrading, isTerminated, withNets}
+use Rattle.book.specs.Book.{Book, isTrading, isTerminated, withNets}
 use Rattle.book.specs.Days.{dayNumber, paymentDay}
 use Rattle.book.specs.Trades.{Contract, Trade, inUse, onTable, tradeOf, takeOff, redeemed, over}
 

@@ -6,7 +6,6 @@ use mathlib.Core.List.{List, [], _∷_}
 use lib.Dec.{eqb}
 use lib.ListN.{length, take, drop, getD}
 use Rattle.money.specs.Units.{fen, sheets, ticks}
-use Rattle.book.specs.declared.trade.Contract.{Contract}
 use Rattle.book.specs.declared.trade.Terms.{Terms}
 pub use Rattle.book.specs.declared.decode.Fields.{Fields}
 pub use Rattle.book.specs.declared.event.Account.{Account}

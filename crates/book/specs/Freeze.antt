@@ -8,7 +8,7 @@ use lib.ListN.{set}
 use Rattle.money.specs.Units.{fen}
 use Rattle.money.specs.Causes.{Cause, _⇒_}
 use Rattle.money.specs.Collateral.{cashKind}
-use Rattle.book.specs.Book.{Security, Guarantee, Vault, Book, withVault}
+use Rattle.book.specs.Book.{Security, Guarantee, Book, withVault}
 use Rattle.book.specs.Vault.{securityAt, isCash, effectiveOf}
 
 unfoldable pub freezeCauses : Book → (kind units : ℕ) → List Cause

@@ -13,7 +13,7 @@ use Rattle.money.specs.Causes.{Cause, _⇒_}
 use Rattle.money.specs.Days.{Calendar, atOrAfter}
 use Rattle.money.specs.Money.{principal}
 use Rattle.book.specs.Limits.{netLimit, termLimit}
-use Rattle.book.specs.Book.{Nets, Book, isTrading, isTerminated, isSuspended, withNets, withTrades}
+use Rattle.book.specs.Book.{Book, isTrading, isTerminated, isSuspended, withNets, withTrades}
 use Rattle.book.specs.Days.{dayNumber, paymentDay, followed}
 use Rattle.book.specs.Trades.{Terms, Trade, inUse, onTable}
 use Rattle.book.specs.Vault.{headroom}

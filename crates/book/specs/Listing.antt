@@ -10,7 +10,7 @@ use lib.ListN.{length, take, drop, replicate}
 use Rattle.money.specs.Limits.{calendarLimit}
 use Rattle.money.specs.Causes.{Cause, _⇒_}
 use Rattle.money.specs.Days.{Calendar}
-use Rattle.book.specs.Book.{Book, freshBook}
+use Rattle.book.specs.Book.{freshBook}
 use Rattle.book.specs.Trades.{Trade, noTrade}
 use Rattle.book.specs.Vault.{outstandingOf, headroom}
 use Rattle.book.specs.Entry.{Entry, decoded}

@@ -1,6 +1,5 @@
 -- "1 Open, in Closed: goes to the next trading day, at first the earliest." (arts. 69, 70, 72)
 -- Assumes nothing.
-use Prim.Native.Nat.{ℕ}
 use mathlib.Core.Bool.{Bool, true, false, cond, not, _&&_, _||_}
 use mathlib.Core.List.{List, [], _∷_, map}
 use lib.Dec.{ltb}
@@ -8,7 +7,7 @@ use lib.IntN.{ℤ, pos, natAbs, _+ℤ_}
 use Rattle.money.specs.Causes.{Cause, _⇒_}
 use Rattle.money.specs.Days.{Calendar}
 use Rattle.book.specs.Limits.{netLimit}
-use Rattle.book.specs.Book.{Nets, Day, Trading, Status, Normal, Suspended, Terminated, FailedRun, NotFailed, FailedOnce, FailedTwice, ShortRun, NotShort, ShortOnce, ShortTwice, ShortThrice, Standing, Book, isClosed, isTerminated, hasFailed, isShort, withNets, withStanding}
+use Rattle.book.specs.Book.{Day, Trading, Status, Normal, Suspended, Terminated, FailedRun, NotFailed, FailedOnce, FailedTwice, ShortRun, NotShort, ShortOnce, ShortTwice, ShortThrice, Standing, Book, isClosed, isTerminated, hasFailed, isShort, withNets, withStanding}
 use Rattle.book.specs.Days.{following, toDay, paymentDay, followed}
 use Rattle.book.specs.Trades.{Trade, inUse, total, fallbackAmount, emptied, over}
 

@@ -1,13 +1,13 @@
 -- "11 Pay, in Trading: the whole cleared net N moves, own to client if above 0, the other way if below." (art. 62)
 -- Assumes nothing.
 use Prim.Native.Nat.{ℕ, suc, _+_, _-_}
-use mathlib.Core.Bool.{Bool, true, false, cond, not}
+use mathlib.Core.Bool.{Bool, true, false, not}
 use mathlib.Core.List.{List, [], _∷_}
 use lib.Dec.{ltb}
 use lib.IntN.{ℤ, pos, negsuc, natAbs}
 use Rattle.money.specs.Units.{fen}
 use Rattle.money.specs.Causes.{Cause, _⇒_}
-use Rattle.book.specs.Book.{Nets, Cash, Paid, FailedRun, NotFailed, FailedOnce, FailedTwice, Standing, Book, isTrading, isTerminated, withNets, withCash, withStanding}
+use Rattle.book.specs.Book.{Cash, Paid, FailedRun, NotFailed, FailedOnce, FailedTwice, Standing, Book, isTrading, isTerminated, withNets, withCash, withStanding}
 
 -- what the payer of a net holds
 abbrev pub payerHolds : ℤ → Cash → ℕ

@@ -9,7 +9,7 @@ use Rattle.money.specs.Units.{fen}
 use Rattle.money.specs.Limits.{unitLimit}
 use Rattle.money.specs.Causes.{Cause, _⇒_}
 use Rattle.money.specs.Collateral.{cashKind}
-use Rattle.book.specs.Book.{Cash, Security, Guarantee, Vault, Book, isTrading, withCash, withVault}
+use Rattle.book.specs.Book.{Security, Guarantee, Book, isTrading, withCash, withVault}
 use Rattle.book.specs.Vault.{securityAt, isCash}
 
 unfoldable pub pledgeCauses : Book → (kind units : ℕ) → List Cause

@@ -1,6 +1,5 @@
 -- "4 Size: sets S." It fits any phase and acts immediately.
 -- Assumes nothing.
-use Prim.Native.Nat.{ℕ}
 use mathlib.Core.List.{List, [], _∷_}
 use lib.Dec.{ltb}
 use Rattle.money.specs.declared.units.Sheets.{Sheets}

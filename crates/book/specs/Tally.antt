@@ -16,7 +16,7 @@ use Rattle.book.specs.declared.book.Status.the-variants.{Normal, Suspend
 use Rattle.book.specs.declared.trade.Contract.{Contract}
 use Rattle.book.specs.declared.trade.Trade.{Trade}
 use Rattle.book.specs.declared.trade.Terms.{Terms}
-use Rattle.book.specs.Entry.{Event, Open, FundIn, FundOut, Size, Rate, Pledge, Freeze, Withdraw, Initial, Early, Pay, Close, Entry, Known, Undecodable}
+use Rattle.book.specs.Entry.{Open, FundIn, FundOut, Size, Rate, Pledge, Freeze, Withdraw, Initial, Early, Pay, Close, Entry, Known, Undecodable}
 
 -- "a row (a record's fields)"
 abbrev pub Row : Type 0

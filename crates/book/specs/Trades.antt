@@ -1,11 +1,10 @@
 -- The trades on the table: their records in order of acceptance, and what redemption makes of them. (01, The book; Twelve events; arts. 29, 60, 72)
 -- Assumes nothing.
 use Prim.Native.Nat.{ℕ, zero, suc, _+_, _-_}
-use mathlib.Core.Bool.{Bool, true, false, cond, not, _&&_, _||_}
-use mathlib.Core.List.{List, [], _∷_, _++_, map}
+use mathlib.Core.Bool.{Bool, true, false, cond}
+use mathlib.Core.List.{List, [], _∷_, _++_}
 use lib.Dec.{leb, eqb}
 use lib.ListN.{take, drop, length, replicate}
-use Rattle.money.specs.declared.units.Sheets.{Sheets}
 use Rattle.money.specs.declared.units.Ticks.{Ticks}
 use Rattle.money.specs.Units.{sheets, ticks}
 use Rattle.money.specs.Money.{redemption}

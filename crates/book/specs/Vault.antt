@@ -1,12 +1,11 @@
 -- Collateral, its value V, and headroom. (01, Collateral and headroom; arts. 4, 41 to 43, 54)
 -- Assumes nothing.
-use Prim.Native.Nat.{ℕ, _+_, _-_, min}
+use Prim.Native.Nat.{ℕ, _-_, min}
 use mathlib.Core.Bool.{Bool, cond}
-use mathlib.Core.List.{List, map}
+use mathlib.Core.List.{List}
 use lib.Dec.{eqb}
 use lib.IntN.{ℤ, subℕ}
 use lib.ListN.{getD, set}
-use Rattle.money.specs.Units.{fen}
 use Rattle.money.specs.Collateral.{cashKind, kindValue}
 use Rattle.book.specs.Folds.{sumBelow}
 use Rattle.book.specs.Book.{Security, Guarantee, Vault, Book, noSecurity}

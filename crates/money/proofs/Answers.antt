@@ -1,15 +1,13 @@
 -- What an answer says to its caller: within the limits a call gives its rule's result, and a search's number tells whether a day was found.
 -- Assumes nothing.
-use mathlib.Core.Path.{_≡_, refl, sym, ap, _∙_}
-use mathlib.Core.Bool.{Bool, true, false, cond}
+use mathlib.Core.Path.{_≡_, refl, sym, ap}
 use mathlib.Core.Option.{Option, none, some}
 use Prim.Native.Nat.{ℕ, _≤_}
 use native.Mathlib.Omega.{arith}
-use borrow.Author.Tests.{le-ltb, lt-ltb}
+use borrow.Author.Tests.{le-ltb}
 use lib.ListN.{length}
 use Rattle.money.specs.Units.{Sheets, Ticks}
 use Rattle.money.specs.Limits.{calendarLimit, tradeLimit, priceLimit, termLimit, rateLimit}
-use Rattle.money.specs.Causes.{firstOf}
 use Rattle.money.specs.Days.{Calendar, searchResult, dayOr0}
 use Rattle.money.specs.Money.{principal, redemption, initialAmount, redemptionAmount}
 use Rattle.money.specs.Collateral.{rateOf, unitLimitOf, kindValue, kindWorth}

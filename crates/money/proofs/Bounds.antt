@@ -2,13 +2,12 @@
 -- Assumes nothing.
 use mathlib.Core.Path.{_≡_, refl}
 use mathlib.Core.Bool.{Bool, true, false, cond}
-use mathlib.Core.Option.{Option, none, some}
-use Prim.Native.Nat.{ℕ, _+_, _-_, _*_, _/_, _≤_, zero-le}
+use Prim.Native.Nat.{ℕ, _-_, _*_, _/_, _≤_}
 use native.Mathlib.Nat.{mul-le-mul, mul-assoc, mul-comm, zero-mul}
 use native.Mathlib.Omega.{arith}
 use lib.Dec.{eqb}
 use Rattle.money.specs.Units.{Sheets, Ticks}
-use Rattle.money.specs.Limits.{unitLimit, cashLimit, rateLimit, tradeLimit, priceLimit, termLimit}
+use Rattle.money.specs.Limits.{unitLimit, cashLimit, rateLimit, priceLimit, termLimit}
 use Rattle.money.specs.Money.{principal, income, redemption}
 use Rattle.money.specs.Collateral.{cashKind, rateOf, unitLimitOf, kindValue}
 

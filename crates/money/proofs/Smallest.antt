@@ -3,13 +3,13 @@
 use mathlib.Core.Path.{_≡_, refl}
 use mathlib.Core.Bool.{Bool, true, false, cond}
 use mathlib.Core.List.{List, [], _∷_}
-use mathlib.Core.Option.{Option, none, some}
+use mathlib.Core.Option.{Option, some}
 use Prim.Native.Nat.{ℕ, _≤_}
 use native.Mathlib.Omega.{arith}
 use borrow.Author.Tests.{leb-true}
 use lib.Dec.{leb}
 use Rattle.money.specs.Units.{Sheets, Ticks}
-use Rattle.money.specs.Causes.{Cause, _⇒_, firstOf}
+use Rattle.money.specs.Causes.{Cause, firstOf}
 use Rattle.money.specs.Days.{Calendar, searchCauses}
 use Rattle.money.specs.Money.{initialCauses, redemptionCauses}
 use Rattle.money.specs.Collateral.{worthCauses}

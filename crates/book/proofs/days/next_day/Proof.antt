@@ -1,7 +1,6 @@
-use mathlib.Core.Path.{_≡_, refl, sym, ap, _∙_}
+use mathlib.Core.Path.{sym, ap, _∙_}
 use borrow.Author.Needs.{needs}
 use mathlib.Core.Option.{some}
-use Prim.Native.Nat.{ℕ}
 use Rattle.money.specs.declared.days.Found.{Found}
 use Rattle.money.proofs.Answers.{found-at-0, none-elsewhere}
 use Rattle.book.specs.Days.{toDay}

@@ -1,4 +1,3 @@
-use mathlib.Core.Path.{_≡_, refl, sym, ap, _∙_}
 use borrow.Author.Needs.{needs}
 use Rattle.book.specs.Days.{following}
 use Rattle.book.proofs.days.next_found.Statement.{statement}

@@ -1,8 +1,7 @@
-use mathlib.Core.Path.{_≡_, refl, sym, ap, _∙_}
+use mathlib.Core.Path.{_≡_, refl, sym, _∙_}
 use mathlib.Core.Bool.{Bool, true, false, not, _||_}
 use borrow.Author.Needs.{needs}
 use borrow.Author.Tests.{lt-ltb, not-true, not-false}
-use lib.Dec.{ltb}
 use lib.ListN.{length}
 use Rattle.book.specs.Fit.{fit}
 use Rattle.book.specs.Flat.{tradesOf}

@@ -1,7 +1,5 @@
-use mathlib.Core.Path.{_≡_, refl, sym, ap, _∙_}
-use mathlib.Core.Bool.{true}
+use mathlib.Core.Path.{refl}
 use borrow.Author.Needs.{needs}
-use Rattle.book.specs.Step.{step}
 use Rattle.book.proofs.StepLaws.{fit-step}
 use Rattle.money.proofs.Refusals.{hit}
 use Rattle.book.proofs.dispatch.entry_on.Statement.{statement}

@@ -1,4 +1,4 @@
-use mathlib.Core.Path.{_≡_, refl, sym, ap, _∙_}
+use mathlib.Core.Path.{refl}
 use borrow.Author.Tests.{eq-eqb, ne-eqb}
 use Rattle.book.proofs.initial.bad_count.Statement.{statement}
 use Rattle.book.proofs.initial.bad_count.Tie as tie

@@ -1,4 +1,4 @@
-use mathlib.Core.Path.{_≡_, refl, sym, ap, _∙_}
+use mathlib.Core.Path.{refl}
 use borrow.Author.Tests.{lt-ltb, le-ltb}
 use Rattle.book.proofs.initial.bad_prices.Statement.{statement}
 use Rattle.book.proofs.initial.bad_prices.Tie as tie

@@ -1,4 +1,4 @@
-use mathlib.Core.Path.{_≡_, refl, sym, ap, _∙_}
+use mathlib.Core.Path.{refl}
 use borrow.Author.Needs.{needs}
 use Rattle.book.proofs.initial.begun_trade.Statement.{statement}
 use Rattle.book.proofs.initial.begun_trade.Tie as tie

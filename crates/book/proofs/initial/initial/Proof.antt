@@ -1,4 +1,4 @@
-use mathlib.Core.Path.{_≡_, refl, sym, ap, _∙_}
+use mathlib.Core.Path.{_≡_, refl, _∙_}
 use mathlib.Core.Option.{none}
 use borrow.Author.Needs.{needs}
 use native.Mathlib.Omega.{arith}

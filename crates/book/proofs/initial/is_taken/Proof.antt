@@ -1,8 +1,7 @@
-use mathlib.Core.Path.{_≡_, refl, sym, ap, _∙_}
+use mathlib.Core.Path.{sym, ap, _∙_}
 use borrow.Author.Needs.{needs}
 use Prim.Native.Nat.{ℕ}
 use lib.Dec.{ltb}
-use lib.ListN.{length}
 use Rattle.book.specs.Flat.{tradesTo, placeOf}
 use Rattle.book.proofs.FlatLaws.{length-trades}
 use Rattle.book.proofs.PlaceLaws.{on-table-by-place}

@@ -1,13 +1,9 @@
-use mathlib.Core.Path.{_≡_, refl, sym, ap, _∙_}
-use Prim.Native.Nat.{ℕ}
-use borrow.Author.Needs.{needs}
+use mathlib.Core.Path.{_≡_, sym, ap, _∙_}
 use native.Mathlib.Omega.{arith}
-use lib.IntN.{pos}
 use lib.ListN.{take}
-use lib.Signed.{ltZ}
 use Rattle.book.specs.Flat.{tradesOf}
 use Rattle.book.specs.Trades.{outstanding}
-use Rattle.book.specs.Vault.{value, headroomOf, headroom}
+use Rattle.book.specs.Vault.{headroom}
 use Rattle.book.proofs.FitParts.{fit-parts, fit-securities}
 use Rattle.book.proofs.FitFacts.{fit-keeps, fit-in-use}
 use Rattle.book.proofs.initial.lacks_headroom.Statement.{statement}

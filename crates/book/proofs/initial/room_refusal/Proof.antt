@@ -1,6 +1,6 @@
 use mathlib.Core.Bool.{false}
-use mathlib.Core.Path.{_≡_, refl, sym, ap, _∙_}
-use Prim.Native.Nat.{ℕ, _*_, _/_, _≤_}
+use mathlib.Core.Path.{_≡_, sym, ap, _∙_}
+use Prim.Native.Nat.{_/_}
 use borrow.Author.Needs.{needs}
 use native.Mathlib.Omega.{arith}
 use borrow.Author.Tests.{le-leb, lt-leb}
@@ -8,10 +8,10 @@ use lib.IntN.{ℤ}
 use lib.Dec.{leb}
 use lib.ListN.{length, take}
 use Rattle.money.specs.Money.{principal}
-use Rattle.book.specs.Trades.{Contract, onTable}
+use Rattle.book.specs.Trades.{onTable}
 use Rattle.book.specs.Initial.{netLess}
-use Rattle.book.specs.Flat.{tradesTo, tradesOf}
-use Rattle.book.proofs.Column.{column, applies, passes, ends, asked, asked-not}
+use Rattle.book.specs.Flat.{tradesOf}
+use Rattle.book.proofs.Column.{applies, passes, ends, asked, asked-not}
 use Rattle.book.proofs.Fitting.{refuted, upheld}
 use Rattle.book.proofs.NetLaws.{over-net, within-net}
 use Rattle.book.proofs.FlatLaws.{length-trades}

@@ -1,7 +1,7 @@
-use mathlib.Core.Path.{_≡_, refl, ap, _∙_}
+use mathlib.Core.Path.{_≡_}
 use native.Mathlib.Omega.{arith}
 use borrow.Author.Needs.{needs}
-use lib.IntN.{ℤ, pos, negℤ, _-ℤ_, natAbs}
+use lib.IntN.{pos, negℤ, _-ℤ_}
 use mir.Val.{SFits, toZ, ofZ}
 use mir.Syntax.{w64}
 use mir.ValLaws.{toZ-ofZ}

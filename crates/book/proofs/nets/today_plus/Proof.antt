@@ -1,8 +1,7 @@
-use Prim.Native.Nat.{ℕ}
 use mathlib.Core.Path.{_≡_}
 use native.Mathlib.Omega.{arith}
 use borrow.Author.Needs.{needs}
-use lib.IntN.{ℤ, pos, negℤ, natAbs}
+use lib.IntN.{pos}
 use mir.Val.{toZ, ofZ}
 use mir.Syntax.{w64}
 use mir.ValLaws.{toZ-ofZ}

@@ -1,4 +1,4 @@
-use mathlib.Core.Path.{_≡_, refl, sym, ap, _∙_}
+use mathlib.Core.Path.{refl}
 use borrow.Author.Needs.{needs}
 use Rattle.book.specs.Open.{statusAtOpen}
 use Rattle.book.proofs.open.status_by_runs.Statement.{statement}

@@ -1,7 +1,6 @@
-use mathlib.Core.Path.{_≡_, refl, sym, ap, _∙_}
+use mathlib.Core.Path.{refl, sym, ap, _∙_}
 use borrow.Author.Needs.{needs}
-use mathlib.Core.Bool.{Bool, not, _&&_}
-use Rattle.book.specs.Book.{Status, isTerminated}
+use Rattle.book.specs.Book.{isTerminated}
 use Rattle.book.specs.Open.{turnsTerminated}
 use Rattle.book.proofs.open.turns_terminated.Statement.{statement}
 use Rattle.book.proofs.open.turns_terminated.Tie as tie

@@ -1,9 +1,9 @@
-use Prim.Native.Nat.{ℕ, _+_, _-_, _*_, _/_, _%_, _≤_, _<_}
-use mathlib.Core.Path.{_≡_, refl, sym, ap, _∙_}
+use Prim.Native.Nat.{_+_, _-_, _*_, _/_, _%_, _≤_, _<_}
+use mathlib.Core.Path.{_≡_, refl, ap, _∙_}
 use native.Mathlib.Omega.{arith}
 use borrow.Author.Needs.{needs}
 use borrow.Author.Tests.{le-ltb, lt-ltb}
-use lib.ListN.{length, getD}
+use lib.ListN.{length}
 use Rattle.money.specs.Days.{atOrAfter, searchResult}
 use Rattle.money.proofs.Refusals.{hit, skip, clear}
 use Rattle.money.proofs.Scan.{past-end}
