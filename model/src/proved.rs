@@ -36,6 +36,14 @@ extern "C" {
     fn money_at_or_after(calendar: *const u32, words: usize, day: u32) -> Found;
     fn money_next_after(calendar: *const u32, words: usize, day: u32) -> Found;
     fn money_earliest_day(calendar: *const u32, words: usize) -> Found;
+    fn book_run_listing(
+        calendar: *const u32,
+        words: usize,
+        events: *const u8,
+        bytes: usize,
+        lines: *mut u64,
+        room: usize,
+    ) -> u8;
 }
 
 /// The amount of an initial trade, beside its number.
@@ -74,4 +82,53 @@ pub fn earliest_trading_day(calendar: &[u32]) -> (u32, u32) {
 
 fn beside(found: Found) -> (u32, u32) {
     (found.number.into(), found.day)
+}
+
+/// What the proved run tells of one event.
+#[derive(Clone, Copy, Debug, PartialEq, Eq)]
+pub struct Line {
+    pub answer: u32,
+    pub headroom: i64,
+    pub outstanding: u64,
+    pub own: u64,
+    pub client: u64,
+    pub guarantee: u64,
+}
+
+/// Numbers that the run writes for one event.
+const LINE_NUMBERS: usize = 7;
+
+/// The run of encoded events on a fresh book, into a lent buffer: the number.
+pub fn run_into(calendar: &[u32], events: &[u8], lines: &mut [u64]) -> u8 {
+    unsafe {
+        book_run_listing(
+            calendar.as_ptr(),
+            calendar.len(),
+            events.as_ptr(),
+            events.len(),
+            lines.as_mut_ptr(),
+            lines.len(),
+        )
+    }
+}
+
+/// The run of encoded events on a fresh book, event by event, or its refusal.
+pub fn run_listing(calendar: &[u32], events: &[u8]) -> Result<Vec<Line>, u8> {
+    let mut lines = vec![0; LINE_NUMBERS * (events.len() / 40)];
+    match run_into(calendar, events, &mut lines) {
+        0 => Ok(lines.chunks(LINE_NUMBERS).map(line).collect()),
+        number => Err(number),
+    }
+}
+
+fn line(numbers: &[u64]) -> Line {
+    let headroom = numbers[2] as i64;
+    Line {
+        answer: numbers[0] as u32,
+        headroom: if numbers[1] == 1 { -headroom } else { headroom },
+        outstanding: numbers[3],
+        own: numbers[4],
+        client: numbers[5],
+        guarantee: numbers[6],
+    }
 }

@@ -50,3 +50,5 @@ pub mod CloseLaws
 pub mod InitialLaws
 pub mod StepLaws
 pub mod Column
+-- laws for the run of a journal's events
+pub mod ListingLaws

@@ -12,6 +12,9 @@ pub mod event;
 // How 40 bytes give an event.
 pub mod decode;
 
+// The run of a journal's events on a fresh book.
+pub mod listing;
+
 // What a call answers.
 pub mod answer;
 

@@ -2,3 +2,6 @@
 
 // Days and money.
 pub mod money_calls;
+
+// The book.
+pub mod book_calls;

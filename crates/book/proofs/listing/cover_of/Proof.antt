@@ -1,0 +1,36 @@
+use borrow.Author.Needs.{needs}
+use mathlib.Core.Path.{_≡_, sym, ap, _∙_}
+use native.Mathlib.Omega.{arith}
+use Rattle.book.specs.Flat.{tradesOf}
+use Rattle.book.specs.Vault.{headroom, outstandingOf}
+use Rattle.book.specs.Trades.{outstanding}
+use Rattle.book.proofs.FitParts.{fit-parts, fit-securities}
+use Rattle.book.proofs.FitFacts.{fit-keeps, fit-in-use}
+use Rattle.book.proofs.listing.cover_of.Statement.{statement}
+use Rattle.book.proofs.listing.cover_of.Tie as tie
+
+-- O is counted over the flat table
+counted : (c : tie.After-outstanding-of) → (let s = c .before .before .before .before .args in c .outstanding-of .result ≡ outstandingOf (s .book) (tradesOf (s .table .now)))
+counted c = c .outstanding-of .ensures ∙ ap outstanding (sym (fit-in-use _ _ _ (c .before .before .before .before .pre)))
+
+outstanding-of-requires : tie.Need-outstanding-of-requires
+outstanding-of-requires c κs = fit-keeps _ _ _ (c .before .before .before .pre)
+
+value-of-requires : tie.Need-value-of-requires
+value-of-requires c κs =
+    let parts = fit-parts _ _ _ (c .before .before .before .before .pre) in
+    (fit-securities _ (parts .securities), parts .cash .free, omega (arith, parts .cash .sum))
+
+headroom-from-requires : tie.Need-headroom-from-requires
+headroom-from-requires c κs = search needs
+
+returns : tie.Need-returns
+unfolding headroom
+returns c =
+    let o = counted (c .before .before) in
+    let v = c .before .value-of .ensures in
+    (rw (o, v) at (c .headroom-from .ensures .0), rw (o, v) at (c .headroom-from .ensures .1), o)
+
+pub cover-of-spec : {M : Type 1} → statement M
+cover-of-spec =
+    tie.close (tie.spec outstanding-of-requires value-of-requires headroom-from-requires returns)

@@ -1,0 +1,95 @@
+use mathlib.Core.Path.{_≡_, sym, ap}
+use Prim.Native.Nat.{_+_, _-_, _*_, _/_, _≤_}
+use native.Mathlib.Omega.{arith}
+use borrow.Author.Needs.{needs}
+use lib.ListN.{length, take, drop}
+use Rattle.book.proofs.ListingLaws.{Ran, none-run, next-run, all-run}
+use Rattle.book.proofs.listing.run_events.Statement.{statement}
+use Rattle.book.proofs.listing.run_events.Tie as tie
+
+abbrev Inv-loop : tie.InvT-loop
+Inv-loop calendar events table₀ lines₀ count book₀ k₀ table lines book k = Ran calendar events table₀ lines₀ count table lines book k
+
+abbrev μ-loop : tie.MeasureT-loop
+μ-loop calendar events table₀ lines₀ count book₀ k₀ table lines book k = count - k
+
+fresh-requires : tie.Need-fresh-requires Inv-loop μ-loop
+fresh-requires c κs = search needs
+
+loop-holds : tie.Need-loop-holds Inv-loop μ-loop
+loop-holds c = none-run _ _ _ _ _ _ (c .fresh .ensures) (c .before .before .before .before .before .pre .1)
+
+mul-bytes : tie.Need-mul-bytes Inv-loop μ-loop
+mul-bytes c = search needs
+
+mul-bytes-2 : tie.Need-mul-bytes-2 Inv-loop μ-loop
+mul-bytes-2 c = search needs
+
+add-bytes : tie.Need-add-bytes Inv-loop μ-loop
+add-bytes c = search needs
+
+sub-bytes : tie.Need-sub-bytes Inv-loop μ-loop
+sub-bytes c = search needs
+
+part-bytes-start : tie.Need-part-bytes-start Inv-loop μ-loop
+part-bytes-start c = search needs
+
+part-bytes-end : tie.Need-part-bytes-end Inv-loop μ-loop
+part-bytes-end c = search needs
+
+mul-run-event : tie.Need-mul-run-event Inv-loop μ-loop
+mul-run-event c = search needs
+
+run-event-requires : tie.Need-run-event-requires Inv-loop μ-loop
+run-event-requires c κs =
+    let start = c .before .before .before .before .before .before .before .before .before .before in
+    let ran = c .before .before .before .before .loop .inv in
+    (ran .fits, start .pre .0, omega (arith, ran .wide, start .pre .2, c .before .before .before .loop-test .taken))
+
+add-k : tie.Need-add-k Inv-loop μ-loop
+add-k c = omega (arith, c .before .before .before .before .before .before .before .before .loop-test .taken, c .before .before .before .before .before .before .before .before .before .before .before .before .before .before .before .good)
+
+loop-less : tie.Need-loop-less Inv-loop μ-loop
+loop-less c = search needs
+
+loop-again : tie.Need-loop-again Inv-loop μ-loop
+loop-again c =
+    let here = c .before .before .before .before .before .before .before .before .before in
+    let start = here .before .before .before .before .before .before in
+    let called = c .before .before .before .before .run-event in
+    let length-40 : 40 ≡ (here .loop .k * 40 + 40) - here .loop .k * 40 = omega arith in
+    next-run _ _ _ _ _ _ _ _ _ (here .loop .inv) (c .before .before .before .before .before .before .before .before .loop-test .taken) (omega (arith, start .pre .2)) _
+    (ap (λ n. take n (drop (here .loop .k * 40) (start .args .events .now))) length-40)
+    _ _ _ (called .kept .1 .1 .1 .0) (called .ensures .0) (called .ensures .1) (called .ensures .2)
+
+same-length : tie.Need-same-length Inv-loop μ-loop
+same-length c = c .before .loop .inv .long
+
+same-length-2 : tie.Need-same-length-2 Inv-loop μ-loop
+same-length-2 c = c .before .loop .inv .wide
+
+returns : tie.Need-returns Inv-loop μ-loop
+returns c = all-run _ _ _ _ _ _ _ _ _ (c .before .loop .inv) (c .loop-test .left) (omega (arith, c .before .before .before .before .before .before .before .pre .2))
+
+pub run-events-spec : {M : Type 1} → statement M
+run-events-spec =
+    tie.close
+    (tie.spec
+    Inv-loop
+    μ-loop
+    fresh-requires
+    loop-holds
+    mul-bytes
+    mul-bytes-2
+    add-bytes
+    sub-bytes
+    part-bytes-start
+    part-bytes-end
+    mul-run-event
+    run-event-requires
+    add-k
+    loop-less
+    loop-again
+    same-length
+    same-length-2
+    returns)

@@ -1,0 +1,13 @@
+// The book.
+ghost use mathlib.Core.Path.{_≡_};
+ghost use lib.ListN.{length};
+ghost use Rattle.money.specs.Causes.{firstOf, numberOf};
+ghost use Rattle.book.specs.Listing.{listingOf, listingCauses, writtenBy};
+
+// The run of a journal's events on a fresh book, seven numbers an event.
+#[no_mangle]
+pub extern "C" fn book_run_listing(calendar: &[u32], events: &[u8], lines: &mut [u64]) -> u8
+    ensures { λ r. ⌜ (r ≡ numberOf (firstOf (listingCauses (length (now (calendar .entry))) (length (now (events .entry))) (length (now (lines .entry)))))) × (now (lines .exit) ≡ writtenBy (firstOf (listingCauses (length (now (calendar .entry))) (length (now (events .entry))) (length (now (lines .entry))))) (listingOf (now (calendar .entry)) (now (events .entry))) (now (lines .entry))) ⌝ }
+{
+    book::listing::run_listing(calendar, events, lines)
+}
