@@ -123,7 +123,7 @@ impl Book {
         self.headroom_over(self.outstanding(table))
     }
 
-    pub(crate) fn headroom_over(&self, outstanding: u64) -> i64 {
+    pub fn headroom_over(&self, outstanding: u64) -> i64 {
         self.size.min(self.value()) as i64 - outstanding as i64
     }
 
