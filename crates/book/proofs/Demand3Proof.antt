@@ -4,9 +4,10 @@ use mathlib.Core.Path.{_≡_, refl, sym, ap, _∙_}
 use mathlib.Core.Bool.{Bool, true, false, cond, _&&_}
 use mathlib.Core.List.{List, [], _∷_, map}
 use mathlib.Core.Option.{Option, none, some}
-use Prim.Native.Nat.{ℕ, zero, suc, _+_}
+use Prim.Native.Nat.{ℕ, zero, suc, _+_, _/_}
 use native.Mathlib.Omega.{arith}
 use lib.IntN.{pos, _+ℤ_, _-ℤ_, +ℤ-assoc, +ℤ-idl, +ℤ-idr}
+use lib.ListN.{length}
 use Rattle.money.specs.Causes.{firstOf}
 use Rattle.money.specs.Days.{Calendar}
 use Rattle.book.specs.Book.{Book, freshBook}
@@ -16,6 +17,7 @@ use Rattle.book.specs.Step.{causes, actOn, refuseOr, step, accepted}
 use Rattle.book.specs.Run.{Seen, see, run, lastBook, lastTable}
 use Rattle.book.specs.Tally.{Tally, blank, tell, tallyOf}
 use Rattle.book.specs.Demand3.{told, isPay, InitialCovered, PaymentRight, All, AllBeside, movedAt, moneyMoved, seenFrom, tallyBeside, Demand3}
+use Rattle.book.specs.Listing.{eventBytes, journalTable, entriesOf}
 use Rattle.book.proofs.Signed.{same, diff-parts}
 use Rattle.book.proofs.Answers.{turned-down}
 use Rattle.book.proofs.Accepted.{Clear, all-clear}
@@ -105,3 +107,7 @@ demand3 calendar table entries =
       payments-whole-or-nothing = k .payments;
       money-moved-is-paid = sym (+ℤ-idl (moneyMoved (seenFrom calendar table entries))) ∙ k .moves;
     }
+
+-- of the entries behind a run's lines: `run_listing` writes what this run shows
+pub listing-demand3 : (calendar : Calendar) (bytes : List ℕ) → Demand3 calendar journalTable (entriesOf (length bytes / eventBytes) bytes)
+listing-demand3 calendar bytes = demand3 calendar journalTable (entriesOf (length bytes / eventBytes) bytes)
