@@ -52,3 +52,8 @@ pub mod StepLaws
 pub mod Column
 -- laws for the run of a journal's events
 pub mod ListingLaws
+-- walks by hand of the functions over a lent table
+pub mod TableLaws
+pub mod WalkAgain
+pub mod WalkArray
+pub mod WalkLoop

@@ -24,7 +24,7 @@ use Rattle.book.specs.Step.{Outcome, step}
 use Rattle.book.specs.Run.{run}
 use Rattle.book.specs.Listing.{journalTable, entriesOf, isNegative, lineOf, linesOf, listingOf, listingCauses}
 use Rattle.book.specs.Flat.{tradeAt, tradesTo, capacity, tradesOf, appliedOf}
-use Rattle.book.specs.declared.step.Applied.{Applied}
+use Rattle.book.specs.declared.answer.Applied.{Applied}
 use Rattle.book.proofs.Answers.{numbers, number-passes}
 use Rattle.book.proofs.FlatLaws.{no-trades, length-trades}
 use Rattle.book.proofs.StaysFit.{fresh-is-fit, step-keeps-fit}

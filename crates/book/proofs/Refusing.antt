@@ -9,7 +9,7 @@ use native.Mathlib.Omega.{arith}
 use Rattle.money.specs.Causes.{Cause, firstOf, numberOf}
 use Rattle.money.specs.Days.{Calendar}
 use Rattle.book.specs.Book.{Book, answer}
-use Rattle.book.specs.declared.step.Applied.{Applied}
+use Rattle.book.specs.declared.answer.Applied.{Applied}
 use Rattle.book.specs.Trades.{Trade}
 use Rattle.book.specs.Entry.{Event}
 use Rattle.book.specs.Step.{eventCauses}

@@ -16,7 +16,7 @@ use Rattle.book.specs.Fit.{fit}
 use Rattle.book.specs.Pay.{fails, paidBook, payNumber}
 use Rattle.book.specs.Close.{closeAnswer, closedBook}
 use Rattle.book.specs.Entry.{Event, Entry, Known}
-use Rattle.book.specs.declared.step.Applied.{Applied}
+use Rattle.book.specs.declared.answer.Applied.{Applied}
 use Rattle.book.specs.Step.{Outcome, outcome, unfit, eventCauses, entryCauses, causes, act, actOn, refuseOr, step}
 use Rattle.book.specs.Flat.{appliedBy, paidBy, closedBy, tableBy, appliedOf}
 

@@ -17,7 +17,7 @@ use Rattle.book.proofs.FlatLaws.{length-trades, trade-at}
 -- ---- one store
 
 -- trades with the same six numbers are the same
-same-words : (s t : List ℕ) (i j : ℕ) → ((k : ℕ) → k < 6 → getD s (i * 6 + k) 0 ≡ getD t (j * 6 + k) 0) → tradeAt s i ≡ tradeAt t j
+pub same-words : (s t : List ℕ) (i j : ℕ) → ((k : ℕ) → k < 6 → getD s (i * 6 + k) 0 ≡ getD t (j * 6 + k) 0) → tradeAt s i ≡ tradeAt t j
 unfolding tradeAt
 same-words s t i j h =
     let z : getD s (i * 6) 0 ≡ getD t (j * 6) 0 = simp add-zero at (h 0 (omega arith)) in

@@ -11,7 +11,7 @@ use Rattle.money.specs.Limits.{termLimit}
 use Rattle.money.specs.Units.{sheets, ticks}
 use Rattle.book.specs.Limits.{capacityLimit}
 use Rattle.book.specs.Book.{Book, answer}
-use Rattle.book.specs.declared.step.Applied.{Applied}
+use Rattle.book.specs.declared.answer.Applied.{Applied}
 use Rattle.money.specs.Days.{Calendar}
 use Rattle.book.specs.Pay.{fails, paidBook, payNumber}
 use Rattle.book.specs.Close.{closeAnswer, closedBook}

@@ -1,4 +1,5 @@
 // What a call answers.
+use crate::book::Book;
 use money::units::Sheets;
 
 // The number; of an accepted Close also the sheets matured and the applications done and dropped, of any other 0.
@@ -7,4 +8,10 @@ pub struct Answer {
     pub matured: Sheets,
     pub done: u32,
     pub dropped: u32,
+}
+
+// What an event leaves beside the table.
+pub struct Applied {
+    pub answer: Answer,
+    pub book: Book,
 }

@@ -14,6 +14,7 @@ ghost use Rattle.book.specs.Close.{mayClose, maturedTrades, maturedSheet
 ghost use Rattle.book.specs.Trades.{Trade, outstanding, remaining};
 ghost use Rattle.book.specs.Flat.{tradesOf, closedBy, tableBy, Kept};
 use crate::answer::Answer;
+use crate::answer::Applied;
 use crate::book::Book;
 use crate::book::Cash;
 use crate::book::Nets;
@@ -29,7 +30,6 @@ use crate::packing;
 use crate::redemption;
 use crate::standing;
 use crate::step;
-use crate::step::Applied;
 use crate::trades;
 use crate::vault;
 use money::units::Fen;

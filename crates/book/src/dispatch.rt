@@ -7,6 +7,7 @@ ghost use Rattle.book.specs.Fit.{fit};
 ghost use Rattle.book.specs.Entry.{Known};
 ghost use Rattle.book.specs.Step.{step};
 ghost use Rattle.book.specs.Flat.{tradesOf, appliedOf};
+use crate::answer::Applied;
 use crate::book::Book;
 use crate::close;
 use crate::early;
@@ -22,7 +23,6 @@ use crate::pledge;
 use crate::rate;
 use crate::size;
 use crate::step;
-use crate::step::Applied;
 use crate::withdraw;
 
 // One event on a book that is known to be fit, under a calendar of at most 1,200 words.

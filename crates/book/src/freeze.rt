@@ -5,11 +5,11 @@ ghost use Rattle.money.specs.Causes.{firstOf, numberOf};
 ghost use Rattle.book.specs.Vault.{securityAt, withSecurity, withGuarantee};
 ghost use Rattle.book.specs.Freeze.{freezeCauses, frozen, withFrozen, cashFrozen};
 ghost use Rattle.book.specs.Flat.{appliedBy};
+use crate::answer::Applied;
 use crate::book::Book;
 use crate::book::Guarantee;
 use crate::book::Vault;
 use crate::step;
-use crate::step::Applied;
 use crate::vault;
 use money::units::Fen;
 

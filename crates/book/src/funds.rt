@@ -5,11 +5,11 @@ ghost use Rattle.money.specs.Causes.{firstOf, numberOf};
 ghost use Rattle.book.specs.Fit.{cashFit};
 ghost use Rattle.book.specs.Funds.{holds, withAccount, fundInCauses, fundedIn, fundOutCauses, fundedOut};
 ghost use Rattle.book.specs.Flat.{appliedBy};
+use crate::answer::Applied;
 use crate::book::Book;
 use crate::book::Cash;
 use crate::event::Account;
 use crate::step;
-use crate::step::Applied;
 use money::units::Fen;
 
 fn held(account: Account, cash: Cash) -> u64

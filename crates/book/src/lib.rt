@@ -18,6 +18,9 @@ pub mod listing;
 // What a call answers.
 pub mod answer;
 
+// One event on a book and its lent table of trades.
+pub mod table;
+
 // The core's table: six numbers a trade.
 mod days;
 mod evening;

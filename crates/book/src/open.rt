@@ -9,6 +9,7 @@ ghost use Rattle.book.specs.Days.{following, followed};
 ghost use Rattle.book.specs.Fit.{fit};
 ghost use Rattle.book.specs.Open.{statusAtOpen, turnsTerminated, openedStanding, netWithFallbacks, openCauses, openedBook, openedTable};
 ghost use Rattle.book.specs.Flat.{tradesOf, appliedBy, tableBy};
+use crate::answer::Applied;
 use crate::book::Book;
 use crate::book::FailedRun;
 use crate::book::Nets;
@@ -21,7 +22,6 @@ use crate::nets;
 use crate::redemption;
 use crate::standing;
 use crate::step;
-use crate::step::Applied;
 
 // Art. 69: short of collateral, initial trades are not taken from the next day on, and are again once headroom is not below
 // zero; still short two days later, the permission ends.

@@ -8,6 +8,7 @@ ghost use Rattle.money.specs.Causes.{firstOf, numberOf};
 ghost use Rattle.book.specs.Fit.{netFit, netsFit, cashFit};
 ghost use Rattle.book.specs.Pay.{payerHolds, moved, failedMore, payCauses, paidStanding, paidBook};
 ghost use Rattle.book.specs.Flat.{paidBy};
+use crate::answer::Applied;
 use crate::book::Book;
 use crate::book::Cash;
 use crate::book::FailedRun;
@@ -17,7 +18,6 @@ use crate::book::Standing;
 use crate::nets;
 use crate::standing;
 use crate::step;
-use crate::step::Applied;
 use money::units::Fen;
 
 fn pay_refusal(book: Book) -> u8

@@ -7,12 +7,12 @@ ghost use Rattle.book.specs.Fit.{cashFit, securitiesFit};
 ghost use Rattle.book.specs.Vault.{securityAt, withSecurity, withGuarantee};
 ghost use Rattle.book.specs.Pledge.{pledgeCauses, pledged, arrived, cashArrived};
 ghost use Rattle.book.specs.Flat.{appliedBy};
+use crate::answer::Applied;
 use crate::book::Book;
 use crate::book::Guarantee;
 use crate::book::Vault;
 use crate::standing;
 use crate::step;
-use crate::step::Applied;
 use money::units::Fen;
 
 // The units of a security, effective and arriving together.

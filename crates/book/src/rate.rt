@@ -5,10 +5,10 @@ ghost use Rattle.money.specs.Causes.{firstOf, numberOf};
 ghost use Rattle.book.specs.Rate.{rateCauses, rated, withRate};
 ghost use Rattle.book.specs.Vault.{securityAt, withSecurity};
 ghost use Rattle.book.specs.Flat.{appliedBy};
+use crate::answer::Applied;
 use crate::book::Book;
 use crate::book::Vault;
 use crate::step;
-use crate::step::Applied;
 
 fn rate_refusal(kind: u8, rate: u64) -> u8
     ensures { λ r. ⌜ r ≡ numberOf (firstOf (rateCauses kind rate)) ⌝ }

@@ -3,9 +3,9 @@ ghost use mathlib.Core.Path.{_≡_};
 ghost use Rattle.money.specs.Causes.{firstOf, numberOf};
 ghost use Rattle.book.specs.Size.{sizeCauses, sized};
 ghost use Rattle.book.specs.Flat.{appliedBy, tradesOf, Kept};
+use crate::answer::Applied;
 use crate::book::Book;
 use crate::step;
-use crate::step::Applied;
 use crate::trades;
 use money::units::Sheets;
 

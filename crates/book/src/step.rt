@@ -2,13 +2,9 @@
 ghost use mathlib.Core.Path.{_≡_};
 ghost use Rattle.book.specs.Book.{answer};
 use crate::answer::Answer;
+use crate::answer::Applied;
 use crate::book::Book;
 use money::units::Sheets;
-
-pub struct Applied {
-    pub answer: Answer,
-    pub book: Book,
-}
 
 // An answer that carries its number alone.
 pub fn answered(number: u8, book: Book) -> Applied

@@ -9,11 +9,11 @@ ghost use Rattle.book.specs.Fit.{withdrawalsFit, securitiesFit, cashFit}
 ghost use Rattle.book.specs.Vault.{effectiveOf, frozenOf};
 ghost use Rattle.book.specs.Withdraw.{applied, withdrawCauses, withdrawn};
 ghost use Rattle.book.specs.Flat.{appliedBy};
+use crate::answer::Applied;
 use crate::book::Book;
 use crate::book::Withdrawals;
 use crate::standing;
 use crate::step;
-use crate::step::Applied;
 use crate::vault;
 
 // Whether the units, with those frozen and applied for, are above the effective. The units are tested first: any number may be applied for, and the sum of the three is then below 2^64.
