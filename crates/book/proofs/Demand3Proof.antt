@@ -17,7 +17,7 @@ use Rattle.book.specs.Step.{causes, actOn, refuseOr, step, accepted}
 use Rattle.book.specs.Run.{Seen, see, run, lastBook, lastTable}
 use Rattle.book.specs.Tally.{Tally, blank, tell, tallyOf}
 use Rattle.book.specs.Demand3.{told, isPay, InitialCovered, PaymentRight, All, AllBeside, movedAt, moneyMoved, seenFrom, tallyBeside, Demand3}
-use Rattle.book.specs.Listing.{eventBytes, journalTable, entriesOf}
+use Rattle.book.specs.Listing.{journalTable, entriesIn}
 use Rattle.book.proofs.Signed.{same, diff-parts}
 use Rattle.book.proofs.Answers.{turned-down}
 use Rattle.book.proofs.Accepted.{Clear, all-clear}
@@ -109,5 +109,5 @@ demand3 calendar table entries =
     }
 
 -- of the entries behind a run's lines: `run_listing` writes what this run shows
-pub listing-demand3 : (calendar : Calendar) (bytes : List ℕ) → Demand3 calendar journalTable (entriesOf (length bytes / eventBytes) bytes)
-listing-demand3 calendar bytes = demand3 calendar journalTable (entriesOf (length bytes / eventBytes) bytes)
+pub listing-demand3 : (calendar : Calendar) (bytes : List ℕ) → Demand3 calendar journalTable (entriesIn bytes)
+listing-demand3 calendar bytes = demand3 calendar journalTable (entriesIn bytes)

@@ -50,7 +50,9 @@ pub mod CloseLaws
 pub mod InitialLaws
 pub mod StepLaws
 pub mod Column
--- laws for the run of a journal's events
+-- laws for the run of encoded events
+pub mod LineLaws
+pub mod RunLaws
 pub mod ListingLaws
 -- walks by hand of the functions over a lent table
 pub mod TableLaws

@@ -1,7 +1,7 @@
 -- A refusal's number and the causes that it stands for: 0 where none applies, else the number of the first that does.
 -- For the events, which ask for the number first. Assumes nothing.
 use mathlib.Core.Path.{_≡_, refl, sym, ap, _∙_}
-use mathlib.Core.Bool.{true, not}
+use mathlib.Core.Bool.{Bool, true, false, not}
 use mathlib.Core.List.{List}
 use mathlib.Core.Option.{Option, none, some}
 use Prim.Native.Nat.{ℕ}
@@ -14,23 +14,25 @@ use Rattle.book.specs.Trades.{Trade}
 use Rattle.book.specs.Entry.{Event}
 use Rattle.book.specs.Step.{eventCauses}
 use Rattle.book.specs.Flat.{appliedBy}
-use Rattle.book.proofs.Answers.{event-numbers, number-passes, unused}
+use Rattle.book.proofs.Answers.{numbers, event-numbers, number-passes, unused}
 
 -- a number that is not 0 is a cause's
 pub refused : (o : Option ℕ) (n : ℕ) → n ≡ numberOf o → (n ≡ 0 → ⊥) → o ≡ some n
 refused none n e z = absurd (z e)
 refused (some k) n e z = ap some (sym e)
 
--- 0 is no cause's number
-pub done : (calendar : Calendar) (book : Book) (table : List Trade) (event : Event) (n : ℕ) → n ≡ numberOf (firstOf (eventCauses calendar book table event)) → n ≡ 0 → firstOf (eventCauses calendar book table event) ≡ none
-done calendar book table event n e z = go (firstOf (eventCauses calendar book table event)) refl (sym e ∙ z)
+-- 0 is no cause's number where all pass a test that 0 fails
+pub none-at-0 : (p : ℕ → Bool) (cs : List Cause) (n : ℕ) → p 0 ≡ false → numbers p cs ≡ true → n ≡ numberOf (firstOf cs) → n ≡ 0 → firstOf cs ≡ none
+none-at-0 p cs n fails all e z = go (firstOf cs) refl (sym e ∙ z)
   where
-    go : (o : Option ℕ) → firstOf (eventCauses calendar book table event) ≡ o → numberOf o ≡ 0 → o ≡ none
-    go none m k = refl
+    go : (o : Option ℕ) → firstOf cs ≡ o → numberOf o ≡ 0 → o ≡ none
+    go none m l = refl
     go (some k) m l =
-        let passes = number-passes (λ k. not (unused k)) (eventCauses calendar book table event) k (event-numbers calendar book table event .1) m in
-        let zero : not (unused 0) ≡ true = rw l at passes in
+        let passes : p 0 ≡ true = rw l at (number-passes p cs k all m) in
         let z : _≡_ {A = ℕ} 0 1 = cc in absurd (omega arith)
+
+pub done : (calendar : Calendar) (book : Book) (table : List Trade) (event : Event) (n : ℕ) → n ≡ numberOf (firstOf (eventCauses calendar book table event)) → n ≡ 0 → firstOf (eventCauses calendar book table event) ≡ none
+done calendar book table event n = none-at-0 (λ k. not (unused k)) (eventCauses calendar book table event) n refl (event-numbers calendar book table event .1)
 
 -- ---- what an event gives back: the book as it was where it is turned down, the new one where it is done
 

@@ -1,11 +1,11 @@
 -- An event's contract against the step: on a fit book cause 1 falls away, and what the event gives back is what the step says.
 -- Assumes nothing.
 use mathlib.Core.Path.{_≡_, refl, ap}
-use mathlib.Core.Bool.{true, false, not}
+use mathlib.Core.Bool.{Bool, true, false, not, _||_}
 use mathlib.Core.List.{List}
 use mathlib.Core.Option.{Option, none, some}
-use Prim.Native.Nat.{ℕ, _≤_}
-use borrow.Author.Tests.{le-ltb}
+use Prim.Native.Nat.{ℕ, _≤_, _<_}
+use borrow.Author.Tests.{le-ltb, lt-ltb}
 use lib.ListN.{length}
 use Rattle.money.specs.Causes.{firstOf}
 use Rattle.money.specs.Days.{Calendar}
@@ -21,13 +21,24 @@ use Rattle.book.specs.Step.{Outcome, outcome, unfit, eventCauses, entryC
 use Rattle.book.specs.Flat.{appliedBy, paidBy, closedBy, tableBy, appliedOf}
 
 module _ (calendar : Calendar) (book : Book) (table : List Trade) where
+  -- when cause 1 applies, and when it does not
+  pub too-many-words : 1200 < length calendar → unfit calendar book table ≡ true
+  too-many-words h = rw (lt-ltb 1200 (length calendar) h) (or-true (not (fit calendar book table)))
+    where
+      or-true : (x : Bool) → (x || true) ≡ true
+      or-true true = refl
+      or-true false = refl
+
+  pub not-fit : fit calendar book table ≡ false → unfit calendar book table ≡ true
+  not-fit e = rw e refl
+
+  pub not-unfit : fit calendar book table ≡ true → length calendar ≤ 1200 → unfit calendar book table ≡ false
+  not-unfit fits few = rw (fits, le-ltb 1200 (length calendar) few) refl
+
   -- where the book is fit and the calendar is not too long, the entry's own causes decide
   pub fit-step : fit calendar book table ≡ true → length calendar ≤ 1200 → (entry : Entry) → step calendar book table entry ≡ refuseOr (firstOf (entryCauses calendar book table entry)) book table (actOn calendar book table entry)
   unfolding step causes
-  fit-step fits few entry = ap (λ (o : Option ℕ). refuseOr o book table (actOn calendar book table entry)) (skip 1 _ fine refl)
-    where
-      fine : unfit calendar book table ≡ false
-      fine = rw (fits, le-ltb 1200 (length calendar) few) refl
+  fit-step fits few entry = ap (λ (o : Option ℕ). refuseOr o book table (actOn calendar book table entry)) (skip 1 _ (not-unfit fits few) refl)
 
   -- else the number is 1
   pub unfit-step : unfit calendar book table ≡ true → (entry : Entry) → step calendar book table entry ≡ outcome (answer 1) book table

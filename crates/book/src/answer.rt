@@ -15,3 +15,17 @@ pub struct Applied {
     pub answer: Answer,
     pub book: Book,
 }
+
+// What a run of encoded events leaves beside the table and its lines: 0 and the book after the last event, or the number
+// of what refuses the run and the book as it was.
+pub struct Ran {
+    pub number: u8,
+    pub book: Book,
+}
+
+// Headroom and O of a book: the number, and beside a refusal 0 for both.
+pub struct Cover {
+    pub number: u8,
+    pub headroom: i64,
+    pub outstanding: Sheets,
+}

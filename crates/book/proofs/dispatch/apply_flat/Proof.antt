@@ -1,27 +1,16 @@
-use mathlib.Core.Path.{_≡_, refl, sym, _∙_}
-use mathlib.Core.Bool.{Bool, true, false, not, _||_}
+use mathlib.Core.Path.{refl, sym, _∙_}
 use borrow.Author.Needs.{needs}
-use borrow.Author.Tests.{lt-ltb, not-true, not-false}
-use lib.ListN.{length}
-use Rattle.book.specs.Fit.{fit}
-use Rattle.book.specs.Flat.{tradesOf}
-use Rattle.book.specs.Step.{unfit}
-use Rattle.book.proofs.StepLaws.{unfit-step}
+use borrow.Author.Tests.{not-true, not-false}
+use Rattle.book.proofs.StepLaws.{too-many-words, not-fit, unfit-step}
 use Rattle.book.proofs.dispatch.apply_flat.Statement.{statement}
 use Rattle.book.proofs.dispatch.apply_flat.Tie as tie
-
-or-true : (x : Bool) → (x || true) ≡ true
-or-true true = refl
-or-true false = refl
 
 answered-requires : tie.Need-answered-requires
 answered-requires c κs = search needs
 
 returns : tie.Need-returns
 returns c =
-    let s = c .before .before .before .before .args in
-    let bad : unfit (s .calendar .now) (s .book) (tradesOf (s .table .now)) ≡ true = rw (lt-ltb 1200 (length (s .calendar .now)) (c .before .if1 .taken)) (or-true (not (fit (s .calendar .now) (s .book) (tradesOf (s .table .now))))) in
-    rw (unfit-step _ _ _ bad _) (c .answered .ensures, refl)
+    rw (unfit-step _ _ _ (too-many-words _ _ _ (c .before .if1 .taken)) _) (c .answered .ensures, refl)
 
 is-fit-requires : tie.Need-is-fit-requires
 is-fit-requires c κs = search needs
@@ -34,9 +23,7 @@ same-length c = search needs
 
 returns-2 : tie.Need-returns-2
 returns-2 c =
-    let s = c .before .before .before .before .before .before .before .args in
-    let bad : unfit (s .calendar .now) (s .book) (tradesOf (s .table .now)) ≡ true = rw (sym (c .before .before .is-fit .ensures) ∙ not-true _ (c .before .if2 .taken)) refl in
-    rw (unfit-step _ _ _ bad _) (c .answered2 .ensures, refl)
+    rw (unfit-step _ _ _ (not-fit _ _ _ (sym (c .before .before .is-fit .ensures) ∙ not-true _ (c .before .if2 .taken))) _) (c .answered2 .ensures, refl)
 
 entry-on-requires : tie.Need-entry-on-requires
 entry-on-requires c κs = (sym (c .before .before .is-fit .ensures) ∙ not-false _ (c .before .if2 .left), c .before .before .before .before .if1 .left)

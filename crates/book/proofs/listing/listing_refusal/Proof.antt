@@ -1,6 +1,7 @@
 use borrow.Author.Needs.{needs}
+use borrow.Author.Tests.{le-ltb}
 use Rattle.book.specs.Listing.{listingCauses}
-use Rattle.book.proofs.Column.{column}
+use Rattle.book.proofs.Column.{column, passes}
 use Rattle.book.proofs.listing.listing_refusal.Statement.{statement}
 use Rattle.book.proofs.listing.listing_refusal.Tie as tie
 
@@ -8,24 +9,12 @@ returns : tie.Need-returns
 unfolding listingCauses
 returns c = search column
 
+lengths-refusal-requires : tie.Need-lengths-refusal-requires
+lengths-refusal-requires c κs = search needs
+
 returns-2 : tie.Need-returns-2
 unfolding listingCauses
-returns-2 c = search column
-
-returns-3 : tie.Need-returns-3
-unfolding listingCauses
-returns-3 c = search column
-
-mul-if4 : tie.Need-mul-if4
-mul-if4 c = search needs
-
-returns-4 : tie.Need-returns-4
-unfolding listingCauses
-returns-4 c = search column
-
-returns-5 : tie.Need-returns-5
-unfolding listingCauses
-returns-5 c = search column
+returns-2 c = passes _ _ _ (le-ltb _ _ (c .before .if1 .left)) (c .lengths-refusal .ensures)
 
 pub listing-refusal-spec : {M : Type 1} → statement M
-listing-refusal-spec = tie.close (tie.spec returns returns-2 returns-3 mul-if4 returns-4 returns-5)
+listing-refusal-spec = tie.close (tie.spec returns lengths-refusal-requires returns-2)

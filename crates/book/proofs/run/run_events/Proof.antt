@@ -1,23 +1,20 @@
-use mathlib.Core.Path.{_≡_, sym, ap}
+use mathlib.Core.Path.{_≡_, refl, ap}
 use Prim.Native.Nat.{_+_, _-_, _*_, _/_, _≤_}
 use native.Mathlib.Omega.{arith}
 use borrow.Author.Needs.{needs}
 use lib.ListN.{length, take, drop}
-use Rattle.book.proofs.ListingLaws.{Ran, none-run, next-run, all-run}
-use Rattle.book.proofs.listing.run_events.Statement.{statement}
-use Rattle.book.proofs.listing.run_events.Tie as tie
+use Rattle.book.proofs.RunLaws.{RunTo, none-run, next-run, all-run}
+use Rattle.book.proofs.run.run_events.Statement.{statement}
+use Rattle.book.proofs.run.run_events.Tie as tie
 
 abbrev Inv-loop : tie.InvT-loop
-Inv-loop calendar events table₀ lines₀ count book₀ k₀ table lines book k = Ran calendar events table₀ lines₀ count table lines book k
+Inv-loop calendar table₀ events lines₀ count after₀ k₀ table lines after k = RunTo calendar after₀ events table₀ lines₀ count table lines after k
 
 abbrev μ-loop : tie.MeasureT-loop
-μ-loop calendar events table₀ lines₀ count book₀ k₀ table lines book k = count - k
-
-fresh-requires : tie.Need-fresh-requires Inv-loop μ-loop
-fresh-requires c κs = search needs
+μ-loop calendar table₀ events lines₀ count after₀ k₀ table lines after k = count - k
 
 loop-holds : tie.Need-loop-holds Inv-loop μ-loop
-loop-holds c = none-run _ _ _ _ _ _ (c .fresh .ensures) (c .before .before .before .before .before .pre .1)
+loop-holds c = none-run _ _ _ _ _ _ (c .before .before .before .before .pre .0)
 
 mul-bytes : tie.Need-mul-bytes Inv-loop μ-loop
 mul-bytes c = search needs
@@ -42,12 +39,12 @@ mul-run-event c = search needs
 
 run-event-requires : tie.Need-run-event-requires Inv-loop μ-loop
 run-event-requires c κs =
-    let start = c .before .before .before .before .before .before .before .before .before .before in
+    let start = c .before .before .before .before .before .before .before .before .before in
     let ran = c .before .before .before .before .loop .inv in
-    (ran .fits, start .pre .0, omega (arith, ran .wide, start .pre .2, c .before .before .before .loop-test .taken))
+    (ran .fits, start .pre .1, omega (arith, ran .wide, start .pre .2, c .before .before .before .loop-test .taken))
 
 add-k : tie.Need-add-k Inv-loop μ-loop
-add-k c = omega (arith, c .before .before .before .before .before .before .before .before .loop-test .taken, c .before .before .before .before .before .before .before .before .before .before .before .before .before .before .before .good)
+add-k c = omega (arith, c .before .before .before .before .before .before .before .before .loop-test .taken, c .before .before .before .before .before .before .before .before .before .before .before .before .before .before .good)
 
 loop-less : tie.Need-loop-less Inv-loop μ-loop
 loop-less c = search needs
@@ -55,10 +52,10 @@ loop-less c = search needs
 loop-again : tie.Need-loop-again Inv-loop μ-loop
 loop-again c =
     let here = c .before .before .before .before .before .before .before .before .before in
-    let start = here .before .before .before .before .before .before in
+    let start = here .before .before .before .before .before in
     let called = c .before .before .before .before .run-event in
     let length-40 : 40 ≡ (here .loop .k * 40 + 40) - here .loop .k * 40 = omega arith in
-    next-run _ _ _ _ _ _ _ _ _ (here .loop .inv) (c .before .before .before .before .before .before .before .before .loop-test .taken) (omega (arith, start .pre .2)) _
+    next-run _ _ _ _ _ _ _ _ _ _ (here .loop .inv) (c .before .before .before .before .before .before .before .before .loop-test .taken) (omega (arith, start .pre .2)) _
     (ap (λ n. take n (drop (here .loop .k * 40) (start .args .events .now))) length-40)
     _ _ _ (called .kept .1 .1 .1 .0) (called .ensures .0) (called .ensures .1) (called .ensures .2)
 
@@ -69,7 +66,7 @@ same-length-2 : tie.Need-same-length-2 Inv-loop μ-loop
 same-length-2 c = c .before .loop .inv .wide
 
 returns : tie.Need-returns Inv-loop μ-loop
-returns c = all-run _ _ _ _ _ _ _ _ _ (c .before .loop .inv) (c .loop-test .left) (omega (arith, c .before .before .before .before .before .before .before .pre .2))
+returns c = all-run _ _ _ _ _ _ _ _ _ _ refl (c .before .loop .inv) (c .loop-test .left) (omega (arith, c .before .before .before .before .before .before .pre .2))
 
 pub run-events-spec : {M : Type 1} → statement M
 run-events-spec =
@@ -77,7 +74,6 @@ run-events-spec =
     (tie.spec
     Inv-loop
     μ-loop
-    fresh-requires
     loop-holds
     mul-bytes
     mul-bytes-2

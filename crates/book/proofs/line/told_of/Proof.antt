@@ -6,8 +6,8 @@ use Rattle.book.specs.Vault.{headroom, outstandingOf}
 use Rattle.book.specs.Trades.{outstanding}
 use Rattle.book.proofs.FitParts.{fit-parts, fit-securities}
 use Rattle.book.proofs.FitFacts.{fit-keeps, fit-in-use}
-use Rattle.book.proofs.listing.cover_of.Statement.{statement}
-use Rattle.book.proofs.listing.cover_of.Tie as tie
+use Rattle.book.proofs.line.told_of.Statement.{statement}
+use Rattle.book.proofs.line.told_of.Tie as tie
 
 -- O is counted over the flat table
 counted : (c : tie.After-outstanding-of) → (let s = c .before .before .before .before .args in c .outstanding-of .result ≡ outstandingOf (s .book) (tradesOf (s .table .now)))
@@ -31,6 +31,6 @@ returns c =
     let v = c .before .value-of .ensures in
     (rw (o, v) at (c .headroom-from .ensures .0), rw (o, v) at (c .headroom-from .ensures .1), o)
 
-pub cover-of-spec : {M : Type 1} → statement M
-cover-of-spec =
+pub told-of-spec : {M : Type 1} → statement M
+told-of-spec =
     tie.close (tie.spec outstanding-of-requires value-of-requires headroom-from-requires returns)

@@ -2,9 +2,9 @@ use borrow.Author.Needs.{needs}
 use Prim.Native.Nat.{_+_}
 use native.Mathlib.Omega.{arith}
 use lib.ListN.{length-set}
-use Rattle.book.proofs.ListingLaws.{seven-in-a-row}
-use Rattle.book.proofs.listing.write_line.Statement.{statement}
-use Rattle.book.proofs.listing.write_line.Tie as tie
+use Rattle.book.proofs.LineLaws.{seven-in-a-row}
+use Rattle.book.proofs.line.write_line.Statement.{statement}
+use Rattle.book.proofs.line.write_line.Tie as tie
 
 mul-lines : tie.Need-mul-lines
 mul-lines c = search needs
@@ -75,7 +75,7 @@ same-length c = simp length-set
 returns : tie.Need-returns
 returns c =
     let a = c .before .args in
-    seven-in-a-row (a .lines .now) (a .at) (a .number) (a .cover .headroom .negative) (a .cover .headroom .size) (a .cover .outstanding) (a .cash .own .0) (a .cash .client .0) (a .guarantee .effective .0 + a .guarantee .arriving .0)
+    seven-in-a-row (a .lines .now) (a .at) (a .number) (a .told .headroom .negative) (a .told .headroom .size) (a .told .outstanding) (a .cash .own .0) (a .cash .client .0) (a .guarantee .effective .0 + a .guarantee .arriving .0)
 
 pub write-line-spec : {M : Type 1} → statement M
 write-line-spec =

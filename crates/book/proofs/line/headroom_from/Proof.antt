@@ -1,7 +1,7 @@
 use borrow.Author.Needs.{needs}
-use Rattle.book.proofs.ListingLaws.{negative-below, positive-from}
-use Rattle.book.proofs.listing.headroom_from.Statement.{statement}
-use Rattle.book.proofs.listing.headroom_from.Tie as tie
+use Rattle.book.proofs.LineLaws.{negative-below, positive-from}
+use Rattle.book.proofs.line.headroom_from.Statement.{statement}
+use Rattle.book.proofs.line.headroom_from.Tie as tie
 
 smaller-requires : tie.Need-smaller-requires
 smaller-requires c κs = search needs
