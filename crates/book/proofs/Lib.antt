@@ -51,6 +51,7 @@ pub mod InitialLaws
 pub mod StepLaws
 pub mod Column
 -- laws for the run of encoded events
+pub mod CoverLaws
 pub mod LineLaws
 pub mod RunLaws
 pub mod ListingLaws

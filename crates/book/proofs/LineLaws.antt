@@ -1,28 +1,34 @@
 -- A line of the listing: headroom's sign and size, its seven numbers in a row, and what they tell of an outcome.
 -- For the proofs of line.rt and run.rt. Assumes nothing.
-use mathlib.Core.Path.{_≡_, refl}
+use mathlib.Core.Path.{_≡_, refl, sym}
+use mathlib.Core.Bool.{Bool, true, false, cond, false≢true}
 use mathlib.Core.List.{List, [], _∷_}
 use Prim.Native.Nat.{ℕ, suc, _+_, _-_, _≤_, _<_}
 use native.Mathlib.Numerals.{add-one}
 use native.Mathlib.Omega.{arith}
-use borrow.Author.Tests.{lt-ltb, le-ltb}
-use lib.IntN.{subℕ, natAbs}
+use borrow.Author.Tests.{ltb-true}
+use lib.Dec.{ltb}
+use lib.IntN.{ℤ, pos, negsuc, subℕ, natAbs}
 use lib.ListN.{set}
 use lib.Seq.{sets}
+use lib.Signed.{ltZ}
 use Rattle.book.specs.Trades.{Trade}
-use Rattle.book.specs.Vault.{headroom, outstandingOf}
 use Rattle.book.specs.Step.{Outcome}
+use Rattle.book.specs.Cover.{covered}
 use Rattle.book.specs.Listing.{isNegative, lineOf}
 use Rattle.book.specs.Flat.{appliedOf}
 use Rattle.book.specs.declared.answer.Applied.{Applied}
+use Rattle.book.specs.declared.answer.Cover.{Cover}
 
 -- ---- headroom's sign and size
 
-pub negative-below : (m o : ℕ) → m < o → (1 ≡ isNegative (subℕ m o)) × (o - m ≡ natAbs (subℕ m o))
-negative-below m o h = rw (lt-ltb m o h) (refl, omega arith)
+pub signed-below : (z : ℤ) → ltZ z (pos 0) ≡ true → 1 ≡ isNegative z
+signed-below (pos n) h = absurd (omega (arith, ltb-true n 0 h))
+signed-below (negsuc n) h = refl
 
-pub positive-from : (m o : ℕ) → o ≤ m → (0 ≡ isNegative (subℕ m o)) × (m - o ≡ natAbs (subℕ m o))
-positive-from m o h = rw (le-ltb m o h) (refl, refl)
+pub unsigned-from : (z : ℤ) → ltZ z (pos 0) ≡ false → 0 ≡ isNegative z
+unsigned-from (pos n) h = refl
+unsigned-from (negsuc n) h = absurd (false≢true (sym h))
 
 -- ---- a row of numbers stored
 
@@ -40,8 +46,7 @@ seven-in-a-row l at a b c d e f g =
 -- ---- what a line tells
 
 -- its line, from what the code has of it
-pub line-told : (left : Outcome) (applied : Applied) (table : List Trade) {negative size outstanding : ℕ} → applied ≡ appliedOf left → table ≡ left .table
-    → negative ≡ isNegative (headroom (applied .book) table) → size ≡ natAbs (headroom (applied .book) table) → outstanding ≡ outstandingOf (applied .book) table
-    → (applied .answer .number ∷ negative ∷ size ∷ outstanding ∷ applied .book .cash .own .0 ∷ applied .book .cash .client .0 ∷ (applied .book .vault .guarantee .effective .0 + applied .book .vault .guarantee .arriving .0) ∷ []) ≡ lineOf left
+pub line-told : (left : Outcome) (applied : Applied) (table : List Trade) {cover : Cover} → applied ≡ appliedOf left → table ≡ left .table → cover ≡ covered (applied .book) table
+    → (applied .answer .number ∷ isNegative (cover .headroom) ∷ natAbs (cover .headroom) ∷ cover .outstanding .0 ∷ applied .book .cash .own .0 ∷ applied .book .cash .client .0 ∷ (applied .book .vault .guarantee .effective .0 + applied .book .vault .guarantee .arriving .0) ∷ []) ≡ lineOf left
 unfolding lineOf
-line-told left applied table e t n s o = rw (n, s, o, e, t)
+line-told left applied table e t c = rw (c, e, t)

@@ -7,11 +7,12 @@ use native.Mathlib.Nat.{zero-add}
 use native.Mathlib.Omega.{arith}
 use borrow.Author.Tests.{le-leb, lt-leb, lt-ltb, le-ltb, ltb-true, ltb-false, leb-true, leb-false}
 use lib.Dec.{T, ltb}
-use lib.IntN.{ℤ, pos, negsuc, negℤ, _+ℤ_, _-ℤ_, natAbs, +ℤ-idl}
+use lib.IntN.{ℤ, pos, negsuc, negℤ, _+ℤ_, _-ℤ_, natAbs, subℕ, +ℤ-idl}
 use lib.Signed.{ltZ, nonNeg}
 use mir.Val.{SFits}
 use mir.Syntax.{w64}
 use Rattle.book.specs.Fit.{netFit}
+use Rattle.book.proofs.Signed.{same, sub-parts, diff-parts}
 
 -- ---- the limit
 
@@ -63,6 +64,9 @@ size-of-negative (suc a) = refl
 
 pub zero-less : (z : ℤ) → pos 0 -ℤ z ≡ negℤ z
 zero-less z = +ℤ-idl (negℤ z)
+
+pub plus-negative : (a b : ℕ) → pos a +ℤ negℤ (pos b) ≡ subℕ a b
+plus-negative a b = same _ _ (omega (arith, sub-parts a b, diff-parts (pos a) (pos b)))
 
 -- ---- the sign
 

@@ -19,6 +19,7 @@ pub mod Early
 pub mod Pay
 pub mod Close
 pub mod Step
+pub mod Cover
 pub mod Run
 pub mod Tally
 pub mod Demand3

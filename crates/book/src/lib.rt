@@ -22,6 +22,7 @@ pub mod answer;
 pub mod table;
 
 // The core's table: six numbers a trade.
+mod cover;
 mod days;
 mod evening;
 mod fit;

@@ -1,8 +1,8 @@
-// The two nets: the few places where signed numbers are added and compared.
+// Signed numbers, and the two nets: the few places where they are added and compared.
 ghost use mathlib.Core.Path.{_≡_};
 ghost use mathlib.Core.Bool.{true};
 ghost use Prim.Native.Nat.{_≤_};
-ghost use lib.IntN.{pos, negℤ, natAbs, _+ℤ_, _-ℤ_};
+ghost use lib.IntN.{pos, negℤ, natAbs, subℕ, _+ℤ_, _-ℤ_};
 ghost use lib.Signed.{ltZ};
 ghost use Rattle.book.specs.Fit.{netFit};
 use crate::book::Nets;
@@ -41,6 +41,25 @@ fn negative(amount: u64) -> i64
 {
     let size = signed(amount);
     0 - size
+}
+
+// The difference of two numbers.
+pub fn difference(from: u64, taken: u64) -> i64
+    requires { ⌜ (from ≤ 500000000000000000) × (taken ≤ 500000000000000000) ⌝ }
+    ensures { λ r. ⌜ r ≡ subℕ from taken ⌝ }
+{
+    plus(signed(from), negative(taken))
+}
+
+// A signed number's size.
+pub fn size_of(number: i64) -> u64
+    requires { ⌜ natAbs number ≤ 4000000000000000000 ⌝ }
+    ensures { λ r. ⌜ r ≡ natAbs number ⌝ }
+{
+    if number < 0 {
+        return (0 - number) as u64;
+    }
+    number as u64
 }
 
 pub fn today_fit(nets: Nets) -> bool
@@ -121,9 +140,5 @@ pub fn net_due(nets: Nets) -> u64
     requires { ⌜ netFit (nets .cleared) ≡ true ⌝ }
     ensures { λ r. ⌜ r ≡ natAbs (nets .cleared) ⌝ }
 {
-    let net = nets.cleared;
-    if net < 0 {
-        return (0 - net) as u64;
-    }
-    net as u64
+    size_of(nets.cleared)
 }

@@ -12,6 +12,7 @@ ghost use Rattle.book.specs.Listing.{lineOf, lengthCauses, runDone, runO
 ghost use Rattle.book.specs.Flat.{tradesOf};
 use crate::answer::Ran;
 use crate::book::Book;
+use crate::cover;
 use crate::decode;
 use crate::dispatch;
 use crate::fit;
@@ -49,8 +50,8 @@ fn run_event(
     let answer = applied.answer;
     let after = applied.book;
     let held = after.vault;
-    let told = line::told_of(calendar, after, &*table);
-    line::write_line(lines, at, answer.number, told, after.cash, held.guarantee);
+    let cover = cover::cover_of(calendar, after, &*table);
+    line::write_line(lines, at, answer.number, cover, after.cash, held.guarantee);
     after
 }
 

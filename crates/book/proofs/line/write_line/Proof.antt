@@ -1,10 +1,26 @@
 use borrow.Author.Needs.{needs}
 use Prim.Native.Nat.{_+_}
+use mathlib.Core.Path.{_≡_}
 use native.Mathlib.Omega.{arith}
+use lib.IntN.{natAbs}
+use mir.Val.{toZ, ofZ}
+use mir.Syntax.{w64}
+use mir.ValLaws.{toZ-ofZ}
+use Rattle.book.specs.Listing.{isNegative}
 use lib.ListN.{length-set}
 use Rattle.book.proofs.LineLaws.{seven-in-a-row}
 use Rattle.book.proofs.line.write_line.Statement.{statement}
 use Rattle.book.proofs.line.write_line.Tie as tie
+
+-- headroom as the machine reads it
+read : (c : tie.After-struct-told) → toZ w64 (ofZ w64 (c .before .before .args .cover .headroom)) ≡ c .before .before .args .cover .headroom
+read c = toZ-ofZ w64 (c .before .before .args .cover .headroom) (record { sfits = c .struct-told .given .1 .0 .1 })
+
+sign-of-requires : tie.Need-sign-of-requires
+sign-of-requires c κs = search needs
+
+size-of-requires : tie.Need-size-of-requires
+size-of-requires c κs = rw (read (c .before .before)) (omega (arith, c .before .before .before .before .pre .1))
 
 mul-lines : tie.Need-mul-lines
 mul-lines c = search needs
@@ -74,13 +90,20 @@ same-length c = simp length-set
 
 returns : tie.Need-returns
 returns c =
-    let a = c .before .args in
-    seven-in-a-row (a .lines .now) (a .at) (a .number) (a .told .headroom .negative) (a .told .headroom .size) (a .told .outstanding) (a .cash .own .0) (a .cash .client .0) (a .guarantee .effective .0 + a .guarantee .arriving .0)
+    let sized = c .before in
+    let a = sized .before .before .before .before .before .args in
+    rw (
+      rw (read (sized .before .before .before)) at (sized .before .before .sign-of .ensures),
+      rw (read (sized .before .before .before)) at (sized .size-of .ensures),
+    )
+    (seven-in-a-row (a .lines .now) (a .at) (a .number) (isNegative (a .cover .headroom)) (natAbs (a .cover .headroom)) (a .cover .outstanding .0) (a .cash .own .0) (a .cash .client .0) (a .guarantee .effective .0 + a .guarantee .arriving .0))
 
 pub write-line-spec : {M : Type 1} → statement M
 write-line-spec =
     tie.close
     (tie.spec
+    sign-of-requires
+    size-of-requires
     mul-lines
     slice-write-lines
     add-lines

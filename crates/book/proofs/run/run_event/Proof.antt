@@ -8,6 +8,7 @@ use Rattle.book.specs.Entry.{decoded}
 use Rattle.book.specs.Step.{Outcome, step}
 use Rattle.book.specs.Flat.{tradesOf, appliedOf}
 use Rattle.book.proofs.FitParts.{fit-parts}
+use Rattle.book.proofs.CoverLaws.{headroom-size}
 use Rattle.book.proofs.LineLaws.{line-told}
 use Rattle.book.proofs.RunLaws.{fit-after}
 use Rattle.book.proofs.run.run_event.Statement.{statement}
@@ -33,13 +34,13 @@ decode-requires c κs = search needs
 entry-on-requires : tie.Need-entry-on-requires
 entry-on-requires c κs = search needs
 
-told-of-requires : tie.Need-told-of-requires
-told-of-requires c κs = still-fit (c .before .before .before .before .before .before)
+cover-of-requires : tie.Need-cover-of-requires
+cover-of-requires c κs = still-fit (c .before .before .before .before .before .before)
 
 write-line-requires : tie.Need-write-line-requires
 write-line-requires c κs =
     let called = c .before .before .before .before .before .before .before .before in
-    (called .before .before .before .before .before .before .before .pre .2, omega (arith, fit-parts _ _ _ (still-fit called) .cash .sum))
+    (called .before .before .before .before .before .before .before .pre .2, rw (c .before .cover-of .ensures) (headroom-size _ _ _ (still-fit called)), omega (arith, fit-parts _ _ _ (still-fit called) .cash .sum))
 
 same-length : tie.Need-same-length
 same-length c = search needs
@@ -51,10 +52,10 @@ returns : tie.Need-returns
 returns c =
     let called = c .before .before .before .before .before .before .before .before .before .before .before in
     let s = called .before .before .before .before .before .before .before .args in
-    let told = c .before .before .before .before .told-of .ensures in
+    let cover = c .before .before .before .before .cover-of .ensures in
     let e = applied called in
     let t = tabled called in
-    (ap (λ a. a .book) e, t, c .before .before .write-line .ensures ∙ ap (λ line. sets (s .lines .now) (s .at) line) (line-told _ _ _ e t (told .0) (told .1) (told .2)))
+    (ap (λ a. a .book) e, t, c .before .before .write-line .ensures ∙ ap (λ line. sets (s .lines .now) (s .at) line) (line-told _ _ _ e t cover))
 
 pub run-event-spec : {M : Type 1} → statement M
 run-event-spec =
@@ -62,7 +63,7 @@ run-event-spec =
     (tie.spec
     decode-requires
     entry-on-requires
-    told-of-requires
+    cover-of-requires
     write-line-requires
     same-length
     same-length-2

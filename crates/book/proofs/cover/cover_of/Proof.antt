@@ -1,13 +1,15 @@
 use borrow.Author.Needs.{needs}
 use mathlib.Core.Path.{_≡_, sym, ap, _∙_}
 use native.Mathlib.Omega.{arith}
+use mir.Syntax.{w64}
+use mir.ValLaws.{toZ-ofZ}
 use Rattle.book.specs.Flat.{tradesOf}
 use Rattle.book.specs.Vault.{headroom, outstandingOf}
 use Rattle.book.specs.Trades.{outstanding}
 use Rattle.book.proofs.FitParts.{fit-parts, fit-securities}
 use Rattle.book.proofs.FitFacts.{fit-keeps, fit-in-use}
-use Rattle.book.proofs.line.told_of.Statement.{statement}
-use Rattle.book.proofs.line.told_of.Tie as tie
+use Rattle.book.proofs.cover.cover_of.Statement.{statement}
+use Rattle.book.proofs.cover.cover_of.Tie as tie
 
 -- O is counted over the flat table
 counted : (c : tie.After-outstanding-of) → (let s = c .before .before .before .before .args in c .outstanding-of .result ≡ outstandingOf (s .book) (tradesOf (s .table .now)))
@@ -22,15 +24,18 @@ value-of-requires c κs =
     (fit-securities _ (parts .securities), parts .cash .free, omega (arith, parts .cash .sum))
 
 headroom-from-requires : tie.Need-headroom-from-requires
-headroom-from-requires c κs = search needs
+headroom-from-requires c κs =
+    let o = counted (c .before) in
+    let parts = fit-parts _ _ _ (c .before .before .before .before .before .pre) in
+    (parts .size .within, rw o (omega (arith, parts .size .within, parts .size .covers)))
 
 returns : tie.Need-returns
 unfolding headroom
 returns c =
     let o = counted (c .before .before) in
     let v = c .before .value-of .ensures in
-    (rw (o, v) at (c .headroom-from .ensures .0), rw (o, v) at (c .headroom-from .ensures .1), o)
+    rw (toZ-ofZ w64 (c .headroom-from .result) (record { sfits = c .headroom-from .ok }), rw (o, v) at (c .headroom-from .ensures), o)
 
-pub told-of-spec : {M : Type 1} → statement M
-told-of-spec =
+pub cover-of-spec : {M : Type 1} → statement M
+cover-of-spec =
     tie.close (tie.spec outstanding-of-requires value-of-requires headroom-from-requires returns)
