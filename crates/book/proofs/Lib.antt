@@ -59,4 +59,5 @@ pub mod ListingLaws
 pub mod TableLaws
 pub mod WalkAgain
 pub mod WalkArray
+pub mod WalkCopies
 pub mod WalkLoop

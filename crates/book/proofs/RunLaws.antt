@@ -173,7 +173,7 @@ module _ (calendar : Calendar) (book : Book) (table : List Trade) (bytes buffer 
   left = runOutcome calendar book table bytes buffer
 
   -- nothing is changed beside a number
-  abbrev Refused : ℕ → Type 0
+  abbrev pub Refused : ℕ → Type 0
   Refused n = (record { number = n; book = book } ≡ left .ran) × (table ≡ left .table) × (buffer ≡ left .lines)
 
   refused-by : (n : ℕ) → firstOf (runCauses calendar book table (length bytes) (length buffer)) ≡ some n → Refused n

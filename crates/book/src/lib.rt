@@ -18,10 +18,11 @@ pub mod listing;
 // What a call answers.
 pub mod answer;
 
-// One event on a book and its lent table of trades.
+// A book and its lent table of trades: one event, a run of events, headroom and O.
 pub mod table;
 
 // The core's table: six numbers a trade.
+mod copies;
 mod cover;
 mod days;
 mod evening;

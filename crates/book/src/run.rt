@@ -77,6 +77,12 @@ pub fn run_events(
     after
 }
 
+pub fn refused(number: u8, book: Book) -> Ran
+    ensures { λ r. ⌜ r ≡ record { number = number; book = book } ⌝ }
+{
+    Ran { number, book }
+}
+
 // Any book: 1 where the calendar is too long or the book is not fit, and that is tested once.
 pub fn run_flat(
     calendar: &[u32],
@@ -88,17 +94,14 @@ pub fn run_flat(
     ensures { λ r. ⌜ (r ≡ runOutcome (now (calendar .entry)) book (tradesOf (now (table .entry))) (now (events .entry)) (now (lines .entry)) .ran) × (tradesOf (now (table .exit)) ≡ runOutcome (now (calendar .entry)) book (tradesOf (now (table .entry))) (now (events .entry)) (now (lines .entry)) .table) × (now (lines .exit) ≡ runOutcome (now (calendar .entry)) book (tradesOf (now (table .entry))) (now (events .entry)) (now (lines .entry)) .lines) ⌝ }
 {
     if calendar.len() > 1_200 {
-        return Ran { number: 1, book };
+        return refused(1, book);
     }
     if !fit::is_fit(calendar, book, &*table) {
-        return Ran { number: 1, book };
+        return refused(1, book);
     }
     let refusal = lengths_refusal(events.len(), lines.len());
     if refusal != 0 {
-        return Ran {
-            number: refusal,
-            book,
-        };
+        return refused(refusal, book);
     }
     let after = run_events(calendar, book, table, events, lines);
     Ran {

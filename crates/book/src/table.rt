@@ -1,41 +1,23 @@
-// One event on a book and its lent table: the trades are copied to the core's numbers, the core acts on these, and its trades are copied back.
+// The calls on a book and its lent table: the trades are copied to the core's numbers, the core acts on these, and its trades are
+// copied back. A table of more than 4,096 slots is answered 1 before anything is copied: no book on it is fit.
 ghost use mathlib.Core.Path.{_≡_};
 ghost use Prim.Native.Nat.{_*_, _≤_};
 ghost use lib.ListN.{length};
 ghost use Rattle.book.specs.Step.{step};
+ghost use Rattle.book.specs.Cover.{coverOf};
+ghost use Rattle.book.specs.Listing.{runOutcome};
 ghost use Rattle.book.specs.Flat.{tradesTo, appliedOf};
 use crate::answer::Applied;
+use crate::answer::Cover;
+use crate::answer::Ran;
 use crate::book::Book;
+use crate::copies;
+use crate::cover;
 use crate::dispatch;
 use crate::event::Entry;
-use crate::flat;
+use crate::run;
 use crate::step;
 use crate::trade::Trade;
-
-fn copy_in(table: &[Trade], flat: &mut [u64])
-    requires { ⌜ length (now table) * 6 ≤ length (now flat) ⌝ }
-    ensures { λ _. ⌜ tradesTo (now (flat .exit)) (length (now (table .entry))) ≡ now (table .entry) ⌝ }
-{
-    let n = table.len();
-    let mut place = 0;
-    while place < n {
-        flat::put_trade(flat, place, table[place]);
-        place += 1;
-    }
-}
-
-fn copy_out(flat: &[u64], table: &mut [Trade])
-    requires { ⌜ length (now table) * 6 ≤ length (now flat) ⌝ }
-    ensures { λ _. ⌜ now (table .exit) ≡ tradesTo (now (flat .entry)) (length (now (table .entry))) ⌝ }
-{
-    let n = table.len();
-    let mut place = 0;
-    while place < n {
-        let trade = flat::trade_at(flat, place);
-        table[place] = trade;
-        place += 1;
-    }
-}
 
 // The core on the first `count` trades of a longer row of numbers.
 fn apply_first(
@@ -64,24 +46,101 @@ fn apply_by(
     ensures { λ r. ⌜ (r ≡ appliedOf (step (now (calendar .entry)) book (now (table .entry)) entry)) × (now (table .exit) ≡ step (now (calendar .entry)) book (now (table .entry)) entry .table) ⌝ }
 {
     let n = table.len();
-    copy_in(&*table, flat);
+    copies::copy_in(&*table, flat);
     let applied = apply_first(calendar, book, flat, n, entry);
-    copy_out(&*flat, table);
+    copies::copy_out(&*flat, table);
     applied
 }
 
-// Room for 4,096 trades.
-fn zeros() -> [u64; 24_576] {
-    [0; 24_576]
-}
-
-// One entry on any book and any table: 1 where the table is longer than 4,096, for then no book on it is fit.
+// One entry on any book and any table.
 pub fn apply(calendar: &[u32], book: Book, table: &mut [Trade], entry: Entry) -> Applied
     ensures { λ r. ⌜ (r ≡ appliedOf (step (now (calendar .entry)) book (now (table .entry)) entry)) × (now (table .exit) ≡ step (now (calendar .entry)) book (now (table .entry)) entry .table) ⌝ }
 {
     if table.len() > 4_096 {
         return step::answered(1, book);
     }
-    let mut flat = zeros();
+    let mut flat = copies::zeros();
     apply_by(calendar, book, table, &mut flat, entry)
+}
+
+// The core on the first `count` trades of a longer row of numbers.
+fn cover_first(calendar: &[u32], book: Book, flat: &[u64], count: usize) -> Cover
+    requires { ⌜ count * 6 ≤ length (now flat) ⌝ }
+    ensures { λ r. ⌜ r ≡ coverOf (now (calendar .entry)) book (tradesTo (now (flat .entry)) count) ⌝ }
+{
+    let end = count * 6;
+    cover::cover_flat(calendar, book, &flat[..end])
+}
+
+// By way of lent numbers, whose old content does not matter.
+fn cover_by(calendar: &[u32], book: Book, table: &[Trade], flat: &mut [u64]) -> Cover
+    requires { ⌜ length (now table) * 6 ≤ length (now flat) ⌝ }
+    ensures { λ r. ⌜ r ≡ coverOf (now (calendar .entry)) book (now (table .entry)) ⌝ }
+{
+    let n = table.len();
+    copies::copy_in(table, flat);
+    cover_first(calendar, book, &*flat, n)
+}
+
+// Headroom and O of any book over any table.
+pub fn cover(calendar: &[u32], book: Book, table: &[Trade]) -> Cover
+    ensures { λ r. ⌜ r ≡ coverOf (now (calendar .entry)) book (now (table .entry)) ⌝ }
+{
+    if table.len() > 4_096 {
+        return cover::refused();
+    }
+    let mut flat = copies::zeros();
+    cover_by(calendar, book, table, &mut flat)
+}
+
+// The core on the first `count` trades of a longer row of numbers.
+fn run_first(
+    calendar: &[u32],
+    book: Book,
+    flat: &mut [u64],
+    count: usize,
+    events: &[u8],
+    lines: &mut [u64],
+) -> Ran
+    requires { ⌜ count * 6 ≤ length (now flat) ⌝ }
+    ensures { λ r. ⌜ (r ≡ runOutcome (now (calendar .entry)) book (tradesTo (now (flat .entry)) count) (now (events .entry)) (now (lines .entry)) .ran) × (tradesTo (now (flat .exit)) count ≡ runOutcome (now (calendar .entry)) book (tradesTo (now (flat .entry)) count) (now (events .entry)) (now (lines .entry)) .table) × (now (lines .exit) ≡ runOutcome (now (calendar .entry)) book (tradesTo (now (flat .entry)) count) (now (events .entry)) (now (lines .entry)) .lines) ⌝ }
+{
+    let end = count * 6;
+    run::run_flat(calendar, book, &mut flat[..end], events, lines)
+}
+
+// By way of lent numbers: the table is copied once, not once an event.
+fn run_by(
+    calendar: &[u32],
+    book: Book,
+    table: &mut [Trade],
+    flat: &mut [u64],
+    events: &[u8],
+    lines: &mut [u64],
+) -> Ran
+    requires { ⌜ length (now table) * 6 ≤ length (now flat) ⌝ }
+    ensures { λ r. ⌜ (r ≡ runOutcome (now (calendar .entry)) book (now (table .entry)) (now (events .entry)) (now (lines .entry)) .ran) × (now (table .exit) ≡ runOutcome (now (calendar .entry)) book (now (table .entry)) (now (events .entry)) (now (lines .entry)) .table) × (now (lines .exit) ≡ runOutcome (now (calendar .entry)) book (now (table .entry)) (now (events .entry)) (now (lines .entry)) .lines) ⌝ }
+{
+    let n = table.len();
+    copies::copy_in(&*table, flat);
+    let ran = run_first(calendar, book, flat, n, events, lines);
+    copies::copy_out(&*flat, table);
+    ran
+}
+
+// Encoded events, 40 bytes each, on any book and any table, and a line of seven numbers for each.
+pub fn run(
+    calendar: &[u32],
+    book: Book,
+    table: &mut [Trade],
+    events: &[u8],
+    lines: &mut [u64],
+) -> Ran
+    ensures { λ r. ⌜ (r ≡ runOutcome (now (calendar .entry)) book (now (table .entry)) (now (events .entry)) (now (lines .entry)) .ran) × (now (table .exit) ≡ runOutcome (now (calendar .entry)) book (now (table .entry)) (now (events .entry)) (now (lines .entry)) .table) × (now (lines .exit) ≡ runOutcome (now (calendar .entry)) book (now (table .entry)) (now (events .entry)) (now (lines .entry)) .lines) ⌝ }
+{
+    if table.len() > 4_096 {
+        return run::refused(1, book);
+    }
+    let mut flat = copies::zeros();
+    run_by(calendar, book, table, &mut flat, events, lines)
 }

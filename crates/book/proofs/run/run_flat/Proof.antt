@@ -26,26 +26,41 @@ passed c =
 clear : (c : tie.Else3) → (let s = start (c .before .before) .args in firstOf (lengthCauses (length (s .events .now)) (length (s .lines .now))) ≡ none)
 clear c = lengths-clear _ _ _ (c .before .lengths-refusal .ensures) (c .if3 .left)
 
+refused-requires : tie.Need-refused-requires
+refused-requires c κs = search needs
+
 returns : tie.Need-returns
-returns c = unfit-run _ _ _ _ _ (too-many-words _ _ _ (c .if1 .taken))
+returns c =
+    let told = unfit-run _ _ _ _ _ (too-many-words _ _ _ (c .before .if1 .taken)) in
+    (c .refused .ensures ∙ told .0, told .1, told .2)
 
 is-fit-requires : tie.Need-is-fit-requires
 is-fit-requires c κs = search needs
+
+refused-requires-2 : tie.Need-refused-requires-2
+refused-requires-2 c κs = search needs
 
 same-length : tie.Need-same-length
 same-length c = search needs
 
 returns-2 : tie.Need-returns-2
-returns-2 c = unfit-run _ _ _ _ _ (not-fit _ _ _ (sym (c .before .is-fit .ensures) ∙ not-true _ (c .if2 .taken)))
+returns-2 c =
+    let told = unfit-run _ _ _ _ _ (not-fit _ _ _ (sym (c .before .before .is-fit .ensures) ∙ not-true _ (c .before .if2 .taken))) in
+    (c .refused2 .ensures ∙ told .0, told .1, told .2)
 
 lengths-refusal-requires : tie.Need-lengths-refusal-requires
 lengths-refusal-requires c κs = search needs
+
+refused-requires-3 : tie.Need-refused-requires-3
+refused-requires-3 c κs = search needs
 
 same-length-2 : tie.Need-same-length-2
 same-length-2 c = search needs
 
 returns-3 : tie.Need-returns-3
-returns-3 c = bad-lengths _ _ _ _ _ (passed (c .before .before) .1) _ (c .before .lengths-refusal .ensures) (c .if3 .taken)
+returns-3 c =
+    let told = bad-lengths _ _ _ _ _ (passed (c .before .before .before) .1) _ (c .before .before .lengths-refusal .ensures) (c .before .if3 .taken) in
+    (c .refused3 .ensures ∙ told .0, told .1, told .2)
 
 run-events-requires : tie.Need-run-events-requires
 run-events-requires c κs =
@@ -69,11 +84,14 @@ pub run-flat-spec : {M : Type 1} → statement M
 run-flat-spec =
     tie.close
     (tie.spec
+    refused-requires
     returns
     is-fit-requires
+    refused-requires-2
     same-length
     returns-2
     lengths-refusal-requires
+    refused-requires-3
     same-length-2
     returns-3
     run-events-requires

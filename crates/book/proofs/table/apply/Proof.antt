@@ -62,10 +62,10 @@ use Rattle.book.proofs.step.answered as answered
 use Rattle.book.proofs.step.answered.Symbol as answered-def
 use Rattle.book.proofs.step.answered.Symbol.{name as #answered}
 use Rattle.book.proofs.step.answered.Met as answered-thm
-use Rattle.book.proofs.table.zeros as zeros
-use Rattle.book.proofs.table.zeros.Symbol as zeros-def
-use Rattle.book.proofs.table.zeros.Symbol.{name as #zeros}
-use Rattle.book.proofs.table.zeros.Met as zeros-thm
+use Rattle.book.proofs.copies.zeros as zeros
+use Rattle.book.proofs.copies.zeros.Symbol as zeros-def
+use Rattle.book.proofs.copies.zeros.Symbol.{name as #zeros}
+use Rattle.book.proofs.copies.zeros.Met as zeros-thm
 use Rattle.book.proofs.table.apply_by as apply-by
 use Rattle.book.proofs.table.apply_by.Symbol as apply-by-def
 use Rattle.book.proofs.table.apply_by.Symbol.{name as #apply-by}
@@ -343,5 +343,5 @@ apply-spec 𝓤 H 𝓜 𝓖 𝓡 =
     (tables 𝓤 H 𝓜 𝓡 code.env .C) (tables 𝓤 H 𝓜 𝓡 code.env .Λ) #apply code.function (code.unfolded 𝓤 H 𝓜 𝓡)
     (apply-meets 𝓤 H (𝓖 .A) (givenOf 𝓤 H 𝓜 𝓖) (𝓜 .mem) (𝓡 .run) (tablesOf 𝓤 H 𝓜 (tables 𝓤 H 𝓜 𝓡 code.env))
     (cited 𝓤 H (Answered 𝓤 H (𝓖 .A) (𝓜 .mem) (𝓡 .run)) 𝓜 𝓡 code.env #answered answered-def.routine code.calls-book·step·answered (answered-thm.met 𝓤 H 𝓜 𝓖 𝓡))
-    (cited 𝓤 H (Zeros 𝓤 H (𝓖 .A) (𝓜 .mem) (𝓡 .run)) 𝓜 𝓡 code.env #zeros zeros-def.routine code.calls-book·table·zeros (zeros-thm.met 𝓤 H 𝓜 𝓖 𝓡))
+    (cited 𝓤 H (Zeros 𝓤 H (𝓖 .A) (𝓜 .mem) (𝓡 .run)) 𝓜 𝓡 code.env #zeros zeros-def.routine code.calls-book·copies·zeros (zeros-thm.met 𝓤 H 𝓜 𝓖 𝓡))
     (cited 𝓤 H (By 𝓤 H (𝓖 .A) (𝓜 .mem) (𝓡 .run)) 𝓜 𝓡 code.env #apply-by apply-by-def.routine code.calls-book·table·apply-by (apply-by-thm.met 𝓤 H 𝓜 𝓖 𝓡)))

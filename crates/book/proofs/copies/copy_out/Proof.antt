@@ -56,11 +56,11 @@ use Rattle.book.proofs.flat.trade_at as trade-at
 use Rattle.book.proofs.flat.trade_at.Symbol as trade-at-def
 use Rattle.book.proofs.flat.trade_at.Symbol.{name as #trade-at}
 use Rattle.book.proofs.flat.trade_at.Met as trade-at-thm
-use Rattle.book.proofs.table.copy_out.Key.{name as #copy-out}
-use Rattle.book.proofs.table.copy_out as copy-out
-use Rattle.book.proofs.table.copy_out.Statement as stated
-use Rattle.book.proofs.table.copy_out.Code as code
-use Rattle.book.proofs.table.copy_out.Code.Mir as mirs
+use Rattle.book.proofs.copies.copy_out.Key.{name as #copy-out}
+use Rattle.book.proofs.copies.copy_out as copy-out
+use Rattle.book.proofs.copies.copy_out.Statement as stated
+use Rattle.book.proofs.copies.copy_out.Code as code
+use Rattle.book.proofs.copies.copy_out.Code.Mir as mirs
 
 abbrev stayed : Stays (copy-out.ended .signature .params) (copy-out.ended .kept)
 stayed = (stay-none-slice (0 ∷ []) tt (plain (λ _. u64)) yes, (stay-slice (1 ∷ []) tt (plain (λ _. T.the-row)), tt))

@@ -54,11 +54,11 @@ use Rattle.book.proofs.flat.put_trade as put-trade
 use Rattle.book.proofs.flat.put_trade.Symbol as put-trade-def
 use Rattle.book.proofs.flat.put_trade.Symbol.{name as #put-trade}
 use Rattle.book.proofs.flat.put_trade.Met as put-trade-thm
-use Rattle.book.proofs.table.copy_in.Key.{name as #copy-in}
-use Rattle.book.proofs.table.copy_in as copy-in
-use Rattle.book.proofs.table.copy_in.Statement as stated
-use Rattle.book.proofs.table.copy_in.Code as code
-use Rattle.book.proofs.table.copy_in.Code.Mir as mirs
+use Rattle.book.proofs.copies.copy_in.Key.{name as #copy-in}
+use Rattle.book.proofs.copies.copy_in as copy-in
+use Rattle.book.proofs.copies.copy_in.Statement as stated
+use Rattle.book.proofs.copies.copy_in.Code as code
+use Rattle.book.proofs.copies.copy_in.Code.Mir as mirs
 
 abbrev stayed : Stays (copy-in.ended .signature .params) (copy-in.ended .kept)
 stayed = (stay-none-slice (0 ∷ []) tt (plain (λ _. T.the-row)) yes, (stay-slice (1 ∷ []) tt (plain (λ _. u64)), tt))

@@ -1,0 +1,37 @@
+// The lent table's trades as the core's numbers, and back: the two loops over a slice of trades.
+ghost use mathlib.Core.Path.{_≡_};
+ghost use Prim.Native.Nat.{_*_, _≤_};
+ghost use lib.ListN.{length};
+ghost use Rattle.book.specs.Flat.{tradesTo};
+use crate::flat;
+use crate::trade::Trade;
+
+// Room for 4,096 trades.
+pub fn zeros() -> [u64; 24_576] {
+    [0; 24_576]
+}
+
+pub fn copy_in(table: &[Trade], flat: &mut [u64])
+    requires { ⌜ length (now table) * 6 ≤ length (now flat) ⌝ }
+    ensures { λ _. ⌜ tradesTo (now (flat .exit)) (length (now (table .entry))) ≡ now (table .entry) ⌝ }
+{
+    let n = table.len();
+    let mut place = 0;
+    while place < n {
+        flat::put_trade(flat, place, table[place]);
+        place += 1;
+    }
+}
+
+pub fn copy_out(flat: &[u64], table: &mut [Trade])
+    requires { ⌜ length (now table) * 6 ≤ length (now flat) ⌝ }
+    ensures { λ _. ⌜ now (table .exit) ≡ tradesTo (now (flat .entry)) (length (now (table .entry))) ⌝ }
+{
+    let n = table.len();
+    let mut place = 0;
+    while place < n {
+        let trade = flat::trade_at(flat, place);
+        table[place] = trade;
+        place += 1;
+    }
+}
