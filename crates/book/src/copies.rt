@@ -28,10 +28,10 @@ pub fn copy_out(flat: &[u64], table: &mut [Trade])
     ensures { λ _. ⌜ now (table .exit) ≡ tradesTo (now (flat .entry)) (length (now (table .entry))) ⌝ }
 {
     let n = table.len();
-    let mut place = 0;
-    while place < n {
-        let trade = flat::trade_at(flat, place);
-        table[place] = trade;
-        place += 1;
+    let mut slot = 0;
+    while slot < n {
+        let trade = flat::trade_at(flat, slot);
+        table[slot] = trade;
+        slot += 1;
     }
 }
