@@ -14,6 +14,5 @@ pub mod generator;
 pub mod journal;
 pub mod limits;
 pub mod money;
-pub mod proved;
 pub mod step;
 pub mod tally;

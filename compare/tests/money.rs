@@ -1,7 +1,8 @@
 //! Days and money: the proved calls against the model and, for the rules that
 //! are a formula or a walk, against the plainest form of them.
 
-use model::{money, proved};
+use compare::proved;
+use model::money;
 
 /// A plain generator of test numbers.
 struct Draw(u64);
@@ -49,7 +50,8 @@ fn redemption_amounts() {
     let mut draw = Draw(2);
     let mut counts = [0; 32];
     for _ in 0..300_000 {
-        let (q, price, days) = (draw.around(100_000_000), draw.around(100_000) as u32, draw.around(38_400) as u32);
+        let (q, price, days) =
+            (draw.around(100_000_000), draw.around(100_000) as u32, draw.around(38_400) as u32);
         let got = proved::redemption(q, price, days);
         assert_eq!(got, money::redemption(q, price.into(), days.into()), "{q} {price} {days}");
         counts[got.0 as usize] += 1;
@@ -57,7 +59,9 @@ fn redemption_amounts() {
             // half upward, in one go: twice the income, less 1, lies below twice the quotient plus 1
             let exact = u128::from(q) * u128::from(price) * u128::from(days);
             let income = u128::from(got.1) - 10_000 * u128::from(q);
-            assert!(2 * exact >= (2 * income).saturating_sub(1) * 3_650 && 2 * exact < (2 * income + 1) * 3_650);
+            assert!(
+                2 * exact >= (2 * income).saturating_sub(1) * 3_650 && 2 * exact < (2 * income + 1) * 3_650
+            );
         }
     }
     met(&counts, &[0, 14]);
@@ -82,7 +86,11 @@ fn kind_values() {
         };
         let rate = draw.around(20_000);
         let got = proved::kind_value(kind, effective, frozen, rate);
-        assert_eq!(got, money::kind_value(kind.into(), effective, frozen, rate), "{kind} {effective} {frozen} {rate}");
+        assert_eq!(
+            got,
+            money::kind_value(kind.into(), effective, frozen, rate),
+            "{kind} {effective} {frozen} {rate}"
+        );
         counts[got.0 as usize] += 1;
     }
     met(&counts, &[0, 3, 13, 14]);

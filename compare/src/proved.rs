@@ -1,6 +1,9 @@
 //! The proved calls of the archive, each behind a safe function. The
 //! declarations repeat `crates/exports`; nothing checks one against the other.
 
+use model::event::EVENT_BYTES;
+use model::journal::Line;
+
 #[repr(C)]
 #[derive(Clone, Copy)]
 struct Fen(u64);
@@ -84,17 +87,6 @@ fn beside(found: Found) -> (u32, u32) {
     (found.number.into(), found.day)
 }
 
-/// What the proved run tells of one event.
-#[derive(Clone, Copy, Debug, PartialEq, Eq)]
-pub struct Line {
-    pub answer: u32,
-    pub headroom: i64,
-    pub outstanding: u64,
-    pub own: u64,
-    pub client: u64,
-    pub guarantee: u64,
-}
-
 /// Numbers that the run writes for one event.
 const LINE_NUMBERS: usize = 7;
 
@@ -114,7 +106,7 @@ pub fn run_into(calendar: &[u32], events: &[u8], lines: &mut [u64]) -> u8 {
 
 /// The run of encoded events on a fresh book, event by event, or its refusal.
 pub fn run_listing(calendar: &[u32], events: &[u8]) -> Result<Vec<Line>, u8> {
-    let mut lines = vec![0; LINE_NUMBERS * (events.len() / 40)];
+    let mut lines = vec![0; LINE_NUMBERS * (events.len() / EVENT_BYTES)];
     match run_into(calendar, events, &mut lines) {
         0 => Ok(lines.chunks(LINE_NUMBERS).map(line).collect()),
         number => Err(number),
