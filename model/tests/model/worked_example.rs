@@ -1,8 +1,11 @@
-//! The sixteen events of document 01, to the byte.
+//! The sixteen events of document 01, to the byte, and the files of `examples/`.
 
 use crate::ledger::{trade, FIRST_DAY, WORKED_CALENDAR};
 use model::event::Event;
-use model::journal;
+use model::{journal, text};
+
+const TEXT: &str = include_str!("../../../examples/worked.txt");
+const JOURNAL: &[u8] = include_bytes!("../../../examples/worked.journal");
 
 const LISTING: &str = "\
 1 0 0 0 0 0 0
@@ -37,7 +40,13 @@ fn the_worked_example_is_listed_to_the_byte() {
     ];
     let events: Vec<_> = FIRST_DAY.iter().chain(&later_days).map(Event::encode).collect();
     assert_eq!(events.len(), 16);
-    assert_eq!(journal::listing(&journal::write(&WORKED_CALENDAR, &events)), LISTING);
+    assert_eq!(journal::write(&WORKED_CALENDAR, &events), JOURNAL);
+    assert_eq!(journal::listing(JOURNAL), LISTING);
+}
+
+#[test]
+fn the_text_of_the_worked_example_makes_its_bytes() {
+    assert_eq!(text::make(TEXT).as_deref(), Ok(JOURNAL));
 }
 
 #[test]
