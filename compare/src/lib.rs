@@ -4,3 +4,10 @@
 
 pub mod corpus;
 pub mod proved;
+#[cfg(not(feature = "journal"))]
+pub mod stand_in;
+
+#[cfg(feature = "journal")]
+pub use proved::write_listing;
+#[cfg(not(feature = "journal"))]
+pub use stand_in::write_listing;

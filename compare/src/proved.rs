@@ -29,6 +29,12 @@ struct Found {
     number: u8,
     day: u32,
 }
+#[cfg(feature = "journal")]
+#[repr(C)]
+struct Written {
+    number: u8,
+    length: usize,
+}
 
 // A lent slice is its pointer and its length.
 extern "C" {
@@ -47,6 +53,8 @@ extern "C" {
         lines: *mut u64,
         room: usize,
     ) -> u8;
+    #[cfg(feature = "journal")]
+    fn journal_write_listing(journal: *const u8, bytes: usize, text: *mut u8, room: usize) -> Written;
 }
 
 /// The amount of an initial trade, beside its number.
@@ -123,4 +131,12 @@ fn line(numbers: &[u64]) -> Line {
         client: numbers[5],
         guarantee: numbers[6],
     }
+}
+
+/// The listing of a journal, into a lent buffer: the number and the listing's length.
+#[cfg(feature = "journal")]
+pub fn write_listing(journal: &[u8], text: &mut [u8]) -> (u8, usize) {
+    let written =
+        unsafe { journal_write_listing(journal.as_ptr(), journal.len(), text.as_mut_ptr(), text.len()) };
+    (written.number, written.length)
 }
