@@ -96,7 +96,7 @@ fn beside(found: Found) -> (u32, u32) {
 }
 
 /// Numbers that the run writes for one event.
-const LINE_NUMBERS: usize = 7;
+pub const LINE_NUMBERS: usize = 7;
 
 /// The run of encoded events on a fresh book, into a lent buffer: the number.
 pub fn run_into(calendar: &[u32], events: &[u8], lines: &mut [u64]) -> u8 {

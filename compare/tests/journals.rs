@@ -1,11 +1,11 @@
 //! The listing of a journal by the proved call against the model's, byte for
 //! byte, for journals of every sort, damaged ones included.
 
-use compare::{corpus, write_listing};
+use compare::{judge, write_listing};
 use model::coverage::Coverage;
 use model::event::{Event, EVENT_BYTES};
 use model::generator::random::Random;
-use model::generator::{generate, generate_as, Profile};
+use model::generator::{corpus, generate, generate_as, Profile};
 use model::journal::{listing, parse, write, JOURNAL_REFUSED};
 
 /// More than 1,500 lines need: a line has at most 87 characters.
@@ -44,7 +44,7 @@ fn generated_journals_are_listed_alike_and_meet_every_allowed_answer() {
     let mut lister = Lister::new();
     let mut coverage = Coverage::default();
     let (mut journals, mut refused) = (0, 0);
-    for (name, bytes) in corpus::journals(20_000..40_000) {
+    for (name, bytes) in corpus(20_000..40_000) {
         let listing = lister.agreed(&name, &bytes);
         journals += 1;
         match parse(&bytes) {
@@ -53,7 +53,7 @@ fn generated_journals_are_listed_alike_and_meet_every_allowed_answer() {
         }
     }
     assert!(journals >= 20_000 && refused >= 1_000);
-    corpus::judge(&format!("{journals} journals listed, {refused} of them malformed"), &coverage);
+    judge(&format!("{journals} journals listed, {refused} of them malformed"), &coverage);
 }
 
 /// Small journals for the tests that take many forms of each.

@@ -1,10 +1,10 @@
 //! The proved run of a journal's events against the model's, number by number:
 //! answer, headroom, O, own, client and guarantee cash after every event.
 
-use compare::{corpus, proved};
+use compare::{judge, proved};
 use model::coverage::Coverage;
 use model::event::EVENT_BYTES;
-use model::generator::{generate_as, Profile};
+use model::generator::{corpus, generate_as, Profile};
 use model::journal::{parse, run_fresh, Journal, Line};
 
 /// What the model says of each event.
@@ -25,7 +25,7 @@ fn proved_lines(calendar: &[u32], events: &[[u8; EVENT_BYTES]]) -> Vec<Line> {
 fn generated_journals_agree_and_meet_every_allowed_answer() {
     let mut coverage = Coverage::default();
     let mut events = 0;
-    for (name, bytes) in corpus::journals(0..20_000) {
+    for (name, bytes) in corpus(0..20_000) {
         let Ok(journal) = parse(&bytes) else { continue };
         let wanted = expected(&journal, &mut coverage);
         let got = proved_lines(&journal.calendar, journal.events);
@@ -35,7 +35,7 @@ fn generated_journals_agree_and_meet_every_allowed_answer() {
         assert_eq!(got.len(), wanted.len(), "{name}");
         events += got.len();
     }
-    corpus::judge(&format!("{events} events run"), &coverage);
+    judge(&format!("{events} events run"), &coverage);
 }
 
 #[test]

@@ -3,7 +3,7 @@
 
 use model::event::{Account, Event, Terms, EVENT_BYTES};
 use model::generator::random::Random;
-use model::generator::{generate, generate_as, Profile};
+use model::generator::{corpus, generate_as, Profile};
 use model::journal::{parse, write};
 use model::text::{decode, make, show, Error, Problem};
 
@@ -191,15 +191,12 @@ fn bytes_that_are_no_text_are_named_by_line() {
 /// Undecodable events, limits of every field and odd calendars are among them.
 #[test]
 fn every_generated_journal_is_shown_and_made_again() {
-    let mixed = (0..2_000).map(generate);
-    let by_profile =
-        Profile::ALL.into_iter().flat_map(|profile| (0..20).map(move |seed| generate_as(profile, seed)));
     let mut well_formed = 0;
-    for bytes in mixed.chain(by_profile) {
+    for (name, bytes) in corpus(0..2_000) {
         let Ok(journal) = parse(&bytes) else { continue };
         let text = show(&journal);
         let again = make(&text);
-        assert!(again.as_ref() == Ok(&bytes), "{text}\n{:?}", again.err());
+        assert!(again.as_ref() == Ok(&bytes), "{name}: {:?}\n{text}", again.err());
         well_formed += 1;
     }
     assert!(well_formed > 1_500);

@@ -5,6 +5,7 @@ use model::event::Event;
 use model::{journal, text};
 
 const TEXT: &str = include_str!("../../../examples/worked.txt");
+const README: &str = include_str!("../../../README.md");
 const JOURNAL: &[u8] = include_bytes!("../../../examples/worked.journal");
 
 const LISTING: &str = "\
@@ -47,6 +48,15 @@ fn the_worked_example_is_listed_to_the_byte() {
 #[test]
 fn the_text_of_the_worked_example_makes_its_bytes() {
     assert_eq!(text::make(TEXT).as_deref(), Ok(JOURNAL));
+}
+
+/// From the calendar on, as far as lines are indented or empty.
+#[test]
+fn the_readme_shows_the_worked_example() {
+    let from_calendar = README.lines().skip_while(|line| !line.starts_with("    calendar"));
+    let block: Vec<&str> =
+        from_calendar.take_while(|line| line.is_empty() || line.starts_with("    ")).collect();
+    assert_eq!(text::make(&block.join("\n")).as_deref(), Ok(JOURNAL));
 }
 
 #[test]
