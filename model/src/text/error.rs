@@ -68,7 +68,7 @@ impl fmt::Display for Problem {
                 write!(f, "{name} needs {what}, found `{found}`")
             }
             Problem::PastMost { what, found, most } => write!(f, "{what} is at most {most}, found {found}"),
-            Problem::LeftOver { name, found } => write!(f, "{name} ends before `{found}`"),
+            Problem::LeftOver { name, found } => write!(f, "{name} takes nothing more, found `{found}`"),
             Problem::DigitCount(digits) => write!(f, "bytes needs 80 hexadecimal digits, found {digits}"),
             Problem::NotRising { day, last } => write!(f, "days rise, but {day} stands after {last}"),
             Problem::TwoForms => write!(f, "a calendar is given in words or in days, not in both"),
