@@ -10,9 +10,9 @@ use compare::proved;
 use loads::Load;
 use model::journal::run_fresh;
 
-const ROUNDS: usize = 41;
+const ROUNDS: usize = 401;
 /// A round repeats a call for about this long.
-const ROUND: Duration = Duration::from_millis(8);
+const ROUND: Duration = Duration::from_millis(1);
 
 fn main() {
     let named: Vec<String> = std::env::args().skip(1).collect();
