@@ -5,7 +5,7 @@ use model::journal::{parse, JOURNAL_REFUSED};
 
 use crate::proved;
 
-/// The paper gives no number to a buffer that is too short.
+/// "a limit would be passed"
 const TOO_SHORT: u8 = 14;
 
 /// The listing of a journal, into a lent buffer: the number and the listing's length.

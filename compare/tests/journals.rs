@@ -132,7 +132,7 @@ fn journals_with_a_bit_turned_are_listed_alike() {
     }
 }
 
-/// Another number, length 0, and the buffer as it was.
+/// 14, "a limit would be passed", length 0, and the buffer as it was.
 #[test]
 fn a_buffer_too_short_is_refused_and_left_alone() {
     let malformed = ("malformed".to_string(), vec![1]);
@@ -140,8 +140,7 @@ fn a_buffer_too_short_is_refused_and_left_alone() {
         let length = listing(&bytes).len();
         for room in (0..length).rev().step_by(1 + length / 500) {
             let mut buffer = vec![UNWRITTEN; room];
-            let (number, written) = write_listing(&bytes, &mut buffer);
-            assert!(number != 0 && written == 0, "{name}, {room} of {length} bytes");
+            assert_eq!(write_listing(&bytes, &mut buffer), (14, 0), "{name}, {room} of {length} bytes");
             assert!(buffer.iter().all(|&byte| byte == UNWRITTEN), "{name}, {room} of {length} bytes");
         }
     }
