@@ -3,10 +3,8 @@
 
 use std::time::Instant;
 
-use model::book::{Book, Trade};
 use model::coverage::Coverage;
-use model::limits::JOURNAL_CAPACITY;
-use model::{generator, journal, step};
+use model::{generator, journal};
 
 fn main() {
     let count = std::env::args().nth(1).map_or(1_000, |count| count.parse().expect("a count of journals"));
@@ -23,13 +21,12 @@ fn main() {
     let parsed = journals.iter().filter_map(|bytes| journal::parse(bytes).ok());
     let mut events = 0;
     for journal in parsed {
-        let (mut book, mut table) = (Book::fresh(), vec![Trade::default(); JOURNAL_CAPACITY]);
         events += journal.events.len();
-        step::run(&journal.calendar, &mut book, &mut table, journal.events, |event, answer, _, _| {
-            coverage.record(event, answer.number);
+        journal::run_fresh(&journal.calendar, journal.events, |event, line| {
+            coverage.record(event, line.answer);
         });
     }
-    println!("ran {events} events, without a listing, in {:?}", start.elapsed());
+    println!("ran {events} events, without a listing's text, in {:?}", start.elapsed());
     println!("{coverage}");
     println!("never met: {:?}", coverage.missing());
     println!("not allowed, but met: {:?}", coverage.unexpected());

@@ -82,6 +82,14 @@ impl Coverage {
         }
     }
 
+    /// Each event with the answer on its line of the listing.
+    pub fn record_listing(&mut self, events: &[[u8; EVENT_BYTES]], listing: &str) {
+        for (event, line) in events.iter().zip(listing.lines()) {
+            let answer = line.split(' ').nth(1).and_then(|number| number.parse().ok());
+            self.record(event, answer.expect("a line has its answer in second place"));
+        }
+    }
+
     pub fn count(&self, code: u8, number: u32) -> u64 {
         column(number).map_or(0, |column| self.counts[usize::from(code)][column])
     }

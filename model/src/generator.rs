@@ -18,6 +18,7 @@ use calendars::{calendar, Sort};
 use draft::Draft;
 use life::Habits;
 use random::Random;
+use std::ops::Range;
 
 use crate::journal;
 
@@ -61,29 +62,18 @@ impl Profile {
 
     /// The profile of a seed: the cheap and telling ones more often.
     pub fn of(seed: u64) -> Profile {
-        const CYCLE: [Profile; 20] = [
-            Profile::Healthy,
-            Profile::Troubled,
-            Profile::Careless,
-            Profile::ThinCalendar,
-            Profile::Doomed,
-            Profile::Damaged,
-            Profile::Limits,
-            Profile::Troubled,
-            Profile::ManyApplications,
-            Profile::Healthy,
-            Profile::Troubled,
-            Profile::Careless,
-            Profile::ThinCalendar,
-            Profile::Doomed,
-            Profile::Damaged,
-            Profile::Limits,
-            Profile::Troubled,
-            Profile::EmptyCalendar,
-            Profile::FullTable,
-            Profile::Doomed,
-        ];
-        CYCLE[(seed % CYCLE.len() as u64) as usize]
+        match seed % 20 {
+            0 | 9 => Profile::Healthy,
+            1 | 7 | 10 | 16 => Profile::Troubled,
+            2 | 11 => Profile::Careless,
+            3 | 12 => Profile::ThinCalendar,
+            4 | 13 | 19 => Profile::Doomed,
+            5 | 14 => Profile::Damaged,
+            6 | 15 => Profile::Limits,
+            8 => Profile::ManyApplications,
+            17 => Profile::EmptyCalendar,
+            _ => Profile::FullTable,
+        }
     }
 
     fn calendar_sort(self, random: &mut Random) -> Sort {
@@ -128,6 +118,17 @@ impl Profile {
             Profile::FullTable | Profile::ManyApplications | Profile::ThinCalendar => usual,
         }
     }
+}
+
+/// Journals, each with a name to find it by: one for each seed, and then some
+/// of each profile.
+pub fn corpus(seeds: Range<u64>) -> impl Iterator<Item = (String, Vec<u8>)> {
+    let some = seeds.start..seeds.start + 40;
+    let mixed = seeds.map(|seed| (format!("seed {seed}"), generate(seed)));
+    let by_profile = Profile::ALL.into_iter().flat_map(move |profile| {
+        some.clone().map(move |seed| (format!("{profile:?} {seed}"), generate_as(profile, seed)))
+    });
+    mixed.chain(by_profile)
 }
 
 /// The journal of a seed, as bytes.

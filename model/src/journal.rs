@@ -1,8 +1,8 @@
 //! The journal: its two sections, and the listing that `daybook` prints.
 
-use std::fmt::Write;
+use std::fmt::{self, Write};
 
-use crate::answer::Refusal;
+use crate::answer::{Answer, Refusal};
 use crate::book::{Book, Trade};
 use crate::event::EVENT_BYTES;
 use crate::limits::{CALENDAR_WORDS, JOURNAL_CAPACITY, JOURNAL_EVENTS};
@@ -35,19 +35,60 @@ pub fn listing(bytes: &[u8]) -> String {
 }
 
 fn list(journal: &Journal) -> String {
-    let mut book = Book::fresh();
-    let mut table = vec![Trade::default(); JOURNAL_CAPACITY];
     let mut text = String::with_capacity(64 * journal.events.len());
     let mut place = 0;
-    run(&journal.calendar, &mut book, &mut table, journal.events, |_, answer, book, table| {
+    run_fresh(&journal.calendar, journal.events, |_, line| {
         place += 1;
-        let outstanding = book.outstanding(table);
-        let headroom = book.headroom_over(outstanding);
-        let (number, own, client, guarantee) = (answer.number, book.own, book.client, book.guarantee());
-        writeln!(text, "{place} {number} {headroom} {outstanding} {own} {client} {guarantee}")
-            .expect("a String takes any text");
+        writeln!(text, "{place} {line}").expect("a String takes any text");
     });
     text
+}
+
+/// A run "on a fresh book with capacity 1,024"; `each` sees every event and what is told of it.
+pub fn run_fresh(
+    calendar: &[u32],
+    events: &[[u8; EVENT_BYTES]],
+    mut each: impl FnMut(&[u8; EVENT_BYTES], Line),
+) {
+    let mut book = Book::fresh();
+    let mut table = vec![Trade::default(); JOURNAL_CAPACITY];
+    run(calendar, &mut book, &mut table, events, |event, answer, book, table| {
+        each(event, Line::after(answer, book, table));
+    });
+}
+
+/// What the listing tells of one event, after its place.
+#[derive(Clone, Copy, Debug, PartialEq, Eq)]
+pub struct Line {
+    pub answer: u32,
+    pub headroom: i64,
+    pub outstanding: u64,
+    pub own: u64,
+    pub client: u64,
+    /// Effective and arriving.
+    pub guarantee: u64,
+}
+
+impl Line {
+    fn after(answer: Answer, book: &Book, table: &[Trade]) -> Line {
+        let outstanding = book.outstanding(table);
+        Line {
+            answer: answer.number,
+            headroom: book.headroom_over(outstanding),
+            outstanding,
+            own: book.own,
+            client: book.client,
+            guarantee: book.guarantee(),
+        }
+    }
+}
+
+/// "one space between, a minus sign before a negative headroom."
+impl fmt::Display for Line {
+    fn fmt(&self, f: &mut fmt::Formatter) -> fmt::Result {
+        let Line { answer, headroom, outstanding, own, client, guarantee } = self;
+        write!(f, "{answer} {headroom} {outstanding} {own} {client} {guarantee}")
+    }
 }
 
 /// Keeps its place by what is still to be read.

@@ -4,7 +4,8 @@
 //! Bytes are parsed by `journal`, decoded by `event`, answered by `step`, and
 //! the book's own rules stand in `book` and `money`. `tally` is the second,
 //! coarser account of the same history; `generator` and `coverage` make
-//! journals and show which answers they met.
+//! journals and show which answers they met. `text` is how people write and
+//! read a journal.
 
 pub mod answer;
 pub mod book;
@@ -14,6 +15,6 @@ pub mod generator;
 pub mod journal;
 pub mod limits;
 pub mod money;
-pub mod proved;
 pub mod step;
 pub mod tally;
+pub mod text;

@@ -4,7 +4,7 @@ use std::collections::{BTreeMap, HashSet};
 
 use crate::ledger::Ledger;
 use model::answer::Answer;
-use model::book::{Book, Phase, Status, Trade};
+use model::book::{Phase, Status};
 use model::coverage::{allowed, Coverage, OUT_OF_REACH};
 use model::event::Event;
 use model::generator::{self, Profile};
@@ -17,9 +17,8 @@ fn two_thousand_journals_meet_every_allowed_pair() {
     for seed in 0..2_000 {
         let bytes = generator::generate(seed);
         let Ok(journal) = journal::parse(&bytes) else { continue };
-        let (mut book, mut table) = (Book::fresh(), vec![Trade::default(); JOURNAL_CAPACITY]);
-        step::run(&journal.calendar, &mut book, &mut table, journal.events, |event, answer, _, _| {
-            coverage.record(event, answer.number);
+        journal::run_fresh(&journal.calendar, journal.events, |event, line| {
+            coverage.record(event, line.answer);
         });
     }
     assert_eq!(coverage.missing(), []);

@@ -1,8 +1,12 @@
-//! The sixteen events of document 01, to the byte.
+//! The sixteen events of document 01, to the byte, and the files of `examples/`.
 
 use crate::ledger::{trade, FIRST_DAY, WORKED_CALENDAR};
 use model::event::Event;
-use model::journal;
+use model::{journal, text};
+
+const TEXT: &str = include_str!("../../../examples/worked.txt");
+const README: &str = include_str!("../../../README.md");
+const JOURNAL: &[u8] = include_bytes!("../../../examples/worked.journal");
 
 const LISTING: &str = "\
 1 0 0 0 0 0 0
@@ -37,7 +41,22 @@ fn the_worked_example_is_listed_to_the_byte() {
     ];
     let events: Vec<_> = FIRST_DAY.iter().chain(&later_days).map(Event::encode).collect();
     assert_eq!(events.len(), 16);
-    assert_eq!(journal::listing(&journal::write(&WORKED_CALENDAR, &events)), LISTING);
+    assert_eq!(journal::write(&WORKED_CALENDAR, &events), JOURNAL);
+    assert_eq!(journal::listing(JOURNAL), LISTING);
+}
+
+#[test]
+fn the_text_of_the_worked_example_makes_its_bytes() {
+    assert_eq!(text::make(TEXT).as_deref(), Ok(JOURNAL));
+}
+
+/// From the calendar on, as far as lines are indented or empty.
+#[test]
+fn the_readme_shows_the_worked_example() {
+    let from_calendar = README.lines().skip_while(|line| !line.starts_with("    calendar"));
+    let block: Vec<&str> =
+        from_calendar.take_while(|line| line.is_empty() || line.starts_with("    ")).collect();
+    assert_eq!(text::make(&block.join("\n")).as_deref(), Ok(JOURNAL));
 }
 
 #[test]

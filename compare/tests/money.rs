@@ -1,26 +1,18 @@
 //! Days and money: the proved calls against the model and, for the rules that
 //! are a formula or a walk, against the plainest form of them.
 
-use model::{money, proved};
+use compare::proved;
+use model::generator::random::Random;
+use model::money;
 
-/// A plain generator of test numbers.
-struct Draw(u64);
-
-impl Draw {
-    fn next(&mut self) -> u64 {
-        self.0 = self.0.wrapping_mul(6364136223846793005).wrapping_add(1442695040888963407);
-        self.0 >> 11
-    }
-
-    /// Mostly within a limit, often at it or just past it, now and then anything.
-    fn around(&mut self, limit: u64) -> u64 {
-        match self.next() % 8 {
-            0 => limit - self.next() % 3,
-            1 => limit + self.next() % 3,
-            2 => self.next() % 5,
-            3 => self.next() << (self.next() % 11),
-            _ => self.next() % (limit + 1),
-        }
+/// Mostly within a limit, often at it or just past it, now and then anything.
+fn around(random: &mut Random, limit: u64) -> u64 {
+    match random.below(8) {
+        0 => limit - random.below(3),
+        1 => limit + random.below(3),
+        2 => random.below(5),
+        3 => random.any() >> random.below(64),
+        _ => random.below(limit + 1),
     }
 }
 
@@ -33,10 +25,10 @@ fn met(counts: &[u32; 32], numbers: &[usize]) {
 
 #[test]
 fn initial_amounts() {
-    let mut draw = Draw(1);
+    let mut random = Random::new(1);
     let mut counts = [0; 32];
     for _ in 0..200_000 {
-        let q = draw.around(100_000_000);
+        let q = around(&mut random, 100_000_000);
         let got = proved::initial(q);
         assert_eq!(got, money::initial(q), "{q}");
         counts[got.0 as usize] += 1;
@@ -46,10 +38,14 @@ fn initial_amounts() {
 
 #[test]
 fn redemption_amounts() {
-    let mut draw = Draw(2);
+    let mut random = Random::new(2);
     let mut counts = [0; 32];
     for _ in 0..300_000 {
-        let (q, price, days) = (draw.around(100_000_000), draw.around(100_000) as u32, draw.around(38_400) as u32);
+        let (q, price, days) = (
+            around(&mut random, 100_000_000),
+            around(&mut random, 100_000) as u32,
+            around(&mut random, 38_400) as u32,
+        );
         let got = proved::redemption(q, price, days);
         assert_eq!(got, money::redemption(q, price.into(), days.into()), "{q} {price} {days}");
         counts[got.0 as usize] += 1;
@@ -57,7 +53,9 @@ fn redemption_amounts() {
             // half upward, in one go: twice the income, less 1, lies below twice the quotient plus 1
             let exact = u128::from(q) * u128::from(price) * u128::from(days);
             let income = u128::from(got.1) - 10_000 * u128::from(q);
-            assert!(2 * exact >= (2 * income).saturating_sub(1) * 3_650 && 2 * exact < (2 * income + 1) * 3_650);
+            assert!(
+                2 * exact >= (2 * income).saturating_sub(1) * 3_650 && 2 * exact < (2 * income + 1) * 3_650
+            );
         }
     }
     met(&counts, &[0, 14]);
@@ -65,24 +63,28 @@ fn redemption_amounts() {
 
 #[test]
 fn kind_values() {
-    let mut draw = Draw(3);
+    let mut random = Random::new(3);
     let mut counts = [0; 32];
     for _ in 0..300_000 {
-        let kind = (draw.next() % 40) as u8;
-        let effective = if draw.next() % 2 == 0 {
-            draw.around(1_000_000_000_000)
+        let kind = random.below(40) as u8;
+        let effective = if random.percent(50) {
+            around(&mut random, 1_000_000_000_000)
         } else {
-            draw.around(10_000_000_000_000_000)
+            around(&mut random, 10_000_000_000_000_000)
         };
-        let frozen = match draw.next() % 4 {
+        let frozen = match random.below(4) {
             0 => 0,
             1 => effective,
             2 => effective.saturating_add(1),
-            _ => draw.next() % effective.saturating_add(1).max(1),
+            _ => random.below(effective.saturating_add(1)),
         };
-        let rate = draw.around(20_000);
+        let rate = around(&mut random, 20_000);
         let got = proved::kind_value(kind, effective, frozen, rate);
-        assert_eq!(got, money::kind_value(kind.into(), effective, frozen, rate), "{kind} {effective} {frozen} {rate}");
+        assert_eq!(
+            got,
+            money::kind_value(kind.into(), effective, frozen, rate),
+            "{kind} {effective} {frozen} {rate}"
+        );
         counts[got.0 as usize] += 1;
     }
     met(&counts, &[0, 3, 13, 14]);
@@ -98,17 +100,17 @@ fn walked(calendar: &[u32], from: u64) -> (u32, u32) {
         .map_or((16, 0), |day| (0, day as u32))
 }
 
-fn calendar(draw: &mut Draw, round: u64) -> Vec<u32> {
+fn calendar(random: &mut Random, round: u64) -> Vec<u32> {
     let words = match round % 50 {
-        0 => 1_199 + draw.next() % 4,
+        0 => 1_199 + random.below(4),
         1 => 0,
-        _ => draw.next() % 40,
+        _ => random.below(40),
     };
     (0..words)
-        .map(|_| match draw.next() % 4 {
-            0 => draw.next() as u32,
-            1 => 1 << (draw.next() % 32),
-            2 => draw.next() as u32 & draw.next() as u32 & draw.next() as u32,
+        .map(|_| match random.below(4) {
+            0 => random.any() as u32,
+            1 => 1 << random.below(32),
+            2 => random.any() as u32 & random.any() as u32 & random.any() as u32,
             _ => 0,
         })
         .collect()
@@ -116,16 +118,16 @@ fn calendar(draw: &mut Draw, round: u64) -> Vec<u32> {
 
 #[test]
 fn trading_days() {
-    let mut draw = Draw(4);
+    let mut random = Random::new(4);
     let mut counts = [0; 32];
     for round in 0..4_000 {
-        let calendar = calendar(&mut draw, round);
+        let calendar = calendar(&mut random, round);
         assert_eq!(proved::earliest_trading_day(&calendar), walked(&calendar, 0));
         assert_eq!(proved::earliest_trading_day(&calendar), money::earliest_trading_day(&calendar));
         for _ in 0..50 {
-            let day = match draw.next() % 20 {
-                0 => u32::MAX - (draw.next() % 2) as u32,
-                _ => (draw.next() % (32 * calendar.len() as u64 + 70)) as u32,
+            let day = match random.below(20) {
+                0 => u32::MAX - random.below(2) as u32,
+                _ => random.below(32 * calendar.len() as u64 + 70) as u32,
             };
             let next = proved::next_trading_day(&calendar, day);
             counts[next.0 as usize] += 1;

@@ -1,6 +1,9 @@
 //! The proved calls of the archive, each behind a safe function. The
 //! declarations repeat `crates/exports`; nothing checks one against the other.
 
+use model::event::EVENT_BYTES;
+use model::journal::Line;
+
 #[repr(C)]
 #[derive(Clone, Copy)]
 struct Fen(u64);
@@ -26,6 +29,12 @@ struct Found {
     number: u8,
     day: u32,
 }
+#[cfg(feature = "journal")]
+#[repr(C)]
+struct Written {
+    number: u8,
+    length: usize,
+}
 
 // A lent slice is its pointer and its length.
 extern "C" {
@@ -44,6 +53,8 @@ extern "C" {
         lines: *mut u64,
         room: usize,
     ) -> u8;
+    #[cfg(feature = "journal")]
+    fn journal_write_listing(journal: *const u8, bytes: usize, text: *mut u8, room: usize) -> Written;
 }
 
 /// The amount of an initial trade, beside its number.
@@ -84,19 +95,8 @@ fn beside(found: Found) -> (u32, u32) {
     (found.number.into(), found.day)
 }
 
-/// What the proved run tells of one event.
-#[derive(Clone, Copy, Debug, PartialEq, Eq)]
-pub struct Line {
-    pub answer: u32,
-    pub headroom: i64,
-    pub outstanding: u64,
-    pub own: u64,
-    pub client: u64,
-    pub guarantee: u64,
-}
-
 /// Numbers that the run writes for one event.
-const LINE_NUMBERS: usize = 7;
+pub const LINE_NUMBERS: usize = 7;
 
 /// The run of encoded events on a fresh book, into a lent buffer: the number.
 pub fn run_into(calendar: &[u32], events: &[u8], lines: &mut [u64]) -> u8 {
@@ -114,7 +114,7 @@ pub fn run_into(calendar: &[u32], events: &[u8], lines: &mut [u64]) -> u8 {
 
 /// The run of encoded events on a fresh book, event by event, or its refusal.
 pub fn run_listing(calendar: &[u32], events: &[u8]) -> Result<Vec<Line>, u8> {
-    let mut lines = vec![0; LINE_NUMBERS * (events.len() / 40)];
+    let mut lines = vec![0; LINE_NUMBERS * (events.len() / EVENT_BYTES)];
     match run_into(calendar, events, &mut lines) {
         0 => Ok(lines.chunks(LINE_NUMBERS).map(line).collect()),
         number => Err(number),
@@ -131,4 +131,12 @@ fn line(numbers: &[u64]) -> Line {
         client: numbers[5],
         guarantee: numbers[6],
     }
+}
+
+/// The listing of a journal, into a lent buffer: the number and the listing's length.
+#[cfg(feature = "journal")]
+pub fn write_listing(journal: &[u8], text: &mut [u8]) -> (u8, usize) {
+    let written =
+        unsafe { journal_write_listing(journal.as_ptr(), journal.len(), text.as_mut_ptr(), text.len()) };
+    (written.number, written.length)
 }

@@ -1,0 +1,157 @@
+//! The listing of a journal by the proved call against the model's, byte for
+//! byte, for journals of every sort, damaged ones included.
+
+use compare::{judge, write_listing};
+use model::coverage::Coverage;
+use model::event::{Event, EVENT_BYTES};
+use model::generator::random::Random;
+use model::generator::{corpus, generate, generate_as, Profile};
+use model::journal::{listing, parse, write, JOURNAL_REFUSED};
+
+/// More than 1,500 lines need: a line has at most 87 characters.
+const ROOM: usize = 1_500 * 87;
+/// What a buffer holds before the call; no listing has it.
+const UNWRITTEN: u8 = 0xa5;
+
+/// A lent buffer that takes any listing.
+struct Lister {
+    buffer: Vec<u8>,
+}
+
+impl Lister {
+    fn new() -> Lister {
+        Lister { buffer: vec![UNWRITTEN; ROOM] }
+    }
+
+    /// Compares both listings and gives them back; past its end the buffer is as it was.
+    fn agreed(&mut self, name: &str, journal: &[u8]) -> String {
+        let wanted = listing(journal);
+        let (number, length) = write_listing(journal, &mut self.buffer);
+        assert_eq!(number, 0, "{name}");
+        let (text, rest) = self.buffer.split_at_mut(length);
+        for (got, wanted) in text.split(|&byte| byte == b'\n').zip(wanted.split('\n')) {
+            assert_eq!(String::from_utf8_lossy(got), wanted, "{name}");
+        }
+        assert_eq!(text.len(), wanted.len(), "{name}");
+        assert!(rest.iter().all(|&byte| byte == UNWRITTEN), "{name}: written past the listing");
+        text.fill(UNWRITTEN);
+        wanted
+    }
+}
+
+#[test]
+fn generated_journals_are_listed_alike_and_meet_every_allowed_answer() {
+    let mut lister = Lister::new();
+    let mut coverage = Coverage::default();
+    let (mut journals, mut refused) = (0, 0);
+    for (name, bytes) in corpus(20_000..40_000) {
+        let listing = lister.agreed(&name, &bytes);
+        journals += 1;
+        match parse(&bytes) {
+            Ok(journal) => coverage.record_listing(journal.events, &listing),
+            Err(_) => refused += 1,
+        }
+    }
+    assert!(journals >= 20_000 && refused >= 1_000);
+    judge(&format!("{journals} journals listed, {refused} of them malformed"), &coverage);
+}
+
+/// Small journals for the tests that take many forms of each.
+fn small_journals() -> impl Iterator<Item = (String, Vec<u8>)> {
+    let profiles = [Profile::Troubled, Profile::EmptyCalendar, Profile::ThinCalendar, Profile::Careless];
+    let generated = profiles.into_iter().zip(1..);
+    generated.map(|(profile, seed)| (format!("{profile:?} {seed}"), generate_as(profile, seed)))
+}
+
+#[test]
+fn every_length_of_some_journals_is_listed_alike() {
+    let mut lister = Lister::new();
+    for (name, bytes) in small_journals() {
+        for length in 0..bytes.len() {
+            let listing = lister.agreed(&format!("{name}, {length} bytes"), &bytes[..length]);
+            assert_eq!(listing, JOURNAL_REFUSED);
+        }
+        assert_ne!(lister.agreed(&name, &bytes), JOURNAL_REFUSED);
+    }
+}
+
+#[test]
+fn bytes_left_over_are_listed_alike() {
+    let mut lister = Lister::new();
+    for (name, mut bytes) in small_journals() {
+        for more in 1..=2 * EVENT_BYTES {
+            bytes.push(more as u8);
+            let listing = lister.agreed(&format!("{name}, {more} bytes more"), &bytes);
+            assert_eq!(listing, JOURNAL_REFUSED);
+        }
+    }
+}
+
+#[test]
+fn counts_that_are_wrong_or_past_their_limits_are_listed_alike() {
+    let mut lister = Lister::new();
+    for (name, bytes) in small_journals() {
+        let journal = parse(&bytes).unwrap();
+        let (words, events) = (journal.calendar.len(), journal.events.len());
+        for (place, count) in [(0, words as u32), (4 + 4 * words, events as u32)] {
+            let near = [count.wrapping_sub(1), count + 1, 1_200, 1_201, 1_500, 1_501];
+            let far =
+                [1 << 16, 1 << 24, 1 << 29, 1 << 30, 1 << 31, u32::MAX / 4 + 1, u32::MAX - 3, u32::MAX];
+            for wrong in near.into_iter().chain(far) {
+                let mut bytes = bytes.clone();
+                bytes[place..place + 4].copy_from_slice(&wrong.to_le_bytes());
+                lister.agreed(&format!("{name}, count {wrong} at {place}"), &bytes);
+            }
+        }
+    }
+}
+
+#[test]
+fn journals_at_and_past_both_limits_are_listed_alike() {
+    let mut lister = Lister::new();
+    let events = vec![Event::Open.encode(); 1_501];
+    for (words, count) in [(0, 0), (1_200, 1_500), (1_201, 1_500), (1_200, 1_501)] {
+        let bytes = write(&vec![u32::MAX; words], &events[..count]);
+        let listing = lister.agreed(&format!("{words} words, {count} events"), &bytes);
+        assert_eq!(listing == JOURNAL_REFUSED, words > 1_200 || count > 1_500);
+    }
+}
+
+/// One bit anywhere: a count, a calendar word, a used or an unused field.
+#[test]
+fn journals_with_a_bit_turned_are_listed_alike() {
+    let mut lister = Lister::new();
+    let mut random = Random::new(11);
+    for seed in 0..3_000 {
+        let mut bytes = generate(seed);
+        if !bytes.is_empty() {
+            let place = random.below(bytes.len() as u64) as usize;
+            bytes[place] ^= 1 << random.below(8);
+            lister.agreed(&format!("seed {seed}, byte {place} turned"), &bytes);
+        }
+    }
+}
+
+/// 14, "a limit would be passed", length 0, and the buffer as it was.
+#[test]
+fn a_buffer_too_short_is_refused_and_left_alone() {
+    let malformed = ("malformed".to_string(), vec![1]);
+    for (name, bytes) in small_journals().chain([malformed]) {
+        let length = listing(&bytes).len();
+        for room in (0..length).rev().step_by(1 + length / 500) {
+            let mut buffer = vec![UNWRITTEN; room];
+            assert_eq!(write_listing(&bytes, &mut buffer), (14, 0), "{name}, {room} of {length} bytes");
+            assert!(buffer.iter().all(|&byte| byte == UNWRITTEN), "{name}, {room} of {length} bytes");
+        }
+    }
+}
+
+#[test]
+fn a_buffer_just_long_enough_is_filled() {
+    for (name, bytes) in small_journals() {
+        let wanted = listing(&bytes);
+        let mut buffer = vec![UNWRITTEN; wanted.len()];
+        assert_eq!(write_listing(&bytes, &mut buffer), (0, wanted.len()), "{name}");
+        assert!(buffer == wanted.as_bytes(), "{name}");
+    }
+}

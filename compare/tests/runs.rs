@@ -1,0 +1,64 @@
+//! The proved run of a journal's events against the model's, number by number:
+//! answer, headroom, O, own, client and guarantee cash after every event.
+
+use compare::{judge, proved};
+use model::coverage::Coverage;
+use model::event::EVENT_BYTES;
+use model::generator::{corpus, generate_as, Profile};
+use model::journal::{parse, run_fresh, Journal, Line};
+
+/// What the model says of each event.
+fn expected(journal: &Journal, coverage: &mut Coverage) -> Vec<Line> {
+    let mut lines = Vec::with_capacity(journal.events.len());
+    run_fresh(&journal.calendar, journal.events, |event, line| {
+        coverage.record(event, line.answer);
+        lines.push(line);
+    });
+    lines
+}
+
+fn proved_lines(calendar: &[u32], events: &[[u8; EVENT_BYTES]]) -> Vec<Line> {
+    proved::run_listing(calendar, events.as_flattened()).expect("a journal's events are run")
+}
+
+#[test]
+fn generated_journals_agree_and_meet_every_allowed_answer() {
+    let mut coverage = Coverage::default();
+    let mut events = 0;
+    for (name, bytes) in corpus(0..20_000) {
+        let Ok(journal) = parse(&bytes) else { continue };
+        let wanted = expected(&journal, &mut coverage);
+        let got = proved_lines(&journal.calendar, journal.events);
+        for (place, (got, wanted)) in (1..).zip(got.iter().zip(&wanted)) {
+            assert_eq!(got, wanted, "{name}, event {place}");
+        }
+        assert_eq!(got.len(), wanted.len(), "{name}");
+        events += got.len();
+    }
+    judge(&format!("{events} events run"), &coverage);
+}
+
+#[test]
+fn every_prefix_of_some_journals_agrees() {
+    for seed in [3, 14, 159] {
+        let bytes = generate_as(Profile::Troubled, seed);
+        let journal = parse(&bytes).expect("no damage in this profile");
+        let whole = expected(&journal, &mut Coverage::default());
+        for count in 0..journal.events.len().min(300) {
+            let got = proved_lines(&journal.calendar, &journal.events[..count]);
+            assert_eq!(got, whole[..count], "seed {seed}, {count} events");
+        }
+    }
+}
+
+#[test]
+fn bad_lengths_are_refused_and_write_nothing() {
+    let event = [0_u8; EVENT_BYTES];
+    assert_eq!(proved::run_listing(&[], &event[..39]), Err(18));
+    assert_eq!(proved::run_listing(&[], &[0; 40 * 1_501]), Err(18));
+    assert_eq!(proved::run_listing(&[0; 1_201], &event), Err(1));
+    assert_eq!(proved::run_into(&[], &event, &mut [7; 6]), 18);
+    let mut lines = [7; 9];
+    assert_eq!(proved::run_into(&[], &event, &mut lines), 0);
+    assert_eq!(lines, [2, 0, 0, 0, 0, 0, 0, 7, 7]);
+}
