@@ -1,0 +1,28 @@
+// Events as rows: code, kind or account, amount (or rate, or size), contract, price, fallback price, due day.
+
+pub const OPEN: [u64; 7] = [1, 0, 0, 0, 0, 0, 0];
+
+pub const PAY: [u64; 7] = [11, 0, 0, 0, 0, 0, 0];
+
+pub const CLOSE: [u64; 7] = [12, 0, 0, 0, 0, 0, 0];
+
+// The codes of the others.
+pub const FUND_IN: u64 = 2;
+
+pub const FUND_OUT: u64 = 3;
+
+pub const SIZE: u64 = 4;
+
+pub const RATE: u64 = 5;
+
+pub const PLEDGE: u64 = 6;
+
+pub const INITIAL: u64 = 9;
+
+// The accounts.
+pub const OWN: u64 = 0;
+
+pub const CLIENT: u64 = 1;
+
+// The kind of guarantee cash.
+pub const CASH: u64 = 32;

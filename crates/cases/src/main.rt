@@ -1,0 +1,14 @@
+// Document 01's cases, run through the public calls and proved by their promises.
+
+// Rows that stand for events.
+mod events;
+
+// The run of rows, and the lines that it gives.
+mod journal;
+
+// The journal of document 01.
+mod worked;
+
+fn main() {
+    worked::journal();
+}
