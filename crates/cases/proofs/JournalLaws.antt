@@ -142,18 +142,20 @@ pub events-written : (bytes₀ : List ℕ) (at : ℕ) (events : List (List ℕ))
     → Written bytes₀ at (bytesOf (take k events)) bytes → bytes ≡ sets bytes₀ at (bytesOf events)
 events-written bytes₀ at events k h w = w .told ∙ ap (λ l. sets bytes₀ at (bytesOf l)) (take-all k events h)
 
--- both parts of a journal in one buffer
-pub both-encoded : (earlier events : List (List ℕ)) (room bytes bytes′ : List ℕ) → (length earlier + length events) * 40 ≤ length room
-    → bytes ≡ sets room 0 (bytesOf earlier) → bytes′ ≡ sets bytes (length earlier * 40) (bytesOf events)
-    → take ((length earlier + length events) * 40) bytes′ ≡ bytesOf (earlier ++ events)
-both-encoded earlier events room bytes bytes′ h e f =
-    let first : 0 + length (bytesOf earlier) ≡ length earlier * 40 = omega (arith, length-bytes earlier) in
-    let joined : bytes′ ≡ sets room 0 (bytesOf earlier ++ bytesOf events) = rw (f, e, ← first) (then-more room (bytesOf earlier) (bytesOf events) 0) in
-    let long : length (bytesOf earlier ++ bytesOf events) ≡ (length earlier + length events) * 40 =
-    omega (arith, length-append (bytesOf earlier) (bytesOf events), length-bytes earlier, length-bytes events) in
-    let front : bytes′ ≡ (bytesOf earlier ++ bytesOf events) ++ drop (0 + length (bytesOf earlier ++ bytesOf events)) room =
-    joined ∙ sets-eq (bytesOf earlier ++ bytesOf events) room 0 (omega arith) in
-    rw (front, bytes-joined) (take-at (bytesOf earlier ++ bytesOf events) (drop (0 + length (bytesOf earlier ++ bytesOf events)) room) _ long)
+-- a part after another
+pub joined : (room : List ℕ) (done more : List (List ℕ)) (at : ℕ) {bytes bytes′ : List ℕ} → length done * 40 ≡ at
+    → bytes ≡ sets room 0 (bytesOf done) → bytes′ ≡ sets bytes at (bytesOf more) → bytes′ ≡ sets room 0 (bytesOf (done ++ more))
+joined room done more at long e f =
+    let here : 0 + length (bytesOf done) ≡ at = omega (arith, length-bytes done) in
+    rw (f, e, ← here, bytes-joined done more) (then-more room (bytesOf done) (bytesOf more) 0)
+
+-- the bytes at the front of their buffer
+pub in-front : (room : List ℕ) (events : List (List ℕ)) (count : ℕ) {bytes : List ℕ} → length events ≡ count → count * 40 ≤ length room
+    → bytes ≡ sets room 0 (bytesOf events) → take (count * 40) bytes ≡ bytesOf events
+in-front room events count long within e =
+    let whole : length (bytesOf events) ≡ count * 40 = omega (arith, length-bytes events) in
+    let front : sets room 0 (bytesOf events) ≡ bytesOf events ++ drop (0 + length (bytesOf events)) room = sets-eq (bytesOf events) room 0 (omega arith) in
+    rw (e, front) (take-at (bytesOf events) (drop (0 + length (bytesOf events)) room) (count * 40) whole)
 
 -- ---- a listing that is not refused
 
@@ -194,7 +196,8 @@ lines-in-front calendar bytes listing listing′ count o h n e =
 
 -- ---- the lines that a journal ends with
 
-pub ending : (calendar : Calendar) (earlier events lines : List (List ℕ))
-    → sameLines (listingOf calendar (bytesOf (earlier ++ events))) ((length earlier + length events - length lines) * 7) lines ≡ endsWith calendar earlier events lines
+pub ending : (calendar : Calendar) (start earlier events lines : List (List ℕ))
+    → sameLines (listingOf calendar (bytesOf ((start ++ earlier) ++ events))) ((length start + length earlier + length events - length lines) * 7) lines
+    ≡ endsWith calendar start earlier events lines
 unfolding endsWith
-ending calendar earlier events lines = refl
+ending calendar start earlier events lines = refl

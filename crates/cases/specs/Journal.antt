@@ -67,8 +67,8 @@ sameLine numbers at line = allBelow 7 (λ k. eqb (getD numbers (at + k) 0) (getD
 unfoldable pub sameLines : List ℕ → ℕ → List (List ℕ) → Bool
 sameLines numbers at lines = allBelow (length lines) (λ k. sameLine numbers (at + k * 7) (getD lines k []))
 
--- the listing of a journal in two parts ends with these lines; who opens this opens every rule, so that it computes
-unfoldable pub endsWith : Calendar → (earlier events lines : List (List ℕ)) → Bool
+-- the listing of a journal in three parts ends with these lines; who opens this opens every rule, so that it computes
+unfoldable pub endsWith : Calendar → (start earlier events lines : List (List ℕ)) → Bool
 unfolding freshBook step causes eventCauses act firstOf fit every capacityFit securitiesFit allBelow cashFit allTrades sizeFit netsFit differ withdrawalsFit followed following paymentDay trades firstTrading atOrAfter nextAfter earliest sizeCauses sized fundInCauses fundedIn fundOutCauses fundedOut rateCauses rated openCauses openedBook openedTable statusAtOpen turnsTerminated pledgeCauses pledged payCauses paidBook closeCauses closedBook closedTable closeAnswer maturedTrades maturedSheets maturedAmount evening applications inTurn allArrived isShortClose total outstanding remaining value sumBelow kindValue headroom initialCauses initialBook initialTable onTable principal redemption income freezeCauses frozen withdrawCauses withdrawn applied earlyCauses earlyBook earlyTable tradeOf takeOff takenOut covered mayGo run decoded entryOf unless littleEndian entriesOf lineOf linesOf listingOf byteOf bytesFrom bytesOf sameLine sameLines
-endsWith calendar earlier events lines =
-    sameLines (listingOf calendar (bytesOf (earlier ++ events))) ((length earlier + length events - length lines) * 7) lines
+endsWith calendar start earlier events lines =
+    sameLines (listingOf calendar (bytesOf ((start ++ earlier) ++ events))) ((length start + length earlier + length events - length lines) * 7) lines

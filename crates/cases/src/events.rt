@@ -17,7 +17,11 @@ pub const RATE: u64 = 5;
 
 pub const PLEDGE: u64 = 6;
 
+pub const WITHDRAW: u64 = 8;
+
 pub const INITIAL: u64 = 9;
+
+pub const EARLY: u64 = 10;
 
 // The accounts.
 pub const OWN: u64 = 0;

@@ -96,29 +96,31 @@ fn same_lines(numbers: &[u64], at: usize, lines: &[[u64; 7]]) -> bool
     true
 }
 
-// The bytes of a journal in two parts, at the front of a buffer for 48 events.
-fn encoded(earlier: &[[u64; 7]], events: &[[u64; 7]]) -> [u8; 1_920]
-    requires { ⌜ length (now earlier) + length (now events) ≤ 48 ⌝ }
-    ensures { λ r. ⌜ take ((length (now (earlier .entry)) + length (now (events .entry))) * 40) r ≡ bytesOf (now (earlier .entry) ++ now (events .entry)) ⌝ }
+// The bytes of a journal in three parts, at the front of a buffer for 48 events.
+fn encoded(start: &[[u64; 7]], earlier: &[[u64; 7]], events: &[[u64; 7]]) -> [u8; 1_920]
+    requires { ⌜ length (now start) + length (now earlier) + length (now events) ≤ 48 ⌝ }
+    ensures { λ r. ⌜ take ((length (now (start .entry)) + length (now (earlier .entry)) + length (now (events .entry))) * 40) r ≡ bytesOf ((now (start .entry) ++ now (earlier .entry)) ++ now (events .entry)) ⌝ }
 {
     let mut bytes = [0; 1_920];
-    write_events(&mut bytes, 0, earlier);
-    write_events(&mut bytes, earlier.len() * 40, events);
+    write_events(&mut bytes, 0, start);
+    write_events(&mut bytes, start.len() * 40, earlier);
+    write_events(&mut bytes, (start.len() + earlier.len()) * 40, events);
     bytes
 }
 
-// Whether the listing of a journal in two parts ends with these lines.
+// Whether the listing of a journal in three parts ends with these lines.
 pub fn ends_with(
     calendar: &[u32],
+    start: &[[u64; 7]],
     earlier: &[[u64; 7]],
     events: &[[u64; 7]],
     lines: &[[u64; 7]],
 ) -> bool
-    requires { ⌜ (length (now calendar) ≤ 1200) × (length (now earlier) + length (now events) ≤ 48) × (length (now lines) ≤ length (now earlier) + length (now events)) ⌝ }
-    ensures { λ r. ⌜ r ≡ endsWith (now (calendar .entry)) (now (earlier .entry)) (now (events .entry)) (now (lines .entry)) ⌝ }
+    requires { ⌜ (length (now calendar) ≤ 1200) × (length (now start) + length (now earlier) + length (now events) ≤ 48) × (length (now lines) ≤ length (now start) + length (now earlier) + length (now events)) ⌝ }
+    ensures { λ r. ⌜ r ≡ endsWith (now (calendar .entry)) (now (start .entry)) (now (earlier .entry)) (now (events .entry)) (now (lines .entry)) ⌝ }
 {
-    let count = earlier.len() + events.len();
-    let bytes = encoded(earlier, events);
+    let count = start.len() + earlier.len() + events.len();
+    let bytes = encoded(start, earlier, events);
     let mut listing = [0; 336];
     let number = book::listing::run_listing(calendar, &bytes[..count * 40], &mut listing);
     check::expect(number == 0);

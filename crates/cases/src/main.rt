@@ -9,6 +9,12 @@ mod journal;
 // The journal of document 01.
 mod worked;
 
+// The mission's two rehearsals.
+mod rehearsals;
+
 fn main() {
     worked::journal();
+    rehearsals::first();
+    rehearsals::second();
+    rehearsals::only_late();
 }

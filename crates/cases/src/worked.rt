@@ -14,18 +14,16 @@ use crate::journal;
 // Days 1, 2, 3, 6 and 7 trade.
 pub const WEEK: [u32; 1] = [206];
 
-// Up to the second Open: cover of 180 sheets, and no trade yet.
-pub const COVER: [[u64; 7]; 9] = [
+// What the firm begins with.
+pub const ACCOUNTS: [[u64; 7]; 4] = [
     [SIZE, 0, 1_000, 0, 0, 0, 0],
     [FUND_IN, OWN, 5_000_000, 0, 0, 0, 0],
     [FUND_IN, CLIENT, 3_000_000, 0, 0, 0, 0],
     [RATE, 0, 9_000, 0, 0, 0, 0],
-    OPEN,
-    [PLEDGE, 0, 200, 0, 0, 0, 0],
-    PAY,
-    CLOSE,
-    OPEN,
 ];
+
+// The first day and the next Open: cover of 180 sheets, and no trade yet.
+pub const COVER: [[u64; 7]; 5] = [OPEN, [PLEDGE, 0, 200, 0, 0, 0, 0], PAY, CLOSE, OPEN];
 
 const TRADES: [[u64; 7]; 7] = [
     [INITIAL, 0, 100, 7, 3_650, 1_000, 4],
@@ -58,5 +56,5 @@ const LINES: [[u64; 7]; 16] = [
 ];
 
 pub fn journal() {
-    check::expect(journal::ends_with(&WEEK, &COVER, &TRADES, &LINES));
+    check::expect(journal::ends_with(&WEEK, &ACCOUNTS, &COVER, &TRADES, &LINES));
 }

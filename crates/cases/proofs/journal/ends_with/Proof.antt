@@ -16,6 +16,9 @@ use Rattle.cases.proofs.journal.ends_with.Tie as tie
 add-count : tie.Need-add-count
 add-count c = search needs
 
+add-count-2 : tie.Need-add-count-2
+add-count-2 c = search needs
+
 encoded-requires : tie.Need-encoded-requires
 encoded-requires c κs = search needs
 
@@ -38,7 +41,7 @@ abbrev start : tie.After-run-listing → tie.Start
 start c = c .before .before .before .before .before
 
 abbrev count : tie.After-run-listing → ℕ
-count c = length (start c .args .earlier .now) + length (start c .args .events .now)
+count c = length (start c .args .start .now) + length (start c .args .earlier .now) + length (start c .args .events .now)
 
 abbrev bytes : tie.After-run-listing → List ℕ
 bytes c = take (count c * 40) (c .before .before .before .encoded .result)
@@ -75,13 +78,14 @@ returns c =
     let ran = c .before .before .before .before in
     let s = start ran .args in
     rw (c .same-lines .ensures, lines-in-front _ _ _ _ (count ran) _ (length-bytes ran) (clear ran) (ran .run-listing .ensures .1), ran .before .before .before .encoded .ensures)
-    (ending (s .calendar .now) (s .earlier .now) (s .events .now) (s .lines .now))
+    (ending (s .calendar .now) (s .start .now) (s .earlier .now) (s .events .now) (s .lines .now))
 
 pub ends-with-spec : {M : Type 1} → statement M
 ends-with-spec =
     tie.close
     (tie.spec
     add-count
+    add-count-2
     encoded-requires
     mul-bytes
     array-share-prefix-bytes

@@ -1,5 +1,5 @@
-use Rattle.cases.specs.Journal.{endsWith}
 use borrow.Author.Needs.{needs}
+use Rattle.cases.specs.Journal.{endsWith}
 use Rattle.cases.proofs.worked.journal.Statement.{statement}
 use Rattle.cases.proofs.worked.journal.Tie as tie
 
@@ -14,6 +14,9 @@ slice-aggregate-ends-with-3 c = search needs
 
 slice-aggregate-ends-with-4 : tie.Need-slice-aggregate-ends-with-4
 slice-aggregate-ends-with-4 c = search needs
+
+slice-aggregate-ends-with-5 : tie.Need-slice-aggregate-ends-with-5
+slice-aggregate-ends-with-5 c = search needs
 
 ends-with-requires : tie.Need-ends-with-requires
 ends-with-requires c κs = search needs
@@ -33,6 +36,7 @@ journal-spec =
     slice-aggregate-ends-with-2
     slice-aggregate-ends-with-3
     slice-aggregate-ends-with-4
+    slice-aggregate-ends-with-5
     ends-with-requires
     expect-requires
     returns)
