@@ -12,7 +12,7 @@ mod amounts;
 // The journal of document 01.
 mod worked;
 
-// Sheets in tens, due days, and what does not decode.
+// Sheets in tens, due days, what does not decode, and a negative headroom.
 mod run_cases;
 
 // Where the pencil slips.
@@ -28,6 +28,7 @@ fn main() {
     run_cases::sheets_in_tens();
     run_cases::due_within_a_year();
     run_cases::undecodable();
+    run_cases::headroom_below_zero();
     slips::days_from_trading_days();
     slips::values_summed_then_rounded();
     slips::pledge_before_its_close();
@@ -35,5 +36,5 @@ fn main() {
     slips::due_brought_forward();
     rehearsals::first();
     rehearsals::second();
-    rehearsals::only_late();
+    rehearsals::pledge_alone_late();
 }

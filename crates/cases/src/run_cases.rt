@@ -1,6 +1,7 @@
-// The cases that document 01 has run: sheets in tens, and due days up to a year ahead.
+// The cases that document 01 has run, sheets in tens and due days up to a year ahead, and two about the lines themselves.
 use crate::events::FUND_IN;
 use crate::events::INITIAL;
+use crate::events::RATE;
 use crate::journal;
 use crate::worked::ACCOUNTS;
 use crate::worked::COVER;
@@ -56,4 +57,19 @@ const UNDECODABLE_LINES: [[u64; 7]; 3] = [
 
 pub fn undecodable() {
     check::expect(journal::ends_with(&WEEK, &ACCOUNTS, &COVER, &UNDECODABLE, &UNDECODABLE_LINES));
+}
+
+// A rate set to 0 under a trade: 1 stands for the minus sign before 100.
+const CUT: [[u64; 7]; 2] = [
+    [INITIAL, 0, 100, 7, 3_650, 1_000, 4],
+    [RATE, 0, 0, 0, 0, 0, 0],
+];
+
+const CUT_LINES: [[u64; 7]; 2] = [
+    [0, 0, 80, 100, 5_000_000, 3_000_000, 0],
+    [0, 1, 100, 100, 5_000_000, 3_000_000, 0],
+];
+
+pub fn headroom_below_zero() {
+    check::expect(journal::ends_with(&WEEK, &ACCOUNTS, &COVER, &CUT, &CUT_LINES));
 }

@@ -1,7 +1,7 @@
 use borrow.Author.Needs.{needs}
 use Rattle.cases.specs.Journal.{endsWith}
-use Rattle.cases.proofs.rehearsals.only_late.Statement.{statement}
-use Rattle.cases.proofs.rehearsals.only_late.Tie as tie
+use Rattle.cases.proofs.rehearsals.pledge_alone_late.Statement.{statement}
+use Rattle.cases.proofs.rehearsals.pledge_alone_late.Tie as tie
 
 slice-aggregate-ends-with : tie.Need-slice-aggregate-ends-with
 slice-aggregate-ends-with c = search needs
@@ -28,8 +28,8 @@ expect-requires c κs = c .ends-with .ensures
 returns : tie.Need-returns
 returns c = search needs
 
-pub only-late-spec : {M : Type 1} → statement M
-only-late-spec =
+pub pledge-alone-late-spec : {M : Type 1} → statement M
+pledge-alone-late-spec =
     tie.close
     (tie.spec
     slice-aggregate-ends-with
