@@ -1,10 +1,17 @@
-// Events as rows: code, kind or account, amount (or rate, or size), contract, price, fallback price, due day.
+// Events and lines as rows of numbers.
 
-pub const OPEN: [u64; 7] = [1, 0, 0, 0, 0, 0, 0];
+// Code, kind or account, amount (or rate, or size), contract, price, fallback price, due day.
+pub type Event = [u64; 7];
 
-pub const PAY: [u64; 7] = [11, 0, 0, 0, 0, 0, 0];
+// Answer, headroom's sign (1 for a minus) and size, O, own, client, guarantee cash.
+pub type Line = [u64; 7];
 
-pub const CLOSE: [u64; 7] = [12, 0, 0, 0, 0, 0, 0];
+// The events that are their code.
+pub const OPEN: Event = [1, 0, 0, 0, 0, 0, 0];
+
+pub const PAY: Event = [11, 0, 0, 0, 0, 0, 0];
+
+pub const CLOSE: Event = [12, 0, 0, 0, 0, 0, 0];
 
 // The codes of the others.
 pub const FUND_IN: u64 = 2;

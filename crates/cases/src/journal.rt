@@ -1,10 +1,12 @@
-// A journal's rows as bytes, and whether its events give some lines.
+// A journal's rows as bytes, and whether its listing ends with some lines.
 ghost use mathlib.Core.Path.{_≡_};
 ghost use Prim.Native.Nat.{_+_, _*_, _≤_, _<_};
 ghost use mathlib.Core.List.{_++_};
 ghost use lib.ListN.{length, take};
 ghost use lib.Seq.{sets};
 ghost use Rattle.cases.specs.Journal.{digitOf, byteOf, eventBytes, bytesOf, sameLine, sameLines, endsWith};
+use crate::events::Event;
+use crate::events::Line;
 
 // The byte of a number at a place, the least first.
 fn digit(number: u64, place: usize) -> u8
@@ -15,7 +17,7 @@ fn digit(number: u64, place: usize) -> u8
 }
 
 // The byte of an event at a place of its 40.
-fn byte_of(event: [u64; 7], place: usize) -> u8
+fn byte_of(event: Event, place: usize) -> u8
     ensures { λ r. ⌜ r ≡ byteOf event place ⌝ }
 {
     if place == 0 {
@@ -45,7 +47,7 @@ fn byte_of(event: [u64; 7], place: usize) -> u8
     0
 }
 
-fn write_event(bytes: &mut [u8], at: usize, event: [u64; 7])
+fn write_event(bytes: &mut [u8], at: usize, event: Event)
     requires { ⌜ at + 40 ≤ length (now bytes) ⌝ }
     ensures { λ _. ⌜ now (bytes .exit) ≡ sets (now (bytes .entry)) at (eventBytes event) ⌝ }
 {
@@ -56,7 +58,7 @@ fn write_event(bytes: &mut [u8], at: usize, event: [u64; 7])
     }
 }
 
-fn write_events(bytes: &mut [u8], at: usize, events: &[[u64; 7]])
+fn write_events(bytes: &mut [u8], at: usize, events: &[Event])
     requires { ⌜ at + length (now events) * 40 ≤ length (now bytes) ⌝ }
     ensures { λ _. ⌜ now (bytes .exit) ≡ sets (now (bytes .entry)) at (bytesOf (now (events .entry))) ⌝ }
 {
@@ -67,7 +69,7 @@ fn write_events(bytes: &mut [u8], at: usize, events: &[[u64; 7]])
     }
 }
 
-fn same_line(numbers: &[u64], at: usize, line: [u64; 7]) -> bool
+fn same_line(numbers: &[u64], at: usize, line: Line) -> bool
     requires { ⌜ at + 7 ≤ length (now numbers) ⌝ }
     ensures { λ r. ⌜ r ≡ sameLine (now (numbers .entry)) at line ⌝ }
 {
@@ -82,7 +84,7 @@ fn same_line(numbers: &[u64], at: usize, line: [u64; 7]) -> bool
 }
 
 // Whether the numbers from a place on are those of the lines.
-fn same_lines(numbers: &[u64], at: usize, lines: &[[u64; 7]]) -> bool
+fn same_lines(numbers: &[u64], at: usize, lines: &[Line]) -> bool
     requires { ⌜ at + length (now lines) * 7 ≤ length (now numbers) ⌝ }
     ensures { λ r. ⌜ r ≡ sameLines (now (numbers .entry)) at (now (lines .entry)) ⌝ }
 {
@@ -97,7 +99,7 @@ fn same_lines(numbers: &[u64], at: usize, lines: &[[u64; 7]]) -> bool
 }
 
 // The bytes of a journal in three parts, at the front of a buffer for 48 events.
-fn encoded(start: &[[u64; 7]], earlier: &[[u64; 7]], events: &[[u64; 7]]) -> [u8; 1_920]
+fn encoded(start: &[Event], earlier: &[Event], events: &[Event]) -> [u8; 1_920]
     requires { ⌜ length (now start) + length (now earlier) + length (now events) ≤ 48 ⌝ }
     ensures { λ r. ⌜ take ((length (now (start .entry)) + length (now (earlier .entry)) + length (now (events .entry))) * 40) r ≡ bytesOf ((now (start .entry) ++ now (earlier .entry)) ++ now (events .entry)) ⌝ }
 {
@@ -111,10 +113,10 @@ fn encoded(start: &[[u64; 7]], earlier: &[[u64; 7]], events: &[[u64; 7]]) -> [u8
 // Whether the listing of a journal in three parts ends with these lines.
 pub fn ends_with(
     calendar: &[u32],
-    start: &[[u64; 7]],
-    earlier: &[[u64; 7]],
-    events: &[[u64; 7]],
-    lines: &[[u64; 7]],
+    start: &[Event],
+    earlier: &[Event],
+    events: &[Event],
+    lines: &[Line],
 ) -> bool
     requires { ⌜ (length (now calendar) ≤ 1200) × (length (now start) + length (now earlier) + length (now events) ≤ 48) × (length (now lines) ≤ length (now start) + length (now earlier) + length (now events)) ⌝ }
     ensures { λ r. ⌜ r ≡ endsWith (now (calendar .entry)) (now (start .entry)) (now (earlier .entry)) (now (events .entry)) (now (lines .entry)) ⌝ }

@@ -3,9 +3,11 @@ use crate::events::CASH;
 use crate::events::CLIENT;
 use crate::events::CLOSE;
 use crate::events::EARLY;
+use crate::events::Event;
 use crate::events::FUND_IN;
 use crate::events::FUND_OUT;
 use crate::events::INITIAL;
+use crate::events::Line;
 use crate::events::OPEN;
 use crate::events::OWN;
 use crate::events::PAY;
@@ -19,7 +21,7 @@ use crate::journal;
 const WEEKS: [u32; 1] = [7_998];
 
 // Cover of 180 sheets and two trades over all of it; the borrowed money is put to use, and contract 1 is redeemed for 800,080 fen.
-const BEFORE: [[u64; 7]; 16] = [
+const BEFORE: [Event; 16] = [
     [SIZE, 0, 1_000, 0, 0, 0, 0],
     [FUND_IN, CLIENT, 3_000_000, 0, 0, 0, 0],
     [RATE, 0, 9_000, 0, 0, 0, 0],
@@ -42,7 +44,7 @@ const BEFORE: [[u64; 7]; 16] = [
 ];
 
 // The money comes on day 4, cash is pledged, and the clients are paid.
-const PLEDGED_AND_PAID: [[u64; 7]; 6] = [
+const PLEDGED_AND_PAID: [Event; 6] = [
     // Day 4.
     OPEN,
     [FUND_IN, OWN, 2_000_000, 0, 0, 0, 0],
@@ -54,7 +56,7 @@ const PLEDGED_AND_PAID: [[u64; 7]; 6] = [
 ];
 
 // The same six events with the money a day late: on day 4 own holds 80 fen too little, and the cash is pledged on day 5.
-const UNPAID_AND_LATE: [[u64; 7]; 6] = [
+const UNPAID_AND_LATE: [Event; 6] = [
     // Day 4.
     OPEN,
     PAY,
@@ -66,7 +68,7 @@ const UNPAID_AND_LATE: [[u64; 7]; 6] = [
 ];
 
 // The same six events with the pledge alone a day late.
-const LATE: [[u64; 7]; 6] = [
+const LATE: [Event; 6] = [
     // Day 4.
     OPEN,
     [FUND_IN, OWN, 2_000_000, 0, 0, 0, 0],
@@ -78,7 +80,7 @@ const LATE: [[u64; 7]; 6] = [
 ];
 
 // The last twenty events of all three.
-const FROM_NOON: [[u64; 7]; 20] = [
+const FROM_NOON: [Event; 20] = [
     // Day 5: the rate is cut at noon, and three trades follow.
     [RATE, 0, 6_000, 0, 0, 0, 0],
     [INITIAL, 0, 50, 11, 3_650, 1_000, 8],
@@ -107,7 +109,7 @@ const FROM_NOON: [[u64; 7]; 20] = [
 ];
 
 // Bonds cover 120 and cash 100, so the 120 sheets fit beside contract 2; on day 8 the batch of 1,200,000 fen is paid.
-const FIT: [[u64; 7]; 26] = [
+const FIT: [Line; 26] = [
     // Day 4, and the Open of day 5.
     [0, 0, 80, 100, 800_000, 1_200_000, 0],
     [0, 0, 80, 100, 2_800_000, 1_200_000, 0],
@@ -148,7 +150,7 @@ pub fn first() {
 
 // The failed payment opens day 5 suspended, so the trades are 6, the smallest number that applies; with headroom 20 they had no
 // cover either. What waits is paid on day 5, and day 8 opens normal. Contract 13 was never begun: its early redemption is 10.
-const REFUSED: [[u64; 7]; 26] = [
+const REFUSED: [Line; 26] = [
     // Day 4, unpaid, and the morning of day 5.
     [0, 0, 80, 100, 800_000, 1_200_000, 0],
     [99, 0, 80, 100, 800_000, 1_200_000, 0],
@@ -188,7 +190,7 @@ pub fn second() {
 }
 
 // Without the failed payment the same trades are 12: cash counts from its own day's Close, and the bonds alone leave 20.
-const NO_COVER: [[u64; 7]; 26] = [
+const NO_COVER: [Line; 26] = [
     // Day 4, and the morning of day 5.
     [0, 0, 80, 100, 800_000, 1_200_000, 0],
     [0, 0, 80, 100, 2_800_000, 1_200_000, 0],

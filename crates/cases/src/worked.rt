@@ -1,8 +1,10 @@
 // The journal that document 01 works through, all its lines.
 use crate::events::CLIENT;
 use crate::events::CLOSE;
+use crate::events::Event;
 use crate::events::FUND_IN;
 use crate::events::INITIAL;
+use crate::events::Line;
 use crate::events::OPEN;
 use crate::events::OWN;
 use crate::events::PAY;
@@ -15,7 +17,7 @@ use crate::journal;
 pub const WEEK: [u32; 1] = [206];
 
 // What the firm begins with.
-pub const ACCOUNTS: [[u64; 7]; 4] = [
+pub const ACCOUNTS: [Event; 4] = [
     [SIZE, 0, 1_000, 0, 0, 0, 0],
     [FUND_IN, OWN, 5_000_000, 0, 0, 0, 0],
     [FUND_IN, CLIENT, 3_000_000, 0, 0, 0, 0],
@@ -23,9 +25,9 @@ pub const ACCOUNTS: [[u64; 7]; 4] = [
 ];
 
 // The first day and the next Open: cover of 180 sheets, and no trade yet.
-pub const COVER: [[u64; 7]; 5] = [OPEN, [PLEDGE, 0, 200, 0, 0, 0, 0], PAY, CLOSE, OPEN];
+pub const COVER: [Event; 5] = [OPEN, [PLEDGE, 0, 200, 0, 0, 0, 0], PAY, CLOSE, OPEN];
 
-const TRADES: [[u64; 7]; 7] = [
+const TRADES: [Event; 7] = [
     [INITIAL, 0, 100, 7, 3_650, 1_000, 4],
     PAY,
     CLOSE,
@@ -36,7 +38,7 @@ const TRADES: [[u64; 7]; 7] = [
 ];
 
 // Document 01's lines, with headroom's sign before its size.
-const LINES: [[u64; 7]; 16] = [
+const LINES: [Line; 16] = [
     [0, 0, 0, 0, 0, 0, 0],
     [0, 0, 0, 0, 5_000_000, 0, 0],
     [0, 0, 0, 0, 5_000_000, 3_000_000, 0],
