@@ -1,0 +1,2 @@
+-- The laws that the proofs of journal.rt share.
+pub mod JournalLaws

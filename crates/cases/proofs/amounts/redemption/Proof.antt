@@ -1,0 +1,14 @@
+use mathlib.Core.Path.{ap}
+use borrow.Author.Needs.{needs}
+use Rattle.money.specs.declared.amounts.Amount.{Amount}
+use Rattle.cases.proofs.amounts.redemption.Statement.{statement}
+use Rattle.cases.proofs.amounts.redemption.Tie as tie
+
+redemption-requires : tie.Need-redemption-requires
+redemption-requires c κs = search needs
+
+returns : tie.Need-returns
+returns c = ap (λ (amount : Amount). amount .fen .0) (c .redemption .ensures)
+
+pub redemption-spec : {M : Type 1} → statement M
+redemption-spec = tie.close (tie.spec redemption-requires returns)

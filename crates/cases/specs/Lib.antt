@@ -1,0 +1,2 @@
+-- What the cases compute with.
+pub mod Journal

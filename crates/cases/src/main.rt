@@ -1,0 +1,40 @@
+// Document 01's cases, run through the public calls; each expectation is proved from their promises.
+
+// Rows that stand for events.
+mod events;
+
+// The run of rows, and the lines that it ends with.
+mod journal;
+
+// M1 to M6.
+mod amounts;
+
+// The journal of document 01.
+mod worked;
+
+// Sheets in tens, due days, what does not decode, and a negative headroom.
+mod run_cases;
+
+// Where the pencil slips.
+mod slips;
+
+// The mission's two rehearsals.
+mod rehearsals;
+
+fn main() {
+    amounts::redemptions();
+    amounts::values();
+    worked::journal();
+    run_cases::sheets_in_tens();
+    run_cases::due_within_a_year();
+    run_cases::undecodable();
+    run_cases::headroom_below_zero();
+    slips::days_from_trading_days();
+    slips::values_summed_then_rounded();
+    slips::pledge_before_its_close();
+    slips::smaller_day_paid_alone();
+    slips::due_brought_forward();
+    rehearsals::first();
+    rehearsals::second();
+    rehearsals::pledge_alone_late();
+}
