@@ -4,3 +4,5 @@ pub mod WordLaws
 pub mod TextLaws
 pub mod LineLaws
 pub mod ListingLaws
+-- what callers cite
+pub mod Bounds

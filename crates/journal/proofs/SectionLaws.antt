@@ -165,7 +165,7 @@ module _ (bytes : List ℕ) where
     pub events-high : events ≤ 1500
     pub full : length bytes ≡ 4 + words * 4 + 4 + events * 40
 
-  journal-within : firstOf (journalCauses bytes) ≡ none → (wordCount bytes ≤ 1200) × (eventCount bytes ≤ 1500) × (sectionEnd 40 (eventsAt bytes) bytes ≡ length bytes)
+  pub journal-within : firstOf (journalCauses bytes) ≡ none → (wordCount bytes ≤ 1200) × (eventCount bytes ≤ 1500) × (sectionEnd 40 (eventsAt bytes) bytes ≡ length bytes)
   unfolding journalCauses sectionCauses
   journal-within e =
       let f = failed _ e 18 in

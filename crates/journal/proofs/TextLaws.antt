@@ -121,6 +121,19 @@ module _ (number count : ℕ) (f : Fewest 10 1 number count) (h : number < 2 ^ 6
   unfolding decimal
   spelled = ap (λ n. digits 10 n number) counted
 
+places-high : (most number : ℕ) → placesTo most number ≤ suc most
+unfolding placesTo
+places-high zero number = omega arith
+places-high (suc most) number = go (leb (10 ^ suc most) number) (places-high most number)
+  where
+    go : (b : Bool) → placesTo most number ≤ suc most → cond b (suc (suc most)) (placesTo most number) ≤ suc (suc most)
+    go true h = omega arith
+    go false h = omega arith
+
+pub length-decimal : (number : ℕ) → length (decimal number) ≤ 20
+unfolding decimal
+length-decimal number = omega (arith, length-digits 10 (placesTo 19 number) number, places-high 19 number)
+
 -- ---- a headroom, and a line
 
 pub signed-plain : (negative size : ℕ) → negative ≡ 0 → signed negative size ≡ spaced size

@@ -91,7 +91,7 @@ pub fn line_at(lines: &[u64], from: usize) -> Line
 
 // How many bytes a line takes: beside its numbers five spaces and the line end.
 pub fn line_length(place: usize, line: Line) -> usize
-    ensures { λ r. ⌜ (r ≡ length (lineText place line)) × (r ≤ 150) ⌝ }
+    ensures { λ r. ⌜ (r ≡ length (lineText place line)) × (r ≤ 148) ⌝ }
 {
     let headroom = signed_length(line.negative, line.size);
     let front = number_length(place as u64) + number_length(line.answer);

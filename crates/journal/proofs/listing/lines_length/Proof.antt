@@ -9,7 +9,7 @@ use Rattle.journal.proofs.listing.lines_length.Statement.{statement}
 use Rattle.journal.proofs.listing.lines_length.Tie as tie
 
 abbrev Inv-loop : tie.InvT-loop
-Inv-loop lines count total₀ k₀ total k = (k ≤ count) × (total ≡ length (linesText k lines)) × (total ≤ 150 * k)
+Inv-loop lines count total₀ k₀ total k = (k ≤ count) × (total ≡ length (linesText k lines)) × (total ≤ 148 * k)
 
 abbrev μ-loop : tie.MeasureT-loop
 μ-loop lines count total₀ k₀ total k = count - k
