@@ -11,6 +11,7 @@ use crate::sections::Sections;
 use crate::text;
 
 // A number of document 01, and how many bytes were written.
+#[repr(C)]
 pub struct Written {
     pub number: u8,
     pub length: usize,
