@@ -6,6 +6,9 @@ pub mod sections;
 // The listing of a journal, as text.
 pub mod listing;
 
+// A reader that keeps its place in a journal.
+pub mod reader;
+
 // Words and text, piece by piece.
 mod calendar;
 mod text;

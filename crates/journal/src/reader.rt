@@ -1,0 +1,31 @@
+// A reader over the lent journal keeps its place. Each function over it is thin: it takes the reader apart and leaves the
+// work to `sections::section_at`.
+ghost use mathlib.Core.Path.{_≡_};
+ghost use Rattle.journal.specs.Sections.{sectionAt};
+use crate::sections;
+use crate::sections::Section;
+
+pub struct Reader<'a> {
+    pub journal: &'a [u8],
+    pub at: usize,
+}
+
+pub fn new<'a>(journal: &'a [u8], at: usize) -> Reader<'a>
+    ensures { λ r. ⌜ (r .journal ≡ journal .entry) × (r .at ≡ at) ⌝ }
+{
+    Reader { journal, at }
+}
+
+// The section at the reader's place.
+pub fn section<'a>(reader: Reader<'a>, limit: u32, width: u32) -> Section
+    ensures { λ s. ⌜ s ≡ sectionAt limit width (reader .entry .at) (now (reader .entry .journal)) ⌝ }
+{
+    sections::section_at(reader.journal, reader.at, limit, width)
+}
+
+// The section at a place, for callers that hold no reader.
+pub fn section_from(journal: &[u8], at: usize, limit: u32, width: u32) -> Section
+    ensures { λ s. ⌜ s ≡ sectionAt limit width at (now (journal .entry)) ⌝ }
+{
+    section(new(journal, at), limit, width)
+}
