@@ -10,8 +10,8 @@ use Rattle.money.specs.Causes.{Cause, _⇒_, firstOf}
 use Rattle.money.specs.Days.{Calendar}
 use Rattle.book.specs.Entry.{numberAt}
 use Rattle.book.specs.Listing.{eventLimit, eventBytes}
-pub use Rattle.journal.specs.declared.sections.Section.{Section}
-pub use Rattle.journal.specs.declared.sections.Section.the-variants.{Whole, Malformed}
+pub use Rattle.journal.specs.declared.section.Section.{Section}
+pub use Rattle.journal.specs.declared.section.Section.the-variants.{Whole, Malformed}
 pub use Rattle.journal.specs.declared.sections.Sections.{Sections}
 pub use Rattle.journal.specs.declared.sections.Sections.the-variants.{Both, Neither}
 

@@ -4,7 +4,7 @@ ghost use mathlib.Core.List.{_++_};
 ghost use Prim.Native.Nat.{_+_, _*_, _≤_};
 ghost use lib.ListN.{length, drop};
 ghost use Rattle.journal.specs.Sections.{wordsOf};
-use crate::sections;
+use crate::section;
 
 // `count` words from a place on, put in front of the lent words.
 pub fn read_words(journal: &[u8], at: usize, count: usize, words: &mut [u32])
@@ -13,7 +13,7 @@ pub fn read_words(journal: &[u8], at: usize, count: usize, words: &mut [u32])
 {
     let mut k = 0;
     while k < count {
-        words[k] = sections::number4(journal, at + k * 4);
+        words[k] = section::number4(journal, at + k * 4);
         k += 1;
     }
 }

@@ -1,13 +1,14 @@
 // The journal: its bytes taken apart, its events run on a fresh book, and the listing of what each leaves.
 
-// The sections of a journal.
+// A section of a journal, and the reader that keeps its place.
+pub mod reader;
+pub mod section;
+
+// Both sections of a journal.
 pub mod sections;
 
 // The listing of a journal, as text.
 pub mod listing;
-
-// A reader that keeps its place in a journal.
-pub mod reader;
 
 // Words and text, piece by piece.
 mod calendar;

@@ -1,9 +1,9 @@
 // A reader over the lent journal keeps its place. Each function over it is thin: it takes the reader apart and leaves the
-// work to `sections::section_at`.
+// work to `section_at`.
 ghost use mathlib.Core.Path.{_≡_};
 ghost use Rattle.journal.specs.Sections.{sectionAt};
-use crate::sections;
-use crate::sections::Section;
+use crate::section::Section;
+use crate::section::section_at;
 
 pub struct Reader<'a> {
     pub journal: &'a [u8],
@@ -20,7 +20,7 @@ pub fn new<'a>(journal: &'a [u8], at: usize) -> Reader<'a>
 pub fn section<'a>(reader: Reader<'a>, limit: u32, width: u32) -> Section
     ensures { λ s. ⌜ s ≡ sectionAt limit width (reader .entry .at) (now (reader .entry .journal)) ⌝ }
 {
-    sections::section_at(reader.journal, reader.at, limit, width)
+    section_at(reader.journal, reader.at, limit, width)
 }
 
 // The section at a place, for callers that hold no reader.

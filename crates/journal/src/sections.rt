@@ -1,15 +1,8 @@
-// A journal's two sections: where each stands, and whether the journal is one.
+// A journal's two sections, read one after the other, and the end after them.
 ghost use mathlib.Core.Path.{_≡_};
-ghost use Prim.Native.Nat.{_+_, _≤_, _<_};
-ghost use lib.ListN.{length};
-ghost use Rattle.book.specs.Entry.{numberAt};
-ghost use Rattle.journal.specs.Sections.{sectionAt, sectionsOf};
-
-// A section with how many pieces it has.
-pub enum Section {
-    Whole(usize),
-    Malformed,
-}
+ghost use Rattle.journal.specs.Sections.{sectionsOf};
+use crate::reader;
+use crate::section::Section;
 
 // A journal with its words and its events counted.
 pub enum Sections {
@@ -17,54 +10,15 @@ pub enum Sections {
     Neither,
 }
 
-// A byte as a number of 4 bytes.
-fn wide(byte: u8) -> u32
-    ensures { λ r. ⌜ (r ≡ byte) × (r < 256) ⌝ }
-{
-    byte as u32
-}
-
-// The number of 4 bytes, the least byte first.
-pub(crate) fn number4(bytes: &[u8], at: usize) -> u32
-    requires { ⌜ at + 4 ≤ length (now bytes) ⌝ }
-    ensures { λ r. ⌜ r ≡ numberAt at 4 (now (bytes .entry)) ⌝ }
-{
-    let low = wide(bytes[at]) + wide(bytes[at + 1]) * 256;
-    let high = wide(bytes[at + 2]) + wide(bytes[at + 3]) * 256;
-    low + high * 65_536
-}
-
-// The section that starts at a place, its pieces `width` bytes each.
-pub fn section_at(journal: &[u8], at: usize, limit: u32, width: u32) -> Section
-    ensures { λ r. ⌜ r ≡ sectionAt limit width at (now (journal .entry)) ⌝ }
-{
-    if journal.len() < at {
-        return Section::Malformed;
-    }
-    let left = journal.len() - at;
-    if left < 4 {
-        return Section::Malformed;
-    }
-    let count = number4(journal, at);
-    if count > limit {
-        return Section::Malformed;
-    }
-    let taken = count as usize * width as usize;
-    if left - 4 < taken {
-        return Section::Malformed;
-    }
-    Section::Whole(count as usize)
-}
-
 // Both sections and the end after them.
 pub fn sections_of(journal: &[u8]) -> Sections
     ensures { λ r. ⌜ r ≡ sectionsOf (now (journal .entry)) ⌝ }
 {
-    let Section::Whole(words) = section_at(journal, 0, 1_200, 4) else {
+    let Section::Whole(words) = reader::section_from(journal, 0, 1_200, 4) else {
         return Sections::Neither;
     };
     let at = 4 + words * 4;
-    let Section::Whole(events) = section_at(journal, at, 1_500, 40) else {
+    let Section::Whole(events) = reader::section_from(journal, at, 1_500, 40) else {
         return Sections::Neither;
     };
     if at + 4 + events * 40 < journal.len() {

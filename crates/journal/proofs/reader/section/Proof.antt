@@ -45,15 +45,15 @@ use denote.Exit.{yes}
 use denote.Triple.Clauses.{ensured, lasts}
 use Rattle.journal.specs.Sections.{sectionAt}
 use Rattle.journal.specs.declared.reader.Reader.{Reader}
-use Rattle.journal.specs.declared.sections.Section.{Section}
+use Rattle.journal.specs.declared.section.Section.{Section}
 use Rattle.journal.proofs.reader.Reader as T
 use Rattle.journal.proofs.reader.Reader.Laws as T′
-use Rattle.journal.proofs.sections.Section as S
-use Rattle.journal.proofs.sections.Section.Laws as S′
-use Rattle.journal.proofs.sections.section_at as core
-use Rattle.journal.proofs.sections.section_at.Symbol as core-def
-use Rattle.journal.proofs.sections.section_at.Symbol.{name as #journal·section-at}
-use Rattle.journal.proofs.sections.section_at.Met as core-thm
+use Rattle.journal.proofs.section.Section as S
+use Rattle.journal.proofs.section.Section.Laws as S′
+use Rattle.journal.proofs.section.section_at as core
+use Rattle.journal.proofs.section.section_at.Symbol as core-def
+use Rattle.journal.proofs.section.section_at.Symbol.{name as #journal·section-at}
+use Rattle.journal.proofs.section.section_at.Met as core-thm
 use Rattle.journal.proofs.reader.section.Key.{name as #journal·section}
 use Rattle.journal.proofs.reader.section as section
 use Rattle.journal.proofs.reader.section.Statement as stated
@@ -166,4 +166,4 @@ section-spec 𝓤 H 𝓜 𝓖 𝓡 =
     entered 𝓤 H (tripleOf 𝓤 H (𝓖 .A) section.signature (section.spec 𝓤 H (𝓖 .A) (𝓜 .mem) (𝓡 .run)))
     (tables 𝓤 H 𝓜 𝓡 code.env .C) (tables 𝓤 H 𝓜 𝓡 code.env .Λ) #journal·section code.function (code.unfolded 𝓤 H 𝓜 𝓡)
     (section-meets 𝓤 H (𝓖 .A) (givenOf 𝓤 H 𝓜 𝓖) (𝓜 .mem) (𝓡 .run) (tablesOf 𝓤 H 𝓜 (tables 𝓤 H 𝓜 𝓡 code.env))
-    (cited 𝓤 H (SectionAt 𝓤 H (𝓖 .A) (𝓜 .mem) (𝓡 .run)) 𝓜 𝓡 code.env #journal·section-at core-def.routine code.calls-journal·sections·section-at (core-thm.met 𝓤 H 𝓜 𝓖 𝓡)))
+    (cited 𝓤 H (SectionAt 𝓤 H (𝓖 .A) (𝓜 .mem) (𝓡 .run)) 𝓜 𝓡 code.env #journal·section-at core-def.routine code.calls-journal·section·section-at (core-thm.met 𝓤 H 𝓜 𝓖 𝓡)))

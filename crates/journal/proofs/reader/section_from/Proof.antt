@@ -40,11 +40,11 @@ use denote.Exit.{yes}
 use denote.Triple.Clauses.{ensured, lasts}
 use Rattle.journal.specs.Sections.{sectionAt}
 use Rattle.journal.specs.declared.reader.Reader.{Reader}
-use Rattle.journal.specs.declared.sections.Section.{Section}
+use Rattle.journal.specs.declared.section.Section.{Section}
 use Rattle.journal.proofs.reader.Reader as T
 use Rattle.journal.proofs.reader.Reader.Laws as T′
-use Rattle.journal.proofs.sections.Section as S
-use Rattle.journal.proofs.sections.Section.Laws as S′
+use Rattle.journal.proofs.section.Section as S
+use Rattle.journal.proofs.section.Section.Laws as S′
 use Rattle.journal.proofs.reader.new as new
 use Rattle.journal.proofs.reader.new.Symbol as new-def
 use Rattle.journal.proofs.reader.new.Symbol.{name as #journal·new}

@@ -2,8 +2,8 @@ use native.Mathlib.Nat.{mul-le-mul}
 use native.Mathlib.Omega.{arith}
 use borrow.Author.Needs.{needs}
 use Rattle.journal.proofs.SectionLaws.{early-count, past-limit, early-end, whole}
-use Rattle.journal.proofs.sections.section_at.Statement.{statement}
-use Rattle.journal.proofs.sections.section_at.Tie as tie
+use Rattle.journal.proofs.section.section_at.Statement.{statement}
+use Rattle.journal.proofs.section.section_at.Tie as tie
 
 returns : tie.Need-returns
 returns c = early-count _ _ _ _ (omega arith)

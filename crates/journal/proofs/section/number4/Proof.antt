@@ -2,8 +2,8 @@ use Prim.Native.Nat.{_+_}
 use native.Mathlib.Omega.{arith}
 use borrow.Author.Needs.{needs}
 use Rattle.book.proofs.Bytes.{no-bytes, first-four}
-use Rattle.journal.proofs.sections.number4.Statement.{statement}
-use Rattle.journal.proofs.sections.number4.Tie as tie
+use Rattle.journal.proofs.section.number4.Statement.{statement}
+use Rattle.journal.proofs.section.number4.Tie as tie
 
 shared-slice-read-wide : tie.Need-shared-slice-read-wide
 shared-slice-read-wide c = search needs
