@@ -1,15 +1,15 @@
 -- How long a listing can be, and that what was written lies within the lent text: for callers of write_listing.
 -- Assumes nothing.
-use mathlib.Core.Path.{_≡_, refl, ap, _∙_}
+use mathlib.Core.Path.{_≡_, refl}
 use mathlib.Core.Bool.{Bool, true, false, cond}
 use mathlib.Core.List.{List, _∷_}
 use mathlib.Core.Option.{Option, none, some}
-use Prim.Native.Nat.{ℕ, zero, suc, _+_, _*_, _≤_}
+use Prim.Native.Nat.{ℕ, zero, suc, _*_, _≤_}
 use native.Mathlib.Omega.{arith}
 use borrow.Author.Tests.{ltb-false}
 use lib.Dec.{ltb, eqb}
 use lib.ListN.{length, drop, length-append}
-use Rattle.money.specs.Causes.{firstOf, numberOf, resultOf}
+use Rattle.money.specs.Causes.{firstOf, resultOf}
 use Rattle.book.specs.Listing.{listingOf}
 use Rattle.journal.specs.Sections.{eventCount, calendarOf, eventsOf, journalCauses}
 use Rattle.journal.specs.Text.{Line, decimal, spaced, signed, lineFrom, lineText}

@@ -4,5 +4,7 @@ pub mod WordLaws
 pub mod TextLaws
 pub mod LineLaws
 pub mod ListingLaws
+-- document 01's journal, computed
+pub mod Cases
 -- what callers cite
 pub mod Bounds

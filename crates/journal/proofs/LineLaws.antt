@@ -21,7 +21,8 @@ use Rattle.book.specs.declared.event.Entry.{Entry}
 use Rattle.book.specs.Step.{step}
 use Rattle.book.specs.Run.{run}
 use Rattle.book.specs.Listing.{journalTable, entriesOf, lineOf, linesOf, listingOf, listingCauses, writtenBy}
-use Rattle.journal.specs.Text.{Line, lineFrom, lineText, placed}
+use Rattle.journal.specs.Text.{Line, lineFrom, lineText}
+use Rattle.journal.specs.Lent.{placed}
 use Rattle.journal.specs.Listing.{Written, linesText, textCauses, answerOf, textAfter}
 
 -- ---- a line's numbers, by place

@@ -12,7 +12,8 @@ use lib.Dec.{leb, lit<}
 use lib.ListN.{length, take, drop, set, length-append, length-drop, length-set}
 use lib.Seq.{append-snoc, set-split, length-take-le, take-at, drop-append-add, drop-drop, paste, take-length}
 use Rattle.io.specs.Digits.{digits, Fewest}
-use Rattle.journal.specs.Text.{Line, placesTo, decimal, spaced, signed, lineText, placed}
+use Rattle.journal.specs.Text.{Line, placesTo, decimal, spaced, signed, lineText}
+use Rattle.journal.specs.Lent.{placed}
 
 -- ---- bytes in a text
 

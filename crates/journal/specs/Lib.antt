@@ -2,3 +2,5 @@
 pub mod Sections
 pub mod Text
 pub mod Listing
+-- for private contracts
+pub mod Lent

@@ -1,10 +1,10 @@
 -- A line of the listing as bytes. (01, The journal)
 -- Assumes nothing.
-use Prim.Native.Nat.{ℕ, zero, suc, _+_, _^_}
+use Prim.Native.Nat.{ℕ, zero, suc, _^_}
 use mathlib.Core.Bool.{cond}
 use mathlib.Core.List.{List, [], _∷_, _++_}
 use lib.Dec.{leb, eqb}
-use lib.ListN.{length, take, drop, getD}
+use lib.ListN.{getD}
 use Rattle.io.specs.Digits.{digits}
 pub use Rattle.journal.specs.declared.text.Line.{Line}
 
@@ -48,7 +48,3 @@ lineText place line =
     ++ spaced (line .client)
     ++ spaced (line .guarantee)
     ++ 10 ∷ []
-
--- bytes that stand in a text from a place on
-unfoldable pub placed : (text : List ℕ) (at : ℕ) → List ℕ → List ℕ
-placed text at bytes = take at text ++ bytes ++ drop (at + length bytes) text

@@ -2,7 +2,8 @@
 ghost use mathlib.Core.Path.{_≡_};
 ghost use Prim.Native.Nat.{_+_, _≤_};
 ghost use lib.ListN.{length, drop};
-ghost use Rattle.journal.specs.Text.{decimal, spaced, signed, lineFrom, lineText, placed};
+ghost use Rattle.journal.specs.Text.{decimal, spaced, signed, lineFrom, lineText};
+ghost use Rattle.journal.specs.Lent.{placed};
 
 pub fn put(text: &mut [u8], at: usize, bytes: &[u8]) -> usize
     requires { ⌜ at + length (now bytes) ≤ length (now text) ⌝ }
