@@ -27,6 +27,12 @@ struct Found {
     day: u32,
 }
 
+#[repr(C)]
+struct Written {
+    number: u8,
+    length: usize,
+}
+
 // A lent slice is its pointer and its length.
 extern "C" {
     fn money_initial(q: Sheets) -> Amount;
@@ -44,6 +50,7 @@ extern "C" {
         lines: *mut u64,
         room: usize,
     ) -> u8;
+    fn journal_write_listing(journal: *const u8, bytes: usize, text: *mut u8, room: usize) -> Written;
 }
 
 /// The amount of an initial trade, beside its number.
@@ -131,4 +138,12 @@ fn line(numbers: &[u64]) -> Line {
         client: numbers[5],
         guarantee: numbers[6],
     }
+}
+
+/// The listing of any bytes, in front of a lent text: the number, and how many
+/// bytes were written.
+pub fn write_listing(journal: &[u8], text: &mut [u8]) -> (u8, usize) {
+    let written =
+        unsafe { journal_write_listing(journal.as_ptr(), journal.len(), text.as_mut_ptr(), text.len()) };
+    (written.number, written.length)
 }
