@@ -1,16 +1,18 @@
 -- What the tests of a section and of both sections say together: for the functions of sections.rt and their callers.
 -- Assumes nothing.
-use mathlib.Core.Path.{_≡_, refl, ap, _∙_}
+use mathlib.Core.Path.{_≡_, refl, sym, ap, _∙_}
 use mathlib.Core.Bool.{Bool, true, false, cond}
 use mathlib.Core.List.{List, [], _∷_, _++_}
 use mathlib.Core.Option.{Option, none, some}
 use Prim.Native.Nat.{ℕ, _+_, _*_, _≤_, _<_}
 use native.Mathlib.Omega.{arith}
-use borrow.Author.Tests.{lt-ltb, le-ltb, ltb-false}
+use borrow.Author.Tests.{lt-ltb, le-ltb, ltb-false, eqb-true}
+use lib.Dec.{eqb}
 use lib.ListN.{length}
-use Rattle.money.specs.Causes.{Cause, firstOf}
+use Rattle.money.specs.Causes.{Cause, firstOf, numberOf}
 use Rattle.money.proofs.Refusals.{hit, skip, clear, failed}
-use Rattle.journal.specs.Sections.{Whole, Malformed, Both, Neither, countAt, sectionEnd, sectionCauses, sectionBy, sectionAt, wordCount, eventCount, eventsAt, journalCauses, sectionsBy, sectionsOf}
+use Rattle.book.proofs.Answers.{numbers, number-passes}
+use Rattle.journal.specs.Sections.{sectionNumber, sectionsNumber, Whole, Malformed, Both, Refused, countAt, sectionEnd, sectionCauses, sectionBy, sectionAt, wordCount, eventCount, eventsAt, journalCauses, sectionsBy, sectionsOf}
 
 -- ---- causes in a row
 
@@ -114,27 +116,27 @@ module _ (bytes : List ℕ) where
   abbrev event-causes : List Cause
   event-causes = sectionCauses 1500 40 (eventsAt bytes) bytes
 
-  neither-by : {n : ℕ} → firstOf (journalCauses bytes) ≡ some n → Neither ≡ sectionsOf bytes
+  refused-by : {n : ℕ} → firstOf (journalCauses bytes) ≡ some n → Refused ≡ sectionsOf bytes
   unfolding sectionsBy
-  neither-by e = rw e
+  refused-by e = rw e
 
   both-by : firstOf (journalCauses bytes) ≡ none → Both (wordCount bytes) (eventCount bytes) ≡ sectionsOf bytes
   unfolding sectionsBy
   both-by e = rw e
 
-  pub calendar-cut : sectionAt 1200 4 0 bytes ≡ Malformed → Neither ≡ sectionsOf bytes
+  pub calendar-cut : sectionAt 1200 4 0 bytes ≡ Malformed → Refused ≡ sectionsOf bytes
   unfolding journalCauses
-  calendar-cut e = neither-by (stops (calendar-causes ++ event-causes) _ (stops calendar-causes event-causes (cut 1200 4 0 bytes e .first)))
+  calendar-cut e = refused-by (stops (calendar-causes ++ event-causes) _ (stops calendar-causes event-causes (cut 1200 4 0 bytes e .first)))
 
   module _ (words : ℕ) (calendar : Read 1200 4 0 bytes words) where
     pub events-from : 4 + words * 4 ≡ eventsAt bytes
     events-from = omega (arith, calendar .counted)
 
-    pub events-cut : sectionAt 1500 40 (4 + words * 4) bytes ≡ Malformed → Neither ≡ sectionsOf bytes
+    pub events-cut : sectionAt 1500 40 (4 + words * 4) bytes ≡ Malformed → Refused ≡ sectionsOf bytes
     unfolding journalCauses
     events-cut e =
         let there : sectionAt 1500 40 (eventsAt bytes) bytes ≡ Malformed = rw events-from at e in
-        neither-by (stops (calendar-causes ++ event-causes) _ (passes calendar-causes event-causes (calendar .clear) ∙ cut 1500 40 (eventsAt bytes) bytes there .first))
+        refused-by (stops (calendar-causes ++ event-causes) _ (passes calendar-causes event-causes (calendar .clear) ∙ cut 1500 40 (eventsAt bytes) bytes there .first))
 
     module _ (events : ℕ) (there : Read 1500 40 (4 + words * 4) bytes events) where
       events-there : Read 1500 40 (eventsAt bytes) bytes events
@@ -146,9 +148,9 @@ module _ (bytes : List ℕ) where
       both-clear : firstOf (calendar-causes ++ event-causes) ≡ none
       both-clear = passes calendar-causes event-causes (calendar .clear) ∙ events-there .clear
 
-      pub left-over : 4 + words * 4 + 4 + events * 40 < length bytes → Neither ≡ sectionsOf bytes
+      pub left-over : 4 + words * 4 + 4 + events * 40 < length bytes → Refused ≡ sectionsOf bytes
       unfolding journalCauses
-      left-over h = neither-by (passes (calendar-causes ++ event-causes) _ both-clear ∙ hit 18 [] (lt-ltb _ _ (rw events-end at h)))
+      left-over h = refused-by (passes (calendar-causes ++ event-causes) _ both-clear ∙ hit 18 [] (lt-ltb _ _ (rw events-end at h)))
 
       pub ended : length bytes ≤ 4 + words * 4 + 4 + events * 40 → Both words events ≡ sectionsOf bytes
       unfolding journalCauses
@@ -185,14 +187,35 @@ module _ (bytes : List ℕ) where
           record { none-applies = c; words-counted = w′; events-counted = e′; words-high = rw w′ (within .0); events-high = rw e′ (within .1); full = omega (arith, within .2) }
       go (some k) c w = let z : _≡_ {A = ℕ} 0 1 = cc in absurd (omega arith)
 
-  pub record Refused : Type 0 where
+  pub record NoJournal : Type 0 where
     pub number : ℕ
     pub first : firstOf (journalCauses bytes) ≡ some number
 
-  pub no-journal : sectionsOf bytes ≡ Neither → Refused
+  pub no-journal : sectionsOf bytes ≡ Refused → NoJournal
   unfolding sectionsBy
   no-journal e = go (firstOf (journalCauses bytes)) refl e
     where
-      go : (o : Option ℕ) → firstOf (journalCauses bytes) ≡ o → sectionsBy o (wordCount bytes) (eventCount bytes) ≡ Neither → Refused
+      go : (o : Option ℕ) → firstOf (journalCauses bytes) ≡ o → sectionsBy o (wordCount bytes) (eventCount bytes) ≡ Refused → NoJournal
       go none c w = let z : _≡_ {A = ℕ} 0 1 = cc in absurd (omega arith)
       go (some k) c w = record { number = k; first = c }
+
+-- ---- the number of what was read is that of its causes
+
+all-18 : (cs : List Cause) → numbers (λ k. eqb k 18) cs ≡ true → (n : ℕ) → firstOf cs ≡ some n → n ≡ 18
+all-18 cs p n e = eqb-true n 18 (number-passes (λ k. eqb k 18) cs n p e)
+
+pub section-number : (limit width at : ℕ) (bytes : List ℕ) → sectionNumber (sectionAt limit width at bytes) ≡ numberOf (firstOf (sectionCauses limit width at bytes))
+unfolding sectionBy sectionCauses
+section-number limit width at bytes = go (firstOf (sectionCauses limit width at bytes)) refl
+  where
+    go : (o : Option ℕ) → firstOf (sectionCauses limit width at bytes) ≡ o → sectionNumber (sectionBy o (countAt at bytes)) ≡ numberOf o
+    go none e = refl
+    go (some n) e = sym (all-18 _ refl n e)
+
+pub sections-number : (bytes : List ℕ) → sectionsNumber (sectionsOf bytes) ≡ numberOf (firstOf (journalCauses bytes))
+unfolding sectionsBy sectionCauses journalCauses
+sections-number bytes = go (firstOf (journalCauses bytes)) refl
+  where
+    go : (o : Option ℕ) → firstOf (journalCauses bytes) ≡ o → sectionsNumber (sectionsBy o (wordCount bytes) (eventCount bytes)) ≡ numberOf o
+    go none e = refl
+    go (some n) e = sym (all-18 _ refl n e)

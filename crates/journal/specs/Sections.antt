@@ -13,7 +13,7 @@ use Rattle.book.specs.Listing.{eventLimit, eventBytes}
 pub use Rattle.journal.specs.declared.section.Section.{Section}
 pub use Rattle.journal.specs.declared.section.Section.the-variants.{Whole, Malformed}
 pub use Rattle.journal.specs.declared.sections.Sections.{Sections}
-pub use Rattle.journal.specs.declared.sections.Sections.the-variants.{Both, Neither}
+pub use Rattle.journal.specs.declared.sections.Sections.the-variants.{Both, Refused}
 
 -- "each after its count, all little-endian: a 32-bit count"
 abbrev pub countBytes : ℕ
@@ -83,11 +83,11 @@ sectionNumber Malformed = 18
 -- what reading both answers: their counts, or that the journal is malformed
 unfoldable pub sectionsBy : Option ℕ → (words events : ℕ) → Sections
 sectionsBy none words events = Both words events
-sectionsBy (some number) words events = Neither
+sectionsBy (some number) words events = Refused
 
 abbrev pub sectionsOf : List ℕ → Sections
 sectionsOf bytes = sectionsBy (firstOf (journalCauses bytes)) (wordCount bytes) (eventCount bytes)
 
 abbrev pub sectionsNumber : Sections → ℕ
 sectionsNumber (Both words events) = 0
-sectionsNumber Neither = 18
+sectionsNumber Refused = 18

@@ -7,7 +7,7 @@ use crate::section::Section;
 // A journal with its words and its events counted.
 pub enum Sections {
     Both(usize, usize),
-    Neither,
+    Refused,
 }
 
 // Both sections and the end after them.
@@ -15,14 +15,14 @@ pub fn sections_of(journal: &[u8]) -> Sections
     ensures { λ r. ⌜ r ≡ sectionsOf (now (journal .entry)) ⌝ }
 {
     let Section::Whole(words) = reader::section_from(journal, 0, 1_200, 4) else {
-        return Sections::Neither;
+        return Sections::Refused;
     };
     let at = 4 + words * 4;
     let Section::Whole(events) = reader::section_from(journal, at, 1_500, 40) else {
-        return Sections::Neither;
+        return Sections::Refused;
     };
     if at + 4 + events * 40 < journal.len() {
-        return Sections::Neither;
+        return Sections::Refused;
     }
     Sections::Both(words, events)
 }
