@@ -10,10 +10,21 @@ pub struct Reader<'a> {
     pub at: usize,
 }
 
-pub fn new<'a>(journal: &'a [u8], at: usize) -> Reader<'a>
-    ensures { λ r. ⌜ (r .journal ≡ journal .entry) × (r .at ≡ at) ⌝ }
+// A reader at the first byte.
+pub fn new<'a>(journal: &'a [u8]) -> Reader<'a>
+    ensures { λ r. ⌜ (r .journal ≡ journal .entry) × (r .at ≡ 0) ⌝ }
 {
-    Reader { journal, at }
+    Reader { journal, at: 0 }
+}
+
+// The reader at another place of the same journal.
+pub fn moved<'a>(reader: Reader<'a>, at: usize) -> Reader<'a>
+    ensures { λ r. ⌜ (r .journal ≡ reader .entry .journal) × (r .at ≡ at) ⌝ }
+{
+    Reader {
+        journal: reader.journal,
+        at,
+    }
 }
 
 // The section at the reader's place.
@@ -27,5 +38,5 @@ pub fn section<'a>(reader: Reader<'a>, limit: u32, width: u32) -> Section
 pub fn section_from(journal: &[u8], at: usize, limit: u32, width: u32) -> Section
     ensures { λ s. ⌜ s ≡ sectionAt limit width at (now (journal .entry)) ⌝ }
 {
-    section(new(journal, at), limit, width)
+    section(moved(new(journal), at), limit, width)
 }
