@@ -2,17 +2,12 @@
 //! against the model: `proved` has the calls behind safe functions.
 
 pub mod proved;
-#[cfg(not(feature = "journal"))]
-pub mod stand_in;
 
 use std::io::Write;
 
 use model::coverage::Coverage;
 
-#[cfg(feature = "journal")]
 pub use proved::write_listing;
-#[cfg(not(feature = "journal"))]
-pub use stand_in::write_listing;
 
 /// Shows how often each pair of event and answer was met, and fails where one
 /// that document 01 allows from a fresh book never was, or another was.

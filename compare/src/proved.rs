@@ -29,7 +29,6 @@ struct Found {
     number: u8,
     day: u32,
 }
-#[cfg(feature = "journal")]
 #[repr(C)]
 struct Written {
     number: u8,
@@ -53,7 +52,6 @@ extern "C" {
         lines: *mut u64,
         room: usize,
     ) -> u8;
-    #[cfg(feature = "journal")]
     fn journal_write_listing(journal: *const u8, bytes: usize, text: *mut u8, room: usize) -> Written;
 }
 
@@ -134,7 +132,6 @@ fn line(numbers: &[u64]) -> Line {
 }
 
 /// The listing of a journal, into a lent buffer: the number and the listing's length.
-#[cfg(feature = "journal")]
 pub fn write_listing(journal: &[u8], text: &mut [u8]) -> (u8, usize) {
     let written =
         unsafe { journal_write_listing(journal.as_ptr(), journal.len(), text.as_mut_ptr(), text.len()) };

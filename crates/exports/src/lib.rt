@@ -5,3 +5,6 @@ pub mod money_calls;
 
 // The book.
 pub mod book_calls;
+
+// The journal.
+pub mod journal_calls;

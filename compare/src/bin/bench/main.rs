@@ -23,7 +23,6 @@ fn main() {
     );
     for load in loads::all().into_iter().filter(wanted) {
         report(&load, "run", run(&load));
-        #[cfg(feature = "journal")]
         report(&load, "listing", listing(&load));
     }
 }
@@ -54,7 +53,6 @@ fn run(load: &Load) -> Medians {
 }
 
 /// The whole way, from a journal's bytes to its listing.
-#[cfg(feature = "journal")]
 fn listing(load: &Load) -> Medians {
     let journal = model::journal::write(&load.calendar, &load.events);
     let listing = model::journal::listing(&journal);

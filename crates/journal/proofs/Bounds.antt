@@ -1,0 +1,74 @@
+-- How long a listing can be, and that what was written lies within the lent text: for callers of write_listing.
+-- Assumes nothing.
+use mathlib.Core.Path.{_≡_, refl}
+use mathlib.Core.Bool.{Bool, true, false, cond}
+use mathlib.Core.List.{List, _∷_}
+use mathlib.Core.Option.{Option, none, some}
+use Prim.Native.Nat.{ℕ, zero, suc, _*_, _≤_}
+use native.Mathlib.Omega.{arith}
+use borrow.Author.Tests.{ltb-false}
+use lib.Dec.{ltb, eqb}
+use lib.ListN.{length, drop, length-append}
+use Rattle.money.specs.Causes.{firstOf, resultOf}
+use Rattle.book.specs.Listing.{listingOf}
+use Rattle.journal.specs.Sections.{eventCount, calendarOf, eventsOf, journalCauses}
+use Rattle.journal.specs.Text.{Line, decimal, spaced, signed, lineFrom, lineText}
+use Rattle.journal.specs.Listing.{Written, linesText, refusedLine, listingBy, listingText, textCauses, answerOf}
+use Rattle.journal.proofs.TextLaws.{length-decimal, length-spaced, length-line}
+use Rattle.journal.proofs.SectionLaws.{journal-within}
+
+length-signed : (negative size : ℕ) → length (signed negative size) ≤ 22
+unfolding signed spaced
+length-signed negative size = go (eqb negative 0)
+  where
+    go : (b : Bool) → length (cond b (32 ∷ decimal size) (32 ∷ 45 ∷ decimal size)) ≤ 22
+    go true = omega (arith, length-decimal size)
+    go false = omega (arith, length-decimal size)
+
+line-high : (place : ℕ) (line : Line) → length (lineText place line) ≤ 148
+line-high place line =
+    omega (
+      arith,
+      length-line place line,
+      length-spaced (line .answer),
+      length-spaced (line .outstanding),
+      length-spaced (line .own),
+      length-spaced (line .client),
+      length-spaced (line .guarantee),
+      length-signed (line .negative) (line .size),
+      length-decimal place,
+      length-decimal (line .answer),
+      length-decimal (line .outstanding),
+      length-decimal (line .own),
+      length-decimal (line .client),
+      length-decimal (line .guarantee),
+    )
+
+lines-high : (count : ℕ) (numbers : List ℕ) → length (linesText count numbers) ≤ 148 * count
+unfolding linesText
+lines-high zero numbers = omega arith
+lines-high (suc count) numbers =
+    omega (
+      arith,
+      length-append (linesText count numbers) (lineText (suc count) (lineFrom (drop (count * 7) numbers))),
+      line-high (suc count) (lineFrom (drop (count * 7) numbers)),
+      lines-high count numbers,
+    )
+
+-- no bytes have a listing of more than 222,000
+pub listing-high : (bytes : List ℕ) → length (listingText bytes) ≤ 222000
+unfolding listingText listingBy refusedLine
+listing-high bytes = go (firstOf (journalCauses bytes)) refl
+  where
+    go : (o : Option ℕ) → firstOf (journalCauses bytes) ≡ o → length (listingBy o bytes) ≤ 222000
+    go none e = omega (arith, lines-high (eventCount bytes) (listingOf (calendarOf bytes) (eventsOf bytes)), journal-within bytes e .1)
+    go (some number) e = omega arith
+
+-- what was written lies within the text
+pub written-within : (listing text : List ℕ) (written : Written) → written ≡ answerOf listing text → written .length ≤ length text
+unfolding answerOf textCauses firstOf
+written-within listing text written e = rw e (go (ltb (length text) (length listing)) refl)
+  where
+    go : (b : Bool) → ltb (length text) (length listing) ≡ b → resultOf (cond b (some 14) none) (length listing) ≤ length text
+    go true m = omega arith
+    go false m = ltb-false _ _ m

@@ -1,0 +1,104 @@
+use mathlib.Core.Path.{_≡_, sym, _∙_}
+use Prim.Native.Nat.{_-_}
+use native.Mathlib.Omega.{arith}
+use borrow.Author.Needs.{needs}
+use lib.ListN.{take}
+use lib.Seq.{length-take-le}
+use Rattle.journal.specs.Sections.{calendarOf}
+use Rattle.journal.proofs.SectionLaws.{Journal, journal, no-journal}
+use Rattle.journal.proofs.ListingLaws.{refused-text, words-taken, length-calendar, events-taken, length-events, journal-text}
+use borrow.Author.Needs.{needs}
+use Rattle.journal.proofs.listing.write_listing.Statement.{statement}
+use Rattle.journal.proofs.listing.write_listing.Tie as tie
+
+is-journal : (c : tie.After-words) → Journal (c .before .before .before .before .before .args .journal .now) (c .words .given .0 .0) (c .words .given .0 .1 .0)
+is-journal c = journal _ _ _ (sym (c .before .before .sections-of .ensures) ∙ c .words .given .1)
+
+calendar-read : (c : tie.After-read-words) → take (c .before .before .before .words .given .0 .0) (c .read-words .last .1 .1 .1 .0) ≡ calendarOf (c .before .before .before .before .before .before .before .before .args .journal .now)
+calendar-read c = words-taken _ _ _ (is-journal (c .before .before .before)) _ _ (c .read-words .ensures)
+
+sections-of-requires : tie.Need-sections-of-requires
+sections-of-requires c κs = search needs
+
+enum-known-words : tie.Need-enum-known-words
+enum-known-words c = search needs
+
+enum-told : tie.Need-enum-told
+enum-told c = search needs
+
+write-refused-requires : tie.Need-write-refused-requires
+write-refused-requires c κs = search needs
+
+same-length : tie.Need-same-length
+same-length c = search needs
+
+returns : tie.Need-returns
+returns c = rw (refused-text _ (no-journal _ (sym (c .before .before .before .before .before .before .sections-of .ensures) ∙ c .before .before .before .before .enum-told .given .1) .first)) at (c .before .before .write-refused .ensures)
+
+slice-aggregate-read-words : tie.Need-slice-aggregate-read-words
+slice-aggregate-read-words c = search needs
+
+read-words-requires : tie.Need-read-words-requires
+read-words-requires c κs = let j = is-journal (c .before .before) in (omega (arith, j .full), j .words-high)
+
+mul-start : tie.Need-mul-start
+mul-start c = omega (arith, is-journal (c .before .before .before .before) .words-high)
+
+add-start : tie.Need-add-start
+add-start c = omega (arith, is-journal (c .before .before .before .before) .words-high)
+
+add-start-2 : tie.Need-add-start-2
+add-start-2 c = omega (arith, is-journal (c .before .before .before .before) .words-high)
+
+array-share-prefix-calendar : tie.Need-array-share-prefix-calendar
+array-share-prefix-calendar c = omega (arith, is-journal (c .before .before .before .before) .words-high, c .before .read-words .kept .1 .1 .1 .0)
+
+slice-aggregate-write-run : tie.Need-slice-aggregate-write-run
+slice-aggregate-write-run c = sym (length-take-le _ _ (omega (arith, is-journal (c .before .before .before .before .before) .words-high, c .before .before .read-words .kept .1 .1 .1 .0)))
+
+sub-write-run : tie.Need-sub-write-run
+sub-write-run c = omega (arith, is-journal (c .before .before .before .before .before) .full)
+
+part-write-run-start : tie.Need-part-write-run-start
+part-write-run-start c = omega (arith, is-journal (c .before .before .before .before .before) .full)
+
+part-write-run-end : tie.Need-part-write-run-end
+part-write-run-end c = search needs
+
+write-run-requires : tie.Need-write-run-requires
+write-run-requires c κs =
+    let j = is-journal (c .before .before .before .before .before .before .before) in
+    rw (calendar-read (c .before .before .before .before), events-taken _ _ _ j)
+    (length-calendar _ _ _ j, omega (arith, length-events _ _ _ j), omega (arith, length-events _ _ _ j, j .events-high))
+
+same-length-2 : tie.Need-same-length-2
+same-length-2 c = search needs
+
+returns-2 : tie.Need-returns-2
+returns-2 c =
+    let j = is-journal (c .before .before .before .before .before .before .before .before .before .before) in
+    rw (calendar-read (c .before .before .before .before .before .before .before), events-taken _ _ _ j, journal-text _ _ _ j) at (c .before .before .write-run .ensures)
+
+pub write-listing-spec : {M : Type 1} → statement M
+write-listing-spec =
+    tie.close
+    (tie.spec
+    sections-of-requires
+    enum-known-words
+    enum-told
+    write-refused-requires
+    same-length
+    returns
+    slice-aggregate-read-words
+    read-words-requires
+    mul-start
+    add-start
+    add-start-2
+    array-share-prefix-calendar
+    slice-aggregate-write-run
+    sub-write-run
+    part-write-run-start
+    part-write-run-end
+    write-run-requires
+    same-length-2
+    returns-2)

@@ -1,0 +1,27 @@
+use borrow.Author.Needs.{needs}
+use Rattle.journal.specs.Listing.{refusedLine}
+use Rattle.journal.proofs.LineLaws.{too-short, in-front}
+use borrow.Author.Needs.{needs}
+use Rattle.journal.proofs.listing.write_refused.Statement.{statement}
+use Rattle.journal.proofs.listing.write_refused.Tie as tie
+
+returns : tie.Need-returns
+unfolding refusedLine
+returns c = too-short refusedLine _ (c .if1 .taken)
+
+slice-aggregate-put : tie.Need-slice-aggregate-put
+slice-aggregate-put c = search needs
+
+put-requires : tie.Need-put-requires
+put-requires c κs = search needs
+
+same-length : tie.Need-same-length
+same-length c = search needs
+
+returns-2 : tie.Need-returns-2
+unfolding refusedLine
+returns-2 c = in-front refusedLine _ _ _ (c .before .before .before .before .before .if1 .left) (c .before .before .put .ensures .0) (c .before .before .put .ensures .1)
+
+pub write-refused-spec : {M : Type 1} → statement M
+write-refused-spec =
+    tie.close (tie.spec returns slice-aggregate-put put-requires same-length returns-2)

@@ -1,0 +1,51 @@
+// A section of a journal from its first byte on: the work that a reader leaves, on a slice and numbers.
+ghost use mathlib.Core.Path.{_≡_};
+ghost use Prim.Native.Nat.{_+_, _≤_, _<_};
+ghost use lib.ListN.{length};
+ghost use Rattle.book.specs.Entry.{numberAt};
+ghost use Rattle.journal.specs.Sections.{sectionAt};
+
+// A section with how many pieces it has.
+pub enum Section {
+    Whole(usize),
+    Malformed,
+}
+
+// A byte as a number of 4 bytes.
+fn wide(byte: u8) -> u32
+    ensures { λ r. ⌜ (r ≡ byte) × (r < 256) ⌝ }
+{
+    byte as u32
+}
+
+// The number of 4 bytes, the least byte first.
+pub(crate) fn number4(bytes: &[u8], at: usize) -> u32
+    requires { ⌜ at + 4 ≤ length (now bytes) ⌝ }
+    ensures { λ r. ⌜ r ≡ numberAt at 4 (now (bytes .entry)) ⌝ }
+{
+    let low = wide(bytes[at]) + wide(bytes[at + 1]) * 256;
+    let high = wide(bytes[at + 2]) + wide(bytes[at + 3]) * 256;
+    low + high * 65_536
+}
+
+// The section that starts at a place, its pieces `width` bytes each.
+pub fn section_at(journal: &[u8], at: usize, limit: u32, width: u32) -> Section
+    ensures { λ r. ⌜ r ≡ sectionAt limit width at (now (journal .entry)) ⌝ }
+{
+    if journal.len() < at {
+        return Section::Malformed;
+    }
+    let left = journal.len() - at;
+    if left < 4 {
+        return Section::Malformed;
+    }
+    let count = number4(journal, at);
+    if count > limit {
+        return Section::Malformed;
+    }
+    let taken = count as usize * width as usize;
+    if left - 4 < taken {
+        return Section::Malformed;
+    }
+    Section::Whole(count as usize)
+}

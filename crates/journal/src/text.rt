@@ -1,0 +1,117 @@
+// Text in a lent buffer: each function writes from a place on and answers the place after it.
+ghost use mathlib.Core.Path.{_≡_};
+ghost use Prim.Native.Nat.{_+_, _≤_};
+ghost use lib.ListN.{length, drop};
+ghost use Rattle.journal.specs.Text.{decimal, spaced, signed, lineFrom, lineText};
+ghost use Rattle.journal.specs.Lent.{placed};
+
+pub fn put(text: &mut [u8], at: usize, bytes: &[u8]) -> usize
+    requires { ⌜ at + length (now bytes) ≤ length (now text) ⌝ }
+    ensures { λ r. ⌜ (r ≡ at + length (now (bytes .entry))) × (now (text .exit) ≡ placed (now (text .entry)) at (now (bytes .entry))) ⌝ }
+{
+    let mut k = 0;
+    while k < bytes.len() {
+        text[at + k] = bytes[k];
+        k += 1;
+    }
+    at + bytes.len()
+}
+
+// How many bytes a number takes.
+fn number_length(number: u64) -> usize
+    ensures { λ r. ⌜ (r ≡ length (decimal number)) × (r ≤ 20) ⌝ }
+{
+    let mut spelled = [0; 20];
+    io::decimal(number, &mut spelled)
+}
+
+fn put_number(text: &mut [u8], at: usize, number: u64) -> usize
+    requires { ⌜ at + length (decimal number) ≤ length (now text) ⌝ }
+    ensures { λ r. ⌜ (r ≡ at + length (decimal number)) × (now (text .exit) ≡ placed (now (text .entry)) at (decimal number)) ⌝ }
+{
+    let mut spelled = [0; 20];
+    let count = io::decimal(number, &mut spelled);
+    put(text, at, &spelled[..count])
+}
+
+fn put_spaced(text: &mut [u8], at: usize, number: u64) -> usize
+    requires { ⌜ at + length (spaced number) ≤ length (now text) ⌝ }
+    ensures { λ r. ⌜ (r ≡ at + length (spaced number)) × (now (text .exit) ≡ placed (now (text .entry)) at (spaced number)) ⌝ }
+{
+    text[at] = b' ';
+    put_number(text, at + 1, number)
+}
+
+// A headroom: its sign, 0 where there is none, and its size.
+fn put_signed(text: &mut [u8], at: usize, negative: u64, size: u64) -> usize
+    requires { ⌜ at + length (signed negative size) ≤ length (now text) ⌝ }
+    ensures { λ r. ⌜ (r ≡ at + length (signed negative size)) × (now (text .exit) ≡ placed (now (text .entry)) at (signed negative size)) ⌝ }
+{
+    if negative == 0 {
+        return put_spaced(text, at, size);
+    }
+    text[at] = b' ';
+    text[at + 1] = b'-';
+    put_number(text, at + 2, size)
+}
+
+fn signed_length(negative: u64, size: u64) -> usize
+    ensures { λ r. ⌜ (r ≡ length (signed negative size)) × (r ≤ 22) ⌝ }
+{
+    if negative == 0 {
+        return 1 + number_length(size);
+    }
+    2 + number_length(size)
+}
+
+// The numbers of a line, headroom as its sign and its size.
+pub struct Line {
+    pub answer: u64,
+    pub negative: u64,
+    pub size: u64,
+    pub outstanding: u64,
+    pub own: u64,
+    pub client: u64,
+    pub guarantee: u64,
+}
+
+pub fn line_at(lines: &[u64], from: usize) -> Line
+    requires { ⌜ from + 7 ≤ length (now lines) ⌝ }
+    ensures { λ r. ⌜ r ≡ lineFrom (drop from (now (lines .entry))) ⌝ }
+{
+    Line {
+        answer: lines[from],
+        negative: lines[from + 1],
+        size: lines[from + 2],
+        outstanding: lines[from + 3],
+        own: lines[from + 4],
+        client: lines[from + 5],
+        guarantee: lines[from + 6],
+    }
+}
+
+// How many bytes a line takes: beside its numbers five spaces and the line end.
+pub fn line_length(place: usize, line: Line) -> usize
+    ensures { λ r. ⌜ (r ≡ length (lineText place line)) × (r ≤ 148) ⌝ }
+{
+    let headroom = signed_length(line.negative, line.size);
+    let front = number_length(place as u64) + number_length(line.answer);
+    let cash = number_length(line.own) + number_length(line.client);
+    let rest = number_length(line.outstanding) + number_length(line.guarantee);
+    front + headroom + cash + rest + 6
+}
+
+pub fn put_line(text: &mut [u8], at: usize, place: usize, line: Line) -> usize
+    requires { ⌜ at + length (lineText place line) ≤ length (now text) ⌝ }
+    ensures { λ r. ⌜ (r ≡ at + length (lineText place line)) × (now (text .exit) ≡ placed (now (text .entry)) at (lineText place line)) ⌝ }
+{
+    let answer = put_number(text, at, place as u64);
+    let headroom = put_spaced(text, answer, line.answer);
+    let outstanding = put_signed(text, headroom, line.negative, line.size);
+    let own = put_spaced(text, outstanding, line.outstanding);
+    let client = put_spaced(text, own, line.own);
+    let guarantee = put_spaced(text, client, line.client);
+    let end = put_spaced(text, guarantee, line.guarantee);
+    text[end] = b'\n';
+    end + 1
+}
