@@ -20,7 +20,7 @@ use Rattle.book.specs.declared.event.Entry.{Entry}
 use Rattle.book.specs.Book.{freshBook}
 use Rattle.book.specs.Step.{step}
 use Rattle.book.specs.Run.{run}
-use Rattle.book.specs.Listing.{journalTable, entriesOf, lineOf, linesOf, listingOf, listingCauses, writtenBy}
+use Rattle.book.specs.Listing.{journalTable, entriesOf, lineOf, linesOf, listingOf, lengthCauses, listingCauses, writtenBy}
 use Rattle.book.proofs.FoldLaws.{by-test, both-of, all-at}
 use Rattle.cases.specs.Journal.{byteOf, bytesFrom, eventBytes, bytesOf, sameLines, endsWith}
 
@@ -160,7 +160,7 @@ in-front room events count long within e =
 
 pub not-refused : (calendar bytes listing : List ℕ) (count : ℕ) → length calendar ≤ 1200 → length bytes ≡ count * 40 → count ≤ 48 → length listing ≡ 336
     → firstOf (listingCauses (length calendar) (length bytes) (length listing)) ≡ none
-unfolding listingCauses
+unfolding listingCauses lengthCauses
 not-refused calendar bytes listing count hw hb hn hr =
     skip 1 _ (le-ltb 1200 (length calendar) hw)
     (skip 18 _ (ap not (eq-eqb (length bytes % 40) 0 (omega arith)))

@@ -20,7 +20,7 @@ use Rattle.book.specs.declared.trade.Trade.{Trade}
 use Rattle.book.specs.declared.event.Entry.{Entry}
 use Rattle.book.specs.Step.{step}
 use Rattle.book.specs.Run.{run}
-use Rattle.book.specs.Listing.{journalTable, entriesOf, lineOf, linesOf, listingOf, listingCauses, writtenBy}
+use Rattle.book.specs.Listing.{journalTable, entriesOf, lineOf, linesOf, listingOf, lengthCauses, listingCauses, writtenBy}
 use Rattle.journal.specs.Text.{Line, lineFrom, lineText}
 use Rattle.journal.specs.Lent.{placed}
 use Rattle.journal.specs.Listing.{Written, linesText, textCauses, answerOf, textAfter}
@@ -80,7 +80,7 @@ in-front listing text text′ end h e p = rw (skip 14 [] (le-ltb _ _ h) clear, e
 -- ---- the book's run
 
 pub run-clear : (words bytes room : ℕ) → words ≤ 1200 → bytes % 40 ≡ 0 → bytes / 40 ≤ 1500 → 7 * (bytes / 40) ≤ room → firstOf (listingCauses words bytes room) ≡ none
-unfolding listingCauses
+unfolding listingCauses lengthCauses
 run-clear words bytes room w e c r =
     skip 1 _ (le-ltb _ _ w) (skip 18 _ (rw (eq-eqb _ _ e)) (skip 18 _ (le-ltb _ _ c) (skip 18 _ (le-ltb _ _ r) clear)))
 
