@@ -30,6 +30,7 @@ pub mod StoreLaws
 pub mod PlaceLaws
 pub mod RedemptionLaws
 pub mod PackingLaws
+pub mod SortLaws
 -- laws for the code: the vault and the evening
 pub mod SumLaws
 pub mod VaultLaws
