@@ -53,6 +53,7 @@ unfoldable pub placeOf : Contract → List Trade → ℕ
 placeOf contract [] = 0
 placeOf contract (trade ∷ trades) = cond (same (trade .contract) contract) 0 (suc (placeOf contract trades))
 
+-- the contracts of trades, by their numbers
 abbrev pub contractNumbers : List Trade → List ℕ
 contractNumbers trades = map (λ trade. trade .contract .0) trades
 

@@ -39,7 +39,7 @@ pub fn place_of(table: &[u64], count: usize, contract: Contract) -> usize
     count
 }
 
-// Of few trades, none stands before its own place.
+// No contract stands before its own place: each is searched, which for few trades is as fast as to sort.
 fn few_differ(table: &[u64], count: usize) -> bool
     requires { ⌜ count * 6 ≤ length (now table) ⌝ }
     ensures { λ r. ⌜ r ≡ differ (tradesTo (now (table .entry)) count) ⌝ }
@@ -66,6 +66,7 @@ fn contract_numbers(table: &[u64], count: usize, numbers: &mut [u64])
     }
 }
 
+// Sorted, numbers that stand twice are neighbours.
 fn numbers_differ(table: &[u64], count: usize, numbers: &mut [u64], scratch: &mut [u64]) -> bool
     requires { ⌜ (count * 6 ≤ length (now table)) × (count ≤ 4096) × (length (now numbers) ≡ count) × (length (now scratch) ≡ count) ⌝ }
     ensures { λ r. ⌜ r ≡ differ (tradesTo (now (table .entry)) count) ⌝ }
@@ -74,7 +75,7 @@ fn numbers_differ(table: &[u64], count: usize, numbers: &mut [u64], scratch: &mu
     sort::all_differ(numbers, scratch)
 }
 
-// Many trades are sorted in as little room as will do.
+// In less room, which is sooner cleared.
 fn hundreds_differ(table: &[u64], count: usize) -> bool
     requires { ⌜ (count * 6 ≤ length (now table)) × (count ≤ 512) ⌝ }
     ensures { λ r. ⌜ r ≡ differ (tradesTo (now (table .entry)) count) ⌝ }
