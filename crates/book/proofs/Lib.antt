@@ -30,6 +30,8 @@ pub mod StoreLaws
 pub mod PlaceLaws
 pub mod RedemptionLaws
 pub mod PackingLaws
+pub mod SortLaws
+pub mod MergeLaws
 -- laws for the code: the vault and the evening
 pub mod SumLaws
 pub mod VaultLaws

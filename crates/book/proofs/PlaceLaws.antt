@@ -1,15 +1,18 @@
 -- Where a contract's trade stands: a contract is on the table just where its place is one of the trades', and what is read and taken off is that trade's.
--- For place_of, contracts_differ and the events of one contract. Assumes nothing.
+-- For place_of, contracts_differ, which sorts the contracts of many trades by their numbers, and the events of one contract. Assumes nothing.
 use mathlib.Core.Path.{_≡_, refl, sym, ap, _∙_}
 use mathlib.Core.Bool.{Bool, true, false, cond, false≢true}
-use mathlib.Core.List.{List, [], _∷_, _++_, append-nil}
+use mathlib.Core.List.{List, [], _∷_, _++_, append-nil, map-append}
 use Prim.Native.Nat.{ℕ, suc, _+_, _-_, _≤_, _<_}
+use native.Mathlib.Numerals.{add-one}
 use native.Mathlib.Omega.{arith}
 use borrow.Author.Tests.{lt-ltb, le-ltb, eq-eqb, eqb-true}
 use lib.Dec.{ltb, leb·suc-suc}
-use lib.ListN.{length, getD, drop, set}
+use lib.ListN.{length, getD, take, drop, set, replicate, length-set, length-replicate}
+use lib.Seq.{length-take-le, take-all, take-suc-set}
 use Rattle.book.specs.Trades.{Contract, Trade, noTrade, same, withSheets, onTable, tradeOf, takeOff, differ}
-use Rattle.book.specs.Flat.{tradeAt, tradesTo, placeOf}
+use Rattle.book.specs.Sort.{among, allDiffer}
+use Rattle.book.specs.Flat.{tradeAt, tradesTo, placeOf, contractNumbers}
 use Rattle.book.proofs.FoldLaws.{not-here}
 use Rattle.book.proofs.TableFit.{differ-append}
 use Rattle.book.proofs.FlatLaws.{no-trades, one-more, length-trades, split-trades}
@@ -135,3 +138,42 @@ module _ (table : List ℕ) (i : ℕ) where
   differ-fails n l k =
       ap differ (split-trades table n i l)
       ∙ differ-not (tradesTo table i) (tradeAt table i) (drop (suc i) (tradesTo table n)) (by-place ∙ lt-ltb place i k)
+
+-- ---- contracts by their numbers
+
+on-table-by-number : (c : Contract) (l : List Trade) → onTable c l ≡ among (c .0) (contractNumbers l)
+unfolding onTable among
+on-table-by-number c [] = refl
+on-table-by-number c (t ∷ l) = rw (on-table-by-number c l)
+
+pub differ-by-numbers : (l : List Trade) → differ l ≡ allDiffer (contractNumbers l)
+unfolding differ allDiffer
+differ-by-numbers [] = refl
+differ-by-numbers (t ∷ l) = rw (on-table-by-number (t .contract) l, differ-by-numbers l)
+
+-- the contracts of `i` of `count` trades stand in front of `numbers`
+pub record Numbered (table : List ℕ) (count : ℕ) (numbers : List ℕ) (i : ℕ) : Type 0 where
+  pub high : i ≤ count
+  pub long : length numbers ≡ count
+  pub front : take i numbers ≡ contractNumbers (tradesTo table i)
+
+module _ (table : List ℕ) (count : ℕ) (numbers : List ℕ) where
+  pub none-numbered : length numbers ≡ count → Numbered table count numbers 0
+  none-numbered e = record { high = omega arith; long = e; front = rw (no-trades table) }
+
+  pub next-numbered : (i : ℕ) → Numbered table count numbers i → i < count → (contract : Contract) → contract ≡ tradeAt table i .contract → Numbered table count (set numbers i (contract .0)) (i + 1)
+  next-numbered i n more contract e =
+      record {
+        high = omega arith;
+        long = rw length-set (n .long);
+        front = rw (one-more table i, add-one, take-suc-set numbers i (contract .0) (omega (arith, n .long)), n .front, e) (sym (map-append _ (tradesTo table i) (tradeAt table i ∷ [])));
+      }
+
+  pub all-numbered : (i : ℕ) → Numbered table count numbers i → count ≤ i → numbers ≡ contractNumbers (tradesTo table count)
+  all-numbered i n end =
+      let all : i ≡ count = omega (arith, n .high) in
+      sym (take-all count numbers (omega (arith, n .long))) ∙ rw all at (n .front)
+
+-- the room that is lent for them, of whatever width
+pub room-for : (width count : ℕ) → count ≤ width → length (take count (replicate {A = ℕ} width 0)) ≡ count
+room-for width count h = length-take-le count (replicate width 0) (omega (arith, length-replicate {A = ℕ} width 0))

@@ -3,7 +3,7 @@
 use Prim.Native.Nat.{ℕ, zero, suc, _+_, _*_, _/_, _%_, _≤_}
 use mathlib.Core.Path.{_≡_}
 use mathlib.Core.Bool.{true, cond}
-use mathlib.Core.List.{List, [], _∷_, _++_}
+use mathlib.Core.List.{List, [], _∷_, _++_, map}
 use mathlib.Core.Option.{Option, none, some}
 use lib.Dec.{leb}
 use lib.ListN.{length, getD}
@@ -52,6 +52,10 @@ tradesOf table = tradesTo table (capacity table)
 unfoldable pub placeOf : Contract → List Trade → ℕ
 placeOf contract [] = 0
 placeOf contract (trade ∷ trades) = cond (same (trade .contract) contract) 0 (suc (placeOf contract trades))
+
+-- the contracts of trades, by their numbers
+abbrev pub contractNumbers : List Trade → List ℕ
+contractNumbers trades = map (λ trade. trade .contract .0) trades
 
 -- ---- what the core may rely on
 

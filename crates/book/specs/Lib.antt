@@ -24,4 +24,5 @@ pub mod Run
 pub mod Tally
 pub mod Demand3
 pub mod Listing
+pub mod Sort
 pub mod Flat

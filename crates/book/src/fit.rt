@@ -86,7 +86,7 @@ fn day_fit(calendar: &[u32], standing: Standing, table: &[u64], count: usize) ->
 
 // The tests after those of the vault, the cash and the sheets.
 fn others_fit(calendar: &[u32], book: Book, table: &[u64]) -> bool
-    requires { ⌜ (length (now calendar) ≤ 1200) × (book .trades * 6 ≤ length (now table)) ⌝ }
+    requires { ⌜ (length (now calendar) ≤ 1200) × (Kept (now table) (book .trades)) ⌝ }
     ensures { λ r. ⌜ r ≡ every (netsFit (book .nets) ∷ differ (tradesTo (now (table .entry)) (book .trades)) ∷ withdrawalsFit (book .withdrawals) ∷ dayFit (now (calendar .entry)) (book .standing .day) (book .standing .phase) (tradesTo (now (table .entry)) (book .trades)) (book .trades) ∷ []) ⌝ }
 {
     let nets = book.nets;

@@ -33,6 +33,7 @@ mod nets;
 mod packing;
 mod redemption;
 mod run;
+mod sort;
 mod standing;
 mod trades;
 mod vault;

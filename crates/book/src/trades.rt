@@ -5,8 +5,9 @@ ghost use lib.Dec.{leb};
 ghost use lib.ListN.{length};
 ghost use Rattle.book.specs.Trades.{outstanding, differ};
 ghost use Rattle.book.specs.Fit.{tradeFit, allTrades};
-ghost use Rattle.book.specs.Flat.{tradeAt, tradesTo, placeOf, Kept};
+ghost use Rattle.book.specs.Flat.{tradeAt, tradesTo, placeOf, contractNumbers, Kept};
 use crate::flat;
+use crate::sort;
 use crate::trade::Contract;
 
 // O, the sheets left on the table.
@@ -38,8 +39,8 @@ pub fn place_of(table: &[u64], count: usize, contract: Contract) -> usize
     count
 }
 
-// No contract stands twice: none stands before its own place.
-pub fn contracts_differ(table: &[u64], count: usize) -> bool
+// No contract stands before its own place: each is searched, which for few trades is as fast as to sort.
+fn few_differ(table: &[u64], count: usize) -> bool
     requires { ⌜ count * 6 ≤ length (now table) ⌝ }
     ensures { λ r. ⌜ r ≡ differ (tradesTo (now (table .entry)) count) ⌝ }
 {
@@ -51,6 +52,60 @@ pub fn contracts_differ(table: &[u64], count: usize) -> bool
         i += 1;
     }
     true
+}
+
+fn contract_numbers(table: &[u64], count: usize, numbers: &mut [u64])
+    requires { ⌜ (count * 6 ≤ length (now table)) × (length (now numbers) ≡ count) ⌝ }
+    ensures { λ _. ⌜ now (numbers .exit) ≡ contractNumbers (tradesTo (now (table .entry)) count) ⌝ }
+{
+    let mut i = 0;
+    while i < count {
+        let contract = flat::contract_at(table, i);
+        numbers[i] = contract.0;
+        i += 1;
+    }
+}
+
+// Sorted, numbers that stand twice are neighbours.
+fn numbers_differ(table: &[u64], count: usize, numbers: &mut [u64], scratch: &mut [u64]) -> bool
+    requires { ⌜ (count * 6 ≤ length (now table)) × (count ≤ 4096) × (length (now numbers) ≡ count) × (length (now scratch) ≡ count) ⌝ }
+    ensures { λ r. ⌜ r ≡ differ (tradesTo (now (table .entry)) count) ⌝ }
+{
+    contract_numbers(table, count, numbers);
+    sort::all_differ(numbers, scratch)
+}
+
+// In less room, which is sooner cleared.
+fn hundreds_differ(table: &[u64], count: usize) -> bool
+    requires { ⌜ (count * 6 ≤ length (now table)) × (count ≤ 512) ⌝ }
+    ensures { λ r. ⌜ r ≡ differ (tradesTo (now (table .entry)) count) ⌝ }
+{
+    let mut numbers = [0; 512];
+    let mut scratch = [0; 512];
+    numbers_differ(table, count, &mut numbers[..count], &mut scratch[..count])
+}
+
+fn thousands_differ(table: &[u64], count: usize) -> bool
+    requires { ⌜ (count * 6 ≤ length (now table)) × (count ≤ 4096) ⌝ }
+    ensures { λ r. ⌜ r ≡ differ (tradesTo (now (table .entry)) count) ⌝ }
+{
+    let mut numbers = [0; 4096];
+    let mut scratch = [0; 4096];
+    numbers_differ(table, count, &mut numbers[..count], &mut scratch[..count])
+}
+
+// No contract stands twice.
+pub fn contracts_differ(table: &[u64], count: usize) -> bool
+    requires { ⌜ (count * 6 ≤ length (now table)) × (count ≤ 4096) ⌝ }
+    ensures { λ r. ⌜ r ≡ differ (tradesTo (now (table .entry)) count) ⌝ }
+{
+    if count <= 32 {
+        return few_differ(table, count);
+    }
+    if count <= 512 {
+        return hundreds_differ(table, count);
+    }
+    thousands_differ(table, count)
 }
 
 fn trade_fits(table: &[u64], place: usize) -> bool

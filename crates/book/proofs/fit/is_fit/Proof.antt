@@ -35,7 +35,7 @@ returns-5 : tie.Need-returns-5
 returns-5 c = by-flat-tests _ _ _ _ (search fitting depth 12)
 
 others-fit-requires : tie.Need-others-fit-requires
-others-fit-requires c κs = (search needs, room-where-fit _ _ (upheld (c .before .before .before .before .before .before .before .before .before .before .before .before .capacity-fit .ensures) (c .before .before .before .before .before .before .before .before .before .before .before .if1 .left)))
+others-fit-requires c κs = (search needs, kept-where-fit _ _ (upheld (c .before .before .before .before .before .before .before .before .before .before .before .before .capacity-fit .ensures) (c .before .before .before .before .before .before .before .before .before .before .before .if1 .left)) (upheld (c .before .before .before .trades-fit .ensures) (c .before .before .if4 .left)))
 
 returns-6 : tie.Need-returns-6
 returns-6 c = by-flat-tests _ _ _ _ (search fitting depth 12)

@@ -6,8 +6,8 @@ use borrow.Author.Needs.{needs}
 use Rattle.book.specs.Flat.{tradeAt, tradesTo, placeOf}
 use Rattle.book.specs.Trades.{differ}
 use Rattle.book.proofs.PlaceLaws.{differ-none, differ-one-more, differ-fails}
-use Rattle.book.proofs.trades.contracts_differ.Statement.{statement}
-use Rattle.book.proofs.trades.contracts_differ.Tie as tie
+use Rattle.book.proofs.trades.few_differ.Statement.{statement}
+use Rattle.book.proofs.trades.few_differ.Tie as tie
 
 abbrev Inv-loop : tie.InvT-loop
 Inv-loop table count i₀ i = (i ≤ count) × (differ (tradesTo table i) ≡ true)
@@ -44,8 +44,8 @@ loop-again c = (search needs, differ-one-more _ _ (c .before .before .before .be
 returns-2 : tie.Need-returns-2 Inv-loop μ-loop
 returns-2 c = let e : c .before .loop .i ≡ c .before .before .before .args .count = omega arith in sym (rw e at (c .before .loop .inv .1))
 
-pub contracts-differ-spec : {M : Type 1} → statement M
-contracts-differ-spec =
+pub few-differ-spec : {M : Type 1} → statement M
+few-differ-spec =
     tie.close
     (tie.spec
     Inv-loop
