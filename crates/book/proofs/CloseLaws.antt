@@ -1,9 +1,9 @@
--- Close: its causes by the code's tests, the matured figures as planned, the flat table after maturity, and the evening that a fit book allows.
+-- Close: its causes by the code's tests, the matured figures as planned, the flat table after maturity, the evening that a fit book allows, and what it gives back.
 -- Assumes nothing.
 use mathlib.Core.Path.{_≡_, refl, sym, ap, _∙_}
 use mathlib.Core.Bool.{Bool, true, false, not, _||_}
 use mathlib.Core.List.{List, map}
-use mathlib.Core.Option.{none, some}
+use mathlib.Core.Option.{Option, none, some}
 use Prim.Native.Nat.{ℕ}
 use native.Mathlib.Omega.{arith}
 use borrow.Author.Tests.{leb-true, leb-false, le-ltb, lt-ltb}
@@ -11,23 +11,28 @@ use lib.Dec.{ltb}
 use lib.IntN.{ℤ, natAbs}
 use lib.ListN.{length, length-map, take, drop}
 use lib.Seq.{take-at, drop-at}
+use Rattle.money.specs.Units.{sheets}
 use Rattle.money.specs.Causes.{firstOf}
 use Rattle.money.specs.Days.{Calendar}
 use Rattle.money.proofs.Refusals.{hit, skip, clear}
 use Rattle.book.specs.Limits.{netLimit}
-use Rattle.book.specs.Book.{Book}
+use Rattle.book.specs.Book.{Security, Book, answer}
+use Rattle.book.specs.declared.desk.Desk.{Desk}
+use Rattle.book.specs.declared.desk.Done.{Done}
+use Rattle.book.specs.declared.evening.Evened.{Evened}
+use Rattle.book.specs.declared.redemption.Plan.{Plan}
 use Rattle.book.specs.Days.{paymentDay}
 use Rattle.book.specs.Trades.{Trade, total, outstanding, maturing, maturityAmount, matured, remaining, packed, over}
-use Rattle.book.specs.Fit.{netFit, securitiesFit, cashFit, withdrawalsFit, fit}
-use Rattle.book.specs.Close.{Evening, mayClose, today, maturedTrades, maturedSheets, maturedAmount, netWithMatured, clearedAtClose, closeCauses, allArrived, served, evening, closedTable}
-use Rattle.book.specs.Flat.{tradesTo, tradesOf, Kept}
-use Rattle.book.proofs.FitParts.{securities-fit, fit-securities, cash-fits}
+use Rattle.book.specs.Fit.{netFit, securitiesFit, cashFit, fit}
+use Rattle.book.specs.Close.{Evening, mayClose, today, maturedTrades, maturedSheets, maturedAmount, netWithMatured, clearedAtClose, closeCauses, allArrived, served, evening, closedTable, closedBook, closeAnswer}
+use Rattle.book.specs.Flat.{Rows, tradesTo, tradesOf, bookOf, eveningAt, appliedAt, closedBy, tableBy, Kept}
+use Rattle.book.proofs.FitParts.{securities-fit, cash-fits}
 use Rattle.book.proofs.FitFacts.{fit-in-use}
 use Rattle.book.proofs.FlatLaws.{length-trades, take-trades}
 use Rattle.book.proofs.TableFit.{matured-lessens, fewer-fit}
 use Rattle.book.proofs.VaultLaws.{Sound}
 use Rattle.book.proofs.EveningFit.{all-arrived-fit}
-use Rattle.book.proofs.EveningLaws.{Ready, applications-sound}
+use Rattle.book.proofs.EveningLaws.{Kept as KeptEvening, applications-sound}
 
 -- ---- the causes, by the code's tests in their order
 
@@ -79,20 +84,15 @@ module _ (calendar : Calendar) (book : Book) (table : List Trade) where
 
 -- ---- (a) what is planned over the flat table is what matures
 
-module _ (calendar : Calendar) (book : Book) (table : List ℕ) (fits : fit calendar book (tradesOf table) ≡ true) (day : ℕ) (d : day ≡ today book) where
-  pub sheets-planned : total (maturing day) (tradesTo table (book .trades)) ≡ maturedSheets book (tradesOf table)
+module _ (calendar : Calendar) (book : Book) (table : List ℕ) (fits : fit calendar book (tradesOf table) ≡ true) (day payment : ℕ) (d : day ≡ today book) (p : payment ≡ paymentDay calendar (book .standing .day))
+    (plan : Plan) (planned : plan ≡ record { sheets = total (maturing day) (tradesTo table (book .trades)); amount = total (maturityAmount day payment) (tradesTo table (book .trades)) }) where
+  pub sheets-planned : plan .sheets ≡ maturedSheets book (tradesOf table)
   unfolding maturedSheets
-  sheets-planned =
-      ap (λ n. total (maturing n) (tradesTo table (book .trades))) d
-      ∙ ap (total (maturing (today book))) (sym (fit-in-use calendar book table fits))
+  sheets-planned = rw (planned, d) (ap (total (maturing (today book))) (sym (fit-in-use calendar book table fits)))
 
-  pub amount-planned : (payment : ℕ) → payment ≡ paymentDay calendar (book .standing .day)
-      → total (maturityAmount day payment) (tradesTo table (book .trades)) ≡ maturedAmount calendar book (tradesOf table)
+  pub amount-planned : plan .amount ≡ maturedAmount calendar book (tradesOf table)
   unfolding maturedAmount
-  amount-planned payment p =
-      ap (λ n. total (maturityAmount n payment) (tradesTo table (book .trades))) d
-      ∙ (ap (λ n. total (maturityAmount (today book) n) (tradesTo table (book .trades))) p
-      ∙ ap (total (maturityAmount (today book) (paymentDay calendar (book .standing .day)))) (sym (fit-in-use calendar book table fits)))
+  amount-planned = rw (planned, d, p) (ap (total (maturityAmount (today book) (paymentDay calendar (book .standing .day)))) (sym (fit-in-use calendar book table fits)))
 
 -- ---- (a) and (e): the flat table after its due trades are redeemed
 
@@ -129,22 +129,36 @@ module _ (book : Book) (table after : List ℕ) (day : ℕ) (d : day ≡ today b
   unfolding closedTable
   packed-after-maturity = rw (trades-after-maturity, spare-slots-kept table after (book .trades) day kept same redeemed)
 
--- ---- (c) and (d): the evening of a book whose vault, cash and applications are fit
+-- ---- (c) and (d): the evening of a book whose vault and cash are fit
 
 -- as its applications begin
-abbrev begun : Book → Evening
+abbrev pub begun : Book → Evening
 begun book = record { own = book .cash .own; vault = allArrived (book .vault); done = 0; dropped = 0 }
 
-module _ (book : Book) (w : withdrawalsFit (book .withdrawals) ≡ true) (s : securitiesFit (book .vault) ≡ true) (c : cashFit (book .cash) (book .vault .guarantee) ≡ true) where
-  -- what the applications ask for
-  pub evening-ready : (goes : Bool) (left : ℕ) → Ready goes left (book .withdrawals) (begun book)
-  evening-ready goes left =
+module _ (book : Book) (s : securitiesFit (book .vault) ≡ true) (c : cashFit (book .cash) (book .vault .guarantee) ≡ true) where
+  pub evening-begins : KeptEvening (begun book)
+  evening-begins =
       let arrived = all-arrived-fit (book .cash .client) (book .cash .own) (book .vault) 0 0 (securities-fit (book .vault) s) (cash-fits (book .cash) (book .vault .guarantee) c) in
-      (w, fit-securities (allArrived (book .vault)) (arrived .securities), arrived .cash .free, omega (arith, arrived .cash .sum), omega (arith, arrived .cash .sum), refl, refl)
+      record { securities = arrived .securities; free = arrived .cash .free; cash = omega (arith, arrived .cash .sum) }
 
   -- the vault that they leave has a value
   pub evening-sound : (table : List Trade) → Sound (evening book table .vault)
   unfolding evening
-  evening-sound table =
-      applications-sound (served (book .standing)) (outstanding (maturedTrades book table)) (book .withdrawals) (begun book)
-      (evening-ready (served (book .standing)) (outstanding (maturedTrades book table)))
+  evening-sound table = applications-sound (served (book .standing)) (outstanding (maturedTrades book table)) (book .withdrawals) (begun book) evening-begins
+
+-- ---- what Close gives back, refused and done
+
+module _ (calendar : Calendar) (desk : Desk) (rows : Rows) (table : List Trade) where
+  abbrev outcome : Option ℕ
+  outcome = firstOf (closeCauses calendar (bookOf desk rows) table)
+
+  pub close-refused : (n : ℕ) (r : Done) → outcome ≡ some n → r ≡ record { answer = answer n; desk = desk }
+      → (appliedAt r rows ≡ closedBy outcome calendar (bookOf desk rows) table) × (table ≡ tableBy outcome table (closedTable (bookOf desk rows) table))
+  close-refused n r e left = rw (e, left) (refl, refl)
+
+pub close-done : (calendar : Calendar) (book : Book) (table : List Trade) (matured : ℕ) (evened : Evened) (securities : List Security) (desk : Desk) (rows : Rows)
+    → matured ≡ maturedSheets book table → eveningAt evened securities ≡ evening book table → bookOf desk rows ≡ closedBook calendar book table
+    → appliedAt (record { answer = record { number = 0; matured = sheets matured; done = evened .done; dropped = evened .dropped }; desk = desk }) rows ≡ closedBy none calendar book table
+unfolding closeAnswer
+close-done calendar book table matured evened securities desk rows m end next =
+    rw (m, sym end, sym next)

@@ -10,7 +10,7 @@ use native.Mathlib.Omega.{arith}
 use borrow.Author.Tests.{le-leb, lt-leb, le-ltb, lt-ltb, eq-eqb, ne-eqb, leb-true, ltb-true, ltb-false}
 use lib.Dec.{leb, ltb}
 use lib.IntN.{pos, negsuc, subℕ}
-use lib.ListN.{length, length-set, getD, set, List·getD-eq-default}
+use lib.ListN.{length, getD, set, List·getD-eq-default}
 use lib.Signed.{ltZ}
 use Rattle.money.specs.Units.{fen}
 use Rattle.money.specs.Limits.{cashLimit}
@@ -18,10 +18,9 @@ use Rattle.money.specs.Collateral.{rateOf, unitLimitOf, kindValue}
 use Rattle.book.specs.Folds.{inTurn}
 use Rattle.book.specs.Book.{Security, Guarantee, Vault, Withdrawals, noSecurity}
 use Rattle.book.specs.Vault.{securityAt, isCash, effectiveOf, frozenOf, value, headroomOf}
-use Rattle.book.specs.Fit.{securitiesFit, withdrawalsFit}
 use Rattle.book.specs.Close.{Evening, fewer, fewerCash, takenOut, covered, mayGo, doneOne, settleOne, settled, applications}
 use Rattle.book.proofs.FoldLaws.{by-test, both, in-turn-keeps, at-set}
-use Rattle.book.proofs.FitParts.{SecurityFits, SecuritiesFit, securities-fit, fit-securities, withdrawals-fit}
+use Rattle.book.proofs.FitParts.{SecurityFits, SecuritiesFit, fit-securities}
 use Rattle.book.proofs.VaultLaws.{Sound, kind-fits, value-at-part, value-bound-of, value-changed}
 
 -- ---- a list of which the first places are mapped
@@ -191,15 +190,6 @@ module _ (served : Bool) (outstanding kind units : ℕ) (evening : Evening) wher
       by-test (λ goes. settleOne goes kind units evening .done + settleOne goes kind units evening .dropped ≡ evening .done + evening .dropped + 1)
       (mayGo served outstanding kind units (evening .vault)) (λ goes. omega arith) (λ stays. omega arith)
 
-  settled-full : length (evening .vault .securities) ≡ 32 → length (settled served outstanding kind units evening .vault .securities) ≡ 32
-  unfolding takenOut
-  settled-full full =
-      by-test (λ goes. length (settleOne goes kind units evening .vault .securities) ≡ 32) (mayGo served outstanding kind units (evening .vault))
-      (λ goes.
-      by-test (λ cash. length (cond cash (evening .vault .securities) (set (evening .vault .securities) kind (fewer units (securityAt (evening .vault) kind)))) ≡ 32) (isCash kind)
-      (λ cash. full) (λ security. length-set (evening .vault .securities) kind (fewer units (securityAt (evening .vault) kind)) ∙ full))
-      (λ stays. full)
-
 -- ---- the applications in order
 
 module _ (served : Bool) (outstanding : ℕ) (withdrawals : Withdrawals) where
@@ -212,40 +202,16 @@ module _ (served : Bool) (outstanding : ℕ) (withdrawals : Withdrawals) where
     turns-keep n kept =
         in-turn-keeps Kept n turn evening (λ i e. settled-keeps served outstanding (getD (withdrawals .kinds) i 0) (getD (withdrawals .units) i 0) e) kept
 
-    pub turns-full : (n : ℕ) → length (evening .vault .securities) ≡ 32 → length (inTurn n turn evening .vault .securities) ≡ 32
-    turns-full n full =
-        in-turn-keeps (λ e. length (e .vault .securities) ≡ 32) n turn evening
-        (λ i e. settled-full served outstanding (getD (withdrawals .kinds) i 0) (getD (withdrawals .units) i 0) e) full
-
     pub turns-count : (n : ℕ) → inTurn n turn evening .done + inTurn n turn evening .dropped ≡ evening .done + evening .dropped + n
     unfolding inTurn
     turns-count zero = omega arith
     turns-count (suc n) =
         omega (arith, turns-count n, settled-counts served outstanding (getD (withdrawals .kinds) n 0) (getD (withdrawals .units) n 0) (inTurn n turn evening))
 
-    -- what the code asks for before the applications
-    abbrev pub Ready : Type 0
-    Ready =
-        (withdrawalsFit withdrawals ≡ true)
-        × (securitiesFit (evening .vault) ≡ true)
-        × (evening .vault .guarantee .frozen .0 ≤ evening .vault .guarantee .effective .0)
-        × (evening .vault .guarantee .effective .0 ≤ 10000000000000000)
-        × (evening .own .0 + evening .vault .guarantee .effective .0 ≤ 10000000000000000)
-        × (evening .done ≡ 0)
-        × (evening .dropped ≡ 0)
-
-    pub ready-kept : Ready → Kept evening
-    ready-kept ready = record { securities = securities-fit (evening .vault) (ready .1); free = ready .2; cash = ready .4 }
-
-    -- after the applications the vault is sound, and as many were seen as stood
-    pub applications-sound : Ready → Sound (applications served outstanding withdrawals evening .vault)
+    -- after the applications the vault is sound
+    pub applications-sound : Kept evening → Sound (applications served outstanding withdrawals evening .vault)
     unfolding applications
-    applications-sound ready =
-        sound-of (inTurn (withdrawals .count) turn evening) (turns-keep (withdrawals .count) (ready-kept ready))
-
-    pub applications-counted : Ready → applications served outstanding withdrawals evening .done + applications served outstanding withdrawals evening .dropped ≤ 128
-    unfolding applications
-    applications-counted ready = omega (arith, turns-count (withdrawals .count), withdrawals-fit withdrawals (ready .0) .count, ready .5, ready .6)
+    applications-sound kept = sound-of (inTurn (withdrawals .count) turn evening) (turns-keep (withdrawals .count) kept)
 
 -- ---- headroom
 

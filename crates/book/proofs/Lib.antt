@@ -33,6 +33,10 @@ pub mod PackingLaws
 pub mod SortLaws
 pub mod MergeLaws
 -- laws for the code: the vault and the evening
+pub mod HeldLaws
+pub mod HeldFit
+pub mod RowLaws
+pub mod SplitLaws
 pub mod SumLaws
 pub mod VaultLaws
 pub mod EveningLaws

@@ -1,23 +1,34 @@
 -- A listing that is not refused, and the empty table that it starts on.
 -- For the proofs of listing.rt. Assumes nothing.
-use mathlib.Core.Path.{_≡_, refl}
-use mathlib.Core.Bool.{not}
-use mathlib.Core.List.{List}
+use mathlib.Core.Path.{_≡_, refl, ap}
+use mathlib.Core.Bool.{Bool, true, false, not}
+use mathlib.Core.List.{List, _∷_}
 use mathlib.Core.Option.{none}
 use Prim.Native.Nat.{ℕ, zero, suc, _+_, _*_, _/_, _≤_, _<_}
 use native.Mathlib.Numerals.{add-one}
 use native.Mathlib.Omega.{arith}
 use borrow.Author.Tests.{ltb-false}
-use lib.Dec.{eqb}
+use lib.Dec.{ltb, eqb}
 use lib.ListN.{length, getD, replicate, length-replicate, getD-replicate, replicate-append-replicate}
-use Rattle.money.specs.Causes.{firstOf, numberOf}
+use Rattle.money.specs.Causes.{Cause, _⇒_, firstOf, numberOf}
 use Rattle.money.proofs.Refusals.{failed}
 use Rattle.book.specs.Trades.{noTrade}
-use Rattle.book.specs.Listing.{journalTable, lengthCauses, listingCauses}
+use Rattle.money.specs.Days.{Calendar}
+use Rattle.book.specs.Book.{freshBook}
+use Rattle.book.specs.Listing.{journalTable, listingOf, lengthCauses, listingCauses, writtenBy, RunOutcome, runDone, runOutcome}
 use Rattle.book.specs.Flat.{tradeAt, tradesTo, capacity, tradesOf}
 use Rattle.book.proofs.Refusing.{none-at-0}
+use Rattle.book.proofs.StaysFit.{fresh-is-fit}
+use Rattle.book.proofs.StepLaws.{not-unfit}
+use Rattle.book.proofs.RunLaws.{goes-on}
 
 -- ---- a listing that is not refused
+
+-- where no cause applies, none of the later ones does
+others-none : (test : Bool) (n : ℕ) (cs : List Cause) → firstOf ((test ⇒ n) ∷ cs) ≡ none → firstOf cs ≡ none
+unfolding firstOf
+others-none true n cs e = let z : _≡_ {A = ℕ} 0 1 = cc in absurd (omega arith)
+others-none false n cs e = e
 
 module _ (words bytes room : ℕ) where
   pub listing-clear : (n : ℕ) → n ≡ numberOf (firstOf (listingCauses words bytes room)) → n ≡ 0 → firstOf (listingCauses words bytes room) ≡ none
@@ -28,9 +39,9 @@ module _ (words bytes room : ℕ) where
   unfolding listingCauses
   words-within e = ltb-false 1200 words (failed _ e 1 .0 refl)
 
-  pub lines-within : firstOf (listingCauses words bytes room) ≡ none → 7 * (bytes / 40) ≤ room
-  unfolding listingCauses lengthCauses
-  lines-within e = ltb-false room (7 * (bytes / 40)) (failed _ e 18 .1 .1 .1 .0 refl)
+  lengths-none : firstOf (listingCauses words bytes room) ≡ none → firstOf (lengthCauses bytes room) ≡ none
+  unfolding listingCauses
+  lengths-none e = others-none (ltb 1200 words) 1 (lengthCauses bytes room) e
 
 -- ---- the empty table
 
@@ -58,3 +69,14 @@ empty-table numbers count e =
 
 pub journal-starts-empty : tradesOf (zeros 6144) ≡ journalTable
 journal-starts-empty = empty-table 6144 1024 refl
+
+-- ---- the run on a fresh book is the listing
+
+pub fresh-listing : (calendar : Calendar) (bytes buffer : List ℕ) → firstOf (listingCauses (length calendar) (length bytes) (length buffer)) ≡ none
+    → runOutcome calendar freshBook journalTable bytes buffer .lines ≡ writtenBy none (listingOf calendar bytes) buffer
+unfolding listingOf runDone
+fresh-listing calendar bytes buffer e =
+    ap (λ (u : RunOutcome). u .lines)
+    (goes-on calendar freshBook journalTable bytes buffer
+    (not-unfit calendar freshBook journalTable (fresh-is-fit calendar journalTable (omega (arith, length-replicate 1024 noTrade))) (words-within _ _ _ e))
+    (lengths-none _ _ _ e))

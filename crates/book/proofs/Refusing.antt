@@ -2,19 +2,24 @@
 -- For the events, which ask for the number first. Assumes nothing.
 use mathlib.Core.Path.{_≡_, refl, sym, ap, _∙_}
 use mathlib.Core.Bool.{Bool, true, false, not}
-use mathlib.Core.List.{List}
+use mathlib.Core.List.{List, []}
 use mathlib.Core.Option.{Option, none, some}
 use Prim.Native.Nat.{ℕ}
 use native.Mathlib.Omega.{arith}
 use Rattle.money.specs.Causes.{Cause, firstOf, numberOf}
 use Rattle.money.specs.Days.{Calendar}
 use Rattle.book.specs.Book.{Book, answer}
-use Rattle.book.specs.declared.answer.Applied.{Applied}
+use Rattle.book.specs.declared.desk.Desk.{Desk}
+use Rattle.book.specs.declared.desk.Done.{Done}
 use Rattle.book.specs.Trades.{Trade}
 use Rattle.book.specs.Entry.{Event}
 use Rattle.book.specs.Step.{eventCauses}
-use Rattle.book.specs.Flat.{appliedBy}
+use Rattle.book.specs.Flat.{Rows, bookOf, appliedBy, appliedAt}
 use Rattle.book.proofs.Answers.{numbers, event-numbers, number-passes, unused}
+
+-- the rows of no book: where a fact is the desk's alone
+abbrev pub noRows : Rows
+noRows = record { securities = []; kinds = []; units = [] }
 
 -- a number that is not 0 is a cause's
 pub refused : (o : Option ℕ) (n : ℕ) → n ≡ numberOf o → (n ≡ 0 → ⊥) → o ≡ some n
@@ -36,9 +41,9 @@ done calendar book table event n = none-at-0 (λ k. not (unused k)) (eventCauses
 
 -- ---- what an event gives back: the book as it was where it is turned down, the new one where it is done
 
-module _ (causes : List Cause) (before after : Book) {r : Applied} where
-  pub turned-down : {n : ℕ} → n ≡ numberOf (firstOf causes) → (n ≡ 0 → ⊥) → r ≡ record { answer = answer n; book = before } → r ≡ appliedBy (firstOf causes) before after
-  turned-down {n} e z left = left ∙ rw (refused (firstOf causes) n e z)
+module _ (causes : List Cause) (desk : Desk) (rows after : Rows) (next : Book) {r : Done} where
+  pub turned-down : {n : ℕ} → n ≡ numberOf (firstOf causes) → (n ≡ 0 → ⊥) → r ≡ record { answer = answer n; desk = desk } → after ≡ rows → appliedAt r after ≡ appliedBy (firstOf causes) (bookOf desk rows) next
+  turned-down {n} e z left same = rw (left, same, refused (firstOf causes) n e z)
 
-  pub carried-out : firstOf causes ≡ none → r ≡ record { answer = answer 0; book = after } → r ≡ appliedBy (firstOf causes) before after
-  carried-out e left = left ∙ rw e
+  pub carried-out : {done : Desk} → firstOf causes ≡ none → r ≡ record { answer = answer 0; desk = done } → bookOf done after ≡ next → appliedAt r after ≡ appliedBy (firstOf causes) (bookOf desk rows) next
+  carried-out e left same = rw (left, e) (ap (λ (book : Book). record { answer = answer 0; book = book }) same)

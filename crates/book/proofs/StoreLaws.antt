@@ -55,13 +55,13 @@ sheets-put table place count h =
 
 -- ---- six stores in a row
 
-getD-sets-outside : (vs l : List ℕ) (i j : ℕ) → (j < i) ⊎ (i + length vs ≤ j) → getD (sets l i vs) j 0 ≡ getD l j 0
+pub getD-sets-outside : (vs l : List ℕ) (i j : ℕ) → (j < i) ⊎ (i + length vs ≤ j) → getD (sets l i vs) j 0 ≡ getD l j 0
 getD-sets-outside [] l i j h = refl
 getD-sets-outside (a ∷ vs) l i j h =
     getD-sets-outside vs (set l i a) (suc i) j (⊎-elim (λ k. inl (omega arith)) (λ k. inr (omega arith)) h)
     ∙ getD-set-other l i j a 0 (λ e. ⊎-elim (λ k. omega arith) (λ k. omega arith) h)
 
-getD-sets-inside : (vs l : List ℕ) (i k : ℕ) → i + length vs ≤ length l → k < length vs → getD (sets l i vs) (i + k) 0 ≡ getD vs k 0
+pub getD-sets-inside : (vs l : List ℕ) (i k : ℕ) → i + length vs ≤ length l → k < length vs → getD (sets l i vs) (i + k) 0 ≡ getD vs k 0
 getD-sets-inside vs l i k h q =
     let front : length (take i l) ≡ i = length-take-le i l (omega arith) in
     let rest : List ℕ = drop (i + length vs) l in

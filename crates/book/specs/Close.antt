@@ -8,9 +8,9 @@ use lib.IntN.{ℤ, pos, natAbs, _+ℤ_}
 use lib.ListN.{length, getD, set}
 use lib.Signed.{ltZ}
 use Rattle.money.specs.Units.{fen, sheets}
+use Rattle.money.specs.declared.units.Fen.{Fen}
 use Rattle.money.specs.Causes.{Cause, _⇒_}
 use Rattle.money.specs.Days.{Calendar}
-pub use Rattle.book.specs.declared.close.Evening.{Evening}
 use Rattle.book.specs.Folds.{inTurn}
 use Rattle.book.specs.Limits.{netLimit}
 use Rattle.book.specs.Book.{Security, Guarantee, Vault, Closed, ShortRun, NotShort, ShortOnce, ShortTwice, ShortThrice, Standing, Withdrawals, Book, Answer, isPaid, isTrading, isTerminated, hasFailed, noApplications}
@@ -63,6 +63,13 @@ unfoldable pub allArrived : Vault → Vault
 allArrived vault = record { guarantee = guaranteeArrived (vault .guarantee); securities = map securityArrived (vault .securities) }
 
 -- ---- (d) "applications in order"
+
+-- own cash and the vault as the evening goes on, and the applications done and dropped so far
+pub record Evening : Type 0 where
+  pub own : Fen
+  pub vault : Vault
+  pub done : ℕ
+  pub dropped : ℕ
 
 abbrev pub fewer : ℕ → Security → Security
 fewer units security = record { effective = security .effective - units; arriving = security .arriving; frozen = security .frozen; rate = security .rate }

@@ -10,14 +10,17 @@ use lib.ListN.{length, getD}
 use Rattle.money.specs.Limits.{termLimit}
 use Rattle.money.specs.Units.{sheets, ticks}
 use Rattle.book.specs.Limits.{capacityLimit}
-use Rattle.book.specs.Book.{Book, answer}
+use Rattle.book.specs.Book.{Security, Guarantee, Vault, Book, answer}
+use Rattle.book.specs.declared.desk.Desk.{Desk}
+use Rattle.book.specs.declared.desk.Done.{Done}
+use Rattle.book.specs.declared.evening.Evened.{Evened}
 use Rattle.book.specs.declared.answer.Applied.{Applied}
 use Rattle.money.specs.Days.{Calendar}
 use Rattle.book.specs.Pay.{fails, paidBook, payNumber}
-use Rattle.book.specs.Close.{closeAnswer, closedBook}
+use Rattle.book.specs.Close.{Evening, closeAnswer, closedBook}
 use Rattle.book.specs.Step.{Outcome}
 use Rattle.book.specs.Trades.{Contract, Trade, same}
-use Rattle.book.specs.Fit.{tradeFit, allTrades}
+use Rattle.book.specs.Fit.{tradeFit, allTrades, fit}
 
 -- a number of the trade at a place
 abbrev pub word : List ℕ → (place field : ℕ) → ℕ
@@ -47,6 +50,74 @@ capacity table = length table / 6
 
 abbrev pub tradesOf : List ℕ → List Trade
 tradesOf table = tradesTo table (capacity table)
+
+-- ---- the rows beside the desk: the securities, four numbers each, and the applications
+
+unfoldable pub securityIn : List ℕ → ℕ → Security
+securityIn held kind = record {
+  effective = getD held (kind * 4) 0;
+  arriving = getD held (kind * 4 + 1) 0;
+  frozen = getD held (kind * 4 + 2) 0;
+  rate = getD held (kind * 4 + 3) 0;
+}
+
+unfoldable pub securitiesTo : List ℕ → ℕ → List Security
+securitiesTo held zero = []
+securitiesTo held (suc count) = securitiesTo held count ++ (securityIn held count ∷ [])
+
+abbrev pub securitiesOf : List ℕ → List Security
+securitiesOf held = securitiesTo held 32
+
+pub record Rows : Type 0 where
+  pub securities : List Security
+  pub kinds : List ℕ
+  pub units : List ℕ
+
+abbrev pub rowsOf : (held kinds units : List ℕ) → Rows
+rowsOf held kinds units = record { securities = securitiesOf held; kinds = kinds; units = units }
+
+abbrev pub vaultOf : Guarantee → List Security → Vault
+vaultOf guarantee securities = record { guarantee = guarantee; securities = securities }
+
+-- the book that a desk and rows are, and the desk of a book
+abbrev pub bookOf : Desk → Rows → Book
+bookOf desk rows = record {
+  nets = desk .nets;
+  cash = desk .cash;
+  vault = vaultOf (desk .guarantee) (rows .securities);
+  size = desk .size;
+  standing = desk .standing;
+  withdrawals = record { kinds = rows .kinds; units = rows .units; count = desk .applications };
+  trades = desk .trades;
+}
+
+abbrev pub deskOf : Book → Desk
+deskOf book = record {
+  nets = book .nets;
+  cash = book .cash;
+  guarantee = book .vault .guarantee;
+  size = book .size;
+  standing = book .standing;
+  applications = book .withdrawals .count;
+  trades = book .trades;
+}
+
+-- what an event leaves, and the evening, with their rows
+abbrev pub appliedAt : Done → Rows → Applied
+appliedAt done rows = record { answer = done .answer; book = bookOf (done .desk) rows }
+
+abbrev pub eveningAt : Evened → List Security → Evening
+eveningAt evened securities = record { own = evened .own; vault = vaultOf (evened .guarantee) securities; done = evened .done; dropped = evened .dropped }
+
+-- what the core may rely on where it does not have the rows: some rows make the desk a fit book
+pub record Fits (calendar : Calendar) (desk : Desk) (table : List Trade) : Type 0 where
+  pub rows : Rows
+  pub fits : fit calendar (bookOf desk rows) table ≡ true
+
+pub record FitsHeld (calendar : Calendar) (desk : Desk) (held : List ℕ) (table : List Trade) : Type 0 where
+  pub kinds : List ℕ
+  pub units : List ℕ
+  pub fits : fit calendar (bookOf desk (rowsOf held kinds units)) table ≡ true
 
 -- where a contract's trade stands, or how many trades there are
 unfoldable pub placeOf : Contract → List Trade → ℕ

@@ -12,36 +12,27 @@ ghost use Rattle.book.specs.Fit.{securitiesFit, cashFit, withdrawalsFit,
 ghost use Rattle.book.specs.Book.{noApplications};
 ghost use Rattle.book.specs.Close.{mayClose, maturedTrades, maturedSheets, clearedAtClose, served, evening as eveningOf, shortMore, shortAtClose, closedStanding, closeCauses, closedBook, closedTable};
 ghost use Rattle.book.specs.Trades.{Trade, outstanding, remaining};
-ghost use Rattle.book.specs.Flat.{tradesOf, closedBy, tableBy, Kept};
+ghost use Rattle.book.specs.Flat.{Rows, vaultOf, securitiesOf, rowsOf, bookOf, eveningAt, appliedAt, tradesOf, closedBy, tableBy, Kept};
 use crate::answer::Answer;
-use crate::answer::Applied;
-use crate::book::Book;
 use crate::book::Cash;
 use crate::book::Nets;
 use crate::book::Phase;
 use crate::book::ShortRun;
 use crate::book::Standing;
-use crate::book::Vault;
-use crate::book::Withdrawals;
 use crate::days;
+use crate::desk;
+use crate::desk::Desk;
+use crate::desk::Done;
 use crate::evening;
+use crate::evening::Evened;
 use crate::nets;
 use crate::packing;
 use crate::redemption;
 use crate::standing;
-use crate::step;
 use crate::trades;
 use crate::vault;
 use money::units::Fen;
 use money::units::Sheets;
-
-// Own cash and the vault as the evening goes on, and the applications done and dropped so far.
-pub struct Evening {
-    pub own: Fen,
-    pub vault: Vault,
-    pub done: u32,
-    pub dropped: u32,
-}
 
 fn may_close(standing: Standing) -> bool
     ensures { λ r. ⌜ r ≡ mayClose standing ⌝ }
@@ -99,100 +90,136 @@ fn closed_standing(short: ShortRun, standing: Standing) -> Standing
     }
 }
 
-fn no_applications() -> Withdrawals
-    ensures { λ r. ⌜ r ≡ noApplications ⌝ }
+// The list of applications empties to zeros.
+fn clear(kinds: &mut [u8], units: &mut [u64])
+    requires { ⌜ (length (now kinds) ≡ 128) × (length (now units) ≡ 128) ⌝ }
+    ensures { λ _. ⌜ (now (kinds .exit) ≡ noApplications .kinds) × (now (units .exit) ≡ noApplications .units) ⌝ }
 {
-    Withdrawals {
-        kinds: [0; 128],
-        units: [0; 128],
-        count: 0,
+    let mut i = 0;
+    while i < 128 {
+        kinds[i] = 0;
+        units[i] = 0;
+        i += 1;
     }
 }
 
 // The evening's end, with the sheets that are left after maturity.
-fn evening_end(book: Book, left: u64) -> Evening
-    requires { ⌜ (withdrawalsFit (book .withdrawals) ≡ true) × (securitiesFit (book .vault) ≡ true) × (cashFit (book .cash) (book .vault .guarantee) ≡ true) ⌝ }
-    ensures { λ r. ⌜ ((table : List Trade) → left ≡ outstanding (maturedTrades book table) → r ≡ eveningOf book table) ⌝ }
+fn evening_end(desk: Desk, held: &mut [u64], kinds: &[u8], units: &[u64], left: u64) -> Evened
+    requires { ⌜ (length (now held) ≡ 128) × (length (now kinds) ≡ 128) × (length (now units) ≡ 128) ⌝ }
+    requires { ⌜ (withdrawalsFit (bookOf desk (rowsOf (now held) (now kinds) (now units)) .withdrawals) ≡ true) × (securitiesFit (bookOf desk (rowsOf (now held) (now kinds) (now units)) .vault) ≡ true) × (cashFit (desk .cash) (desk .guarantee) ≡ true) ⌝ }
+    ensures { λ r. ⌜ ((table : List Trade) → left ≡ outstanding (maturedTrades (bookOf desk (rowsOf (now (held .entry)) (now (kinds .entry)) (now (units .entry)))) table) → eveningAt r (securitiesOf (now (held .exit))) ≡ eveningOf (bookOf desk (rowsOf (now (held .entry)) (now (kinds .entry)) (now (units .entry)))) table) ⌝ }
 {
-    let standing = book.standing;
-    let withdrawals = book.withdrawals;
-    let vault = evening::all_arrived(book.vault);
-    let begun = Evening {
-        own: Fen(book.cash.own.0),
-        vault,
+    let standing = desk.standing;
+    let guarantee = desk.guarantee;
+    evening::all_arrived(held, guarantee);
+    let begun = Evened {
+        own: Fen(desk.cash.own.0),
+        guarantee: evening::guarantee_arrived(guarantee),
         done: 0,
         dropped: 0,
     };
-    evening::applications(is_served(standing), left, withdrawals, begun)
+    evening::applications(
+        is_served(standing),
+        left,
+        kinds,
+        units,
+        desk.applications,
+        held,
+        begun,
+    )
 }
 
-// The book after the evening: `cleared` has the nets, `kept` the trades that stay.
-fn closed_book(book: Book, cleared: Nets, evening: Evening, left: u64, kept: usize) -> Book
-    requires { ⌜ (securitiesFit (evening .vault) ≡ true) × (evening .vault .guarantee .frozen .0 ≤ evening .vault .guarantee .effective .0) × (evening .vault .guarantee .effective .0 ≤ 10000000000000000) ⌝ }
-    ensures { λ r. ⌜ ((calendar : Calendar) (table : List Trade) → cleared ≡ record { today = pos 0; cleared = clearedAtClose calendar book table } → evening ≡ eveningOf book table → left ≡ outstanding (maturedTrades book table) → kept ≡ length (remaining (maturedTrades book table)) → r ≡ closedBook calendar book table) ⌝ }
+// The desk after the evening: `cleared` has the nets, `kept` the trades that stay.
+fn closed_desk(
+    desk: Desk,
+    held: &[u64],
+    cleared: Nets,
+    evened: Evened,
+    left: u64,
+    kept: usize,
+) -> Desk
+    requires { ⌜ (length (now held) ≡ 128) × (securitiesFit (vaultOf (evened .guarantee) (securitiesOf (now held))) ≡ true) × (evened .guarantee .frozen .0 ≤ evened .guarantee .effective .0) × (evened .guarantee .effective .0 ≤ 10000000000000000) ⌝ }
+    ensures { λ r. ⌜ ((calendar : Calendar) (rows : Rows) (table : List Trade) → cleared ≡ record { today = pos 0; cleared = clearedAtClose calendar (bookOf desk rows) table } → eveningAt evened (securitiesOf (now (held .entry))) ≡ eveningOf (bookOf desk rows) table → left ≡ outstanding (maturedTrades (bookOf desk rows) table) → kept ≡ length (remaining (maturedTrades (bookOf desk rows) table)) → bookOf r (rowsOf (now (held .entry)) (noApplications .kinds) (noApplications .units)) ≡ closedBook calendar (bookOf desk rows) table) ⌝ }
 {
-    let standing = book.standing;
+    let standing = desk.standing;
     let short = standing.short;
-    let vault = evening.vault;
-    let is_short = evening::is_short(book.size.0, vault::value_of(vault), left);
+    let guarantee = evened.guarantee;
+    let is_short = evening::is_short(desk.size.0, vault::value_of(held, guarantee), left);
     let cash = Cash {
-        own: Fen(evening.own.0),
-        client: Fen(book.cash.client.0),
+        own: Fen(evened.own.0),
+        client: Fen(desk.cash.client.0),
     };
-    let mut next = book;
+    let mut next = desk;
     next.nets = cleared;
     next.cash = cash;
-    next.vault = vault;
+    next.guarantee = guarantee;
     next.standing = closed_standing(short_at_close(is_short, short), standing);
-    next.withdrawals = no_applications();
+    next.applications = 0;
     next.trades = kept;
     next
 }
 
 // What Close does, once nothing refuses it. O is what is left after maturity, before the table is packed.
-fn closed(book: Book, table: &mut [u64], matured: u64, cleared: Nets) -> Applied
-    requires { ⌜ (Kept (now table) (book .trades)) × (withdrawalsFit (book .withdrawals) ≡ true) × (securitiesFit (book .vault) ≡ true) × (cashFit (book .cash) (book .vault .guarantee) ≡ true) ⌝ }
-    ensures { λ r. ⌜ ((calendar : Calendar) → matured ≡ maturedSheets book (tradesOf (now (table .entry))) → cleared ≡ record { today = pos 0; cleared = clearedAtClose calendar book (tradesOf (now (table .entry))) } → r ≡ closedBy none calendar book (tradesOf (now (table .entry)))) × (tradesOf (now (table .exit)) ≡ closedTable book (tradesOf (now (table .entry)))) ⌝ }
+fn closed(
+    desk: Desk,
+    held: &mut [u64],
+    kinds: &mut [u8],
+    units: &mut [u64],
+    table: &mut [u64],
+    matured: u64,
+    cleared: Nets,
+) -> Done
+    requires { ⌜ (length (now held) ≡ 128) × (length (now kinds) ≡ 128) × (length (now units) ≡ 128) × (Kept (now table) (desk .trades)) ⌝ }
+    requires { ⌜ (withdrawalsFit (bookOf desk (rowsOf (now held) (now kinds) (now units)) .withdrawals) ≡ true) × (securitiesFit (bookOf desk (rowsOf (now held) (now kinds) (now units)) .vault) ≡ true) × (cashFit (desk .cash) (desk .guarantee) ≡ true) ⌝ }
+    ensures { λ r. ⌜ ((calendar : Calendar) → matured ≡ maturedSheets (bookOf desk (rowsOf (now (held .entry)) (now (kinds .entry)) (now (units .entry)))) (tradesOf (now (table .entry))) → cleared ≡ record { today = pos 0; cleared = clearedAtClose calendar (bookOf desk (rowsOf (now (held .entry)) (now (kinds .entry)) (now (units .entry)))) (tradesOf (now (table .entry))) } → appliedAt r (rowsOf (now (held .exit)) (now (kinds .exit)) (now (units .exit))) ≡ closedBy none calendar (bookOf desk (rowsOf (now (held .entry)) (now (kinds .entry)) (now (units .entry)))) (tradesOf (now (table .entry)))) × (tradesOf (now (table .exit)) ≡ closedTable (bookOf desk (rowsOf (now (held .entry)) (now (kinds .entry)) (now (units .entry)))) (tradesOf (now (table .entry)))) ⌝ }
 {
-    let standing = book.standing;
+    let standing = desk.standing;
     let day = standing.day;
-    let count = book.trades;
+    let count = desk.trades;
     redemption::redeem_due(table, count, days::day_number(day));
     let left = trades::outstanding_of(&*table, count);
     let kept = packing::pack(table, count);
-    let evening = evening_end(book, left);
-    let next = closed_book(book, cleared, evening, left, kept);
-    Applied {
+    let evened = evening_end(desk, held, &*kinds, &*units, left);
+    clear(kinds, units);
+    let next = closed_desk(desk, &*held, cleared, evened, left, kept);
+    Done {
         answer: Answer {
             number: 0,
             matured: Sheets(matured),
-            done: evening.done,
-            dropped: evening.dropped,
+            done: evened.done,
+            dropped: evened.dropped,
         },
-        book: next,
+        desk: next,
     }
 }
 
-// All that can refuse it is decided on a plan, before the table is written.
-pub fn close(calendar: &[u32], book: Book, table: &mut [u64]) -> Applied
-    requires { ⌜ (fit (now calendar) book (tradesOf (now table)) ≡ true) × (length (now calendar) ≤ 1200) ⌝ }
-    ensures { λ r. ⌜ (r ≡ closedBy (firstOf (closeCauses (now (calendar .entry)) book (tradesOf (now (table .entry))))) (now (calendar .entry)) book (tradesOf (now (table .entry)))) × (tradesOf (now (table .exit)) ≡ tableBy (firstOf (closeCauses (now (calendar .entry)) book (tradesOf (now (table .entry))))) (tradesOf (now (table .entry))) (closedTable book (tradesOf (now (table .entry))))) ⌝ }
+// All that can refuse it is decided on a plan, before anything is written.
+pub fn close(
+    calendar: &[u32],
+    desk: Desk,
+    held: &mut [u64],
+    kinds: &mut [u8],
+    units: &mut [u64],
+    table: &mut [u64],
+) -> Done
+    requires { ⌜ (length (now held) ≡ 128) × (length (now kinds) ≡ 128) × (length (now units) ≡ 128) × (length (now calendar) ≤ 1200) × (fit (now calendar) (bookOf desk (rowsOf (now held) (now kinds) (now units))) (tradesOf (now table)) ≡ true) ⌝ }
+    ensures { λ r. ⌜ (appliedAt r (rowsOf (now (held .exit)) (now (kinds .exit)) (now (units .exit))) ≡ closedBy (firstOf (closeCauses (now (calendar .entry)) (bookOf desk (rowsOf (now (held .entry)) (now (kinds .entry)) (now (units .entry)))) (tradesOf (now (table .entry))))) (now (calendar .entry)) (bookOf desk (rowsOf (now (held .entry)) (now (kinds .entry)) (now (units .entry)))) (tradesOf (now (table .entry)))) × (tradesOf (now (table .exit)) ≡ tableBy (firstOf (closeCauses (now (calendar .entry)) (bookOf desk (rowsOf (now (held .entry)) (now (kinds .entry)) (now (units .entry)))) (tradesOf (now (table .entry))))) (tradesOf (now (table .entry))) (closedTable (bookOf desk (rowsOf (now (held .entry)) (now (kinds .entry)) (now (units .entry)))) (tradesOf (now (table .entry))))) ⌝ }
 {
-    let standing = book.standing;
+    let standing = desk.standing;
     if !may_close(standing) {
-        return step::answered(4, book);
+        return desk::answered(4, desk);
     }
     let day = standing.day;
-    let count = book.trades;
+    let count = desk.trades;
     let payment = days::payment_day(calendar, day);
     let plan = redemption::maturity_plan(&*table, count, days::day_number(day), payment);
-    let with_matured = nets::today_plus(book.nets, plan.amount);
+    let with_matured = nets::today_plus(desk.nets, plan.amount);
     if !nets::today_fit(with_matured) {
-        return step::answered(14, book);
+        return desk::answered(14, desk);
     }
     let cleared = nets::joined(with_matured);
     if !nets::cleared_fit(cleared) {
-        return step::answered(14, book);
+        return desk::answered(14, desk);
     }
-    closed(book, table, plan.sheets, cleared)
+    closed(desk, held, kinds, units, table, plan.sheets, cleared)
 }

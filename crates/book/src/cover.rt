@@ -1,15 +1,17 @@
 // Headroom and O of a book.
 ghost use mathlib.Core.Path.{_≡_};
-ghost use mathlib.Core.Bool.{true};
-ghost use Prim.Native.Nat.{_≤_, min};
+ghost use mathlib.Core.List.{List};
+ghost use Prim.Native.Nat.{ℕ, _≤_, min};
+ghost use lib.ListN.{length};
 ghost use Rattle.book.specs.Vault.{headroomOf};
-ghost use Rattle.book.specs.Fit.{fit};
 ghost use Rattle.book.specs.Cover.{covered, uncounted, coverOf};
-ghost use Rattle.book.specs.Flat.{tradesOf};
+ghost use Rattle.book.specs.Flat.{rowsOf, bookOf, FitsHeld, tradesOf};
 use crate::answer::Cover;
 use crate::book::Book;
+use crate::desk::Desk;
 use crate::fit;
 use crate::nets;
+use crate::split;
 use crate::trades;
 use crate::vault;
 use money::units::Sheets;
@@ -32,15 +34,16 @@ fn headroom_from(size: u64, value: u64, outstanding: u64) -> i64
 }
 
 // Of a fit book.
-pub fn cover_of(calendar: &[u32], book: Book, table: &[u64]) -> Cover
-    requires { ⌜ fit (now calendar) book (tradesOf (now table)) ≡ true ⌝ }
-    ensures { λ r. ⌜ r ≡ covered book (tradesOf (now (table .entry))) ⌝ }
+pub fn cover_of(calendar: &[u32], desk: Desk, held: &[u64], table: &[u64]) -> Cover
+    requires { ⌜ (length (now held) ≡ 128) × (FitsHeld (now calendar) desk (now held) (tradesOf (now table))) ⌝ }
+    ensures { λ r. ⌜ ((kinds units : List ℕ) → r ≡ covered (bookOf desk (rowsOf (now (held .entry)) kinds units)) (tradesOf (now (table .entry)))) ⌝ }
 {
-    let held = book.vault;
-    let outstanding = trades::outstanding_of(table, book.trades);
+    let guarantee = desk.guarantee;
+    let outstanding = trades::outstanding_of(table, desk.trades);
+    let value = vault::value_of(held, guarantee);
     Cover {
         number: 0,
-        headroom: headroom_from(book.size.0, vault::value_of(held), outstanding),
+        headroom: headroom_from(desk.size.0, value, outstanding),
         outstanding: Sheets(outstanding),
     }
 }
@@ -62,8 +65,14 @@ pub fn cover_flat(calendar: &[u32], book: Book, table: &[u64]) -> Cover
     if calendar.len() > 1_200 {
         return refused();
     }
-    if !fit::is_fit(calendar, book, table) {
+    let desk = split::desk_of(book);
+    let vault = book.vault;
+    let withdrawals = book.withdrawals;
+    let held = split::held_of(vault);
+    let kinds = split::kinds_of(withdrawals);
+    let units = split::units_of(withdrawals);
+    if !fit::is_fit(calendar, desk, &held, &kinds, &units, table) {
         return refused();
     }
-    cover_of(calendar, book, table)
+    cover_of(calendar, desk, &held, table)
 }

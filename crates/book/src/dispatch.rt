@@ -6,10 +6,13 @@ ghost use lib.ListN.{length};
 ghost use Rattle.book.specs.Fit.{fit};
 ghost use Rattle.book.specs.Entry.{Known};
 ghost use Rattle.book.specs.Step.{step};
-ghost use Rattle.book.specs.Flat.{tradesOf, appliedOf};
+ghost use Rattle.book.specs.Flat.{rowsOf, bookOf, appliedAt, tradesOf, appliedOf};
 use crate::answer::Applied;
 use crate::book::Book;
 use crate::close;
+use crate::desk;
+use crate::desk::Desk;
+use crate::desk::Done;
 use crate::early;
 use crate::event::Entry;
 use crate::event::Event;
@@ -22,45 +25,69 @@ use crate::pay;
 use crate::pledge;
 use crate::rate;
 use crate::size;
+use crate::split;
 use crate::step;
 use crate::withdraw;
 
-// One event on a book that is known to be fit, under a calendar of at most 1,200 words.
-pub fn event_on(calendar: &[u32], book: Book, table: &mut [u64], event: Event) -> Applied
-    requires { ⌜ (fit (now calendar) book (tradesOf (now table)) ≡ true) × (length (now calendar) ≤ 1200) ⌝ }
-    ensures { λ r. ⌜ (r ≡ appliedOf (step (now (calendar .entry)) book (tradesOf (now (table .entry))) (Known event))) × (tradesOf (now (table .exit)) ≡ step (now (calendar .entry)) book (tradesOf (now (table .entry))) (Known event) .table) ⌝ }
+// One event on a fit book, under a calendar of at most 1,200 words.
+pub fn event_on(
+    calendar: &[u32],
+    desk: Desk,
+    held: &mut [u64],
+    kinds: &mut [u8],
+    units: &mut [u64],
+    table: &mut [u64],
+    event: Event,
+) -> Done
+    requires { ⌜ (length (now held) ≡ 128) × (length (now kinds) ≡ 128) × (length (now units) ≡ 128) × (length (now calendar) ≤ 1200) × (fit (now calendar) (bookOf desk (rowsOf (now held) (now kinds) (now units))) (tradesOf (now table)) ≡ true) ⌝ }
+    ensures { λ r. ⌜ (appliedAt r (rowsOf (now (held .exit)) (now (kinds .exit)) (now (units .exit))) ≡ appliedOf (step (now (calendar .entry)) (bookOf desk (rowsOf (now (held .entry)) (now (kinds .entry)) (now (units .entry)))) (tradesOf (now (table .entry))) (Known event))) × (tradesOf (now (table .exit)) ≡ step (now (calendar .entry)) (bookOf desk (rowsOf (now (held .entry)) (now (kinds .entry)) (now (units .entry)))) (tradesOf (now (table .entry))) (Known event) .table) ⌝ }
 {
     match event {
-        Event::Open => open::open(calendar, book, table),
-        Event::FundIn(account, amount) => funds::fund_in(book, account, amount),
-        Event::FundOut(account, amount) => funds::fund_out(book, account, amount),
-        Event::Size(sheets) => size::set_size(book, &*table, sheets),
-        Event::Rate(kind, rate) => rate::set_rate(book, kind, rate),
-        Event::Pledge(kind, units) => pledge::pledge(book, kind, units),
-        Event::Freeze(kind, units) => freeze::freeze(book, kind, units),
-        Event::Withdraw(kind, units) => withdraw::withdraw(book, kind, units),
-        Event::Initial(terms) => initial::initial(calendar, book, table, terms),
+        Event::Open => open::open(calendar, desk, table),
+        Event::FundIn(account, amount) => funds::fund_in(desk, account, amount),
+        Event::FundOut(account, amount) => funds::fund_out(desk, account, amount),
+        Event::Size(sheets) => size::set_size(desk, &*table, sheets),
+        Event::Rate(kind, rate) => rate::set_rate(desk, held, kind, rate),
+        Event::Pledge(kind, amount) => pledge::pledge(desk, held, kind, amount),
+        Event::Freeze(kind, amount) => freeze::freeze(desk, held, kind, amount),
+        Event::Withdraw(kind, amount) => withdraw::withdraw(
+            desk,
+            &*held,
+            kinds,
+            units,
+            kind,
+            amount,
+        ),
+        Event::Initial(terms) => initial::initial(calendar, desk, &*held, table, terms),
         Event::Early(contract, count, price) => early::early(
             calendar,
-            book,
+            desk,
             table,
             contract,
             count,
             price,
         ),
-        Event::Pay => pay::pay(book),
-        Event::Close => close::close(calendar, book, table),
+        Event::Pay => pay::pay(desk),
+        Event::Close => close::close(calendar, desk, held, kinds, units, table),
     }
 }
 
-// One entry on a book that is known to be fit.
-pub fn entry_on(calendar: &[u32], book: Book, table: &mut [u64], entry: Entry) -> Applied
-    requires { ⌜ (fit (now calendar) book (tradesOf (now table)) ≡ true) × (length (now calendar) ≤ 1200) ⌝ }
-    ensures { λ r. ⌜ (r ≡ appliedOf (step (now (calendar .entry)) book (tradesOf (now (table .entry))) entry)) × (tradesOf (now (table .exit)) ≡ step (now (calendar .entry)) book (tradesOf (now (table .entry))) entry .table) ⌝ }
+// One entry on a fit book.
+pub fn entry_on(
+    calendar: &[u32],
+    desk: Desk,
+    held: &mut [u64],
+    kinds: &mut [u8],
+    units: &mut [u64],
+    table: &mut [u64],
+    entry: Entry,
+) -> Done
+    requires { ⌜ (length (now held) ≡ 128) × (length (now kinds) ≡ 128) × (length (now units) ≡ 128) × (length (now calendar) ≤ 1200) × (fit (now calendar) (bookOf desk (rowsOf (now held) (now kinds) (now units))) (tradesOf (now table)) ≡ true) ⌝ }
+    ensures { λ r. ⌜ (appliedAt r (rowsOf (now (held .exit)) (now (kinds .exit)) (now (units .exit))) ≡ appliedOf (step (now (calendar .entry)) (bookOf desk (rowsOf (now (held .entry)) (now (kinds .entry)) (now (units .entry)))) (tradesOf (now (table .entry))) entry)) × (tradesOf (now (table .exit)) ≡ step (now (calendar .entry)) (bookOf desk (rowsOf (now (held .entry)) (now (kinds .entry)) (now (units .entry)))) (tradesOf (now (table .entry))) entry .table) ⌝ }
 {
     match entry {
-        Entry::Known(event) => event_on(calendar, book, table, event),
-        Entry::Undecodable => step::answered(2, book),
+        Entry::Known(event) => event_on(calendar, desk, held, kinds, units, table, event),
+        Entry::Undecodable => desk::answered(2, desk),
     }
 }
 
@@ -71,8 +98,28 @@ pub fn apply_flat(calendar: &[u32], book: Book, table: &mut [u64], entry: Entry)
     if calendar.len() > 1_200 {
         return step::answered(1, book);
     }
-    if !fit::is_fit(calendar, book, &*table) {
+    let desk = split::desk_of(book);
+    let vault = book.vault;
+    let withdrawals = book.withdrawals;
+    let mut held = split::held_of(vault);
+    let mut kinds = split::kinds_of(withdrawals);
+    let mut units = split::units_of(withdrawals);
+    if !fit::is_fit(calendar, desk, &held, &kinds, &units, &*table) {
         return step::answered(1, book);
     }
-    entry_on(calendar, book, table, entry)
+    let done = entry_on(
+        calendar,
+        desk,
+        &mut held,
+        &mut kinds,
+        &mut units,
+        table,
+        entry,
+    );
+    let answer = done.answer;
+    let after = done.desk;
+    Applied {
+        answer,
+        book: split::book_of(after, &held, kinds, units),
+    }
 }

@@ -1,34 +1,32 @@
 // 10 Early: takes sheets off a trade at the price given; the amount joins today's net.
 ghost use mathlib.Core.Path.{_≡_};
-ghost use mathlib.Core.Bool.{true};
 ghost use Prim.Native.Nat.{_≤_, _<_, _*_};
 ghost use lib.ListN.{length};
 ghost use Rattle.money.specs.Causes.{firstOf, numberOf};
-ghost use Rattle.book.specs.Fit.{fit};
 ghost use Rattle.book.specs.Early.{earlyAmount, pastDue, earlyCauses, earlyBook, earlyTable};
-ghost use Rattle.book.specs.Flat.{tradesTo, tradesOf, placeOf, appliedBy, tableBy};
-use crate::answer::Applied;
-use crate::book::Book;
+ghost use Rattle.book.specs.Flat.{Rows, bookOf, Fits, appliedAt, tradesTo, tradesOf, placeOf, appliedBy, tableBy};
 use crate::days;
+use crate::desk;
+use crate::desk::Desk;
+use crate::desk::Done;
 use crate::flat;
 use crate::nets;
 use crate::redemption;
 use crate::standing;
-use crate::step;
 use crate::trade::Contract;
 use crate::trades;
 use money::units::Sheets;
 use money::units::Ticks;
 
 // Whether today is at or past the due day of the trade at a place.
-fn past_due(book: Book, table: &[u64], place: usize, contract: Contract) -> bool
-    requires { ⌜ (book .trades * 6 ≤ length (now table)) × (place ≡ placeOf contract (tradesTo (now table) (book .trades))) ⌝ }
-    ensures { λ r. ⌜ r ≡ pastDue book (tradesOf (now (table .entry))) contract ⌝ }
+fn past_due(desk: Desk, table: &[u64], place: usize, contract: Contract) -> bool
+    requires { ⌜ (desk .trades * 6 ≤ length (now table)) × (place ≡ placeOf contract (tradesTo (now table) (desk .trades))) ⌝ }
+    ensures { λ r. ⌜ ((rows : Rows) → r ≡ pastDue (bookOf desk rows) (tradesOf (now (table .entry))) contract) ⌝ }
 {
-    if place >= book.trades {
+    if place >= desk.trades {
         return false;
     }
-    let standing = book.standing;
+    let standing = desk.standing;
     let day = standing.day;
     flat::due_at(table, place) <= days::day_number(day)
 }
@@ -36,17 +34,17 @@ fn past_due(book: Book, table: &[u64], place: usize, contract: Contract) -> bool
 // The amount of sheets of the trade at a place, from its first payment day to today's.
 fn amount_at(
     calendar: &[u32],
-    book: Book,
+    desk: Desk,
     table: &[u64],
     place: usize,
     contract: Contract,
     count: Sheets,
     price: Ticks,
 ) -> u64
-    requires { ⌜ (fit (now calendar) book (tradesOf (now table)) ≡ true) × (length (now calendar) ≤ 1200) × (place ≡ placeOf contract (tradesTo (now table) (book .trades))) × (place < book .trades) × (count .0 ≤ 100000000) × (price .0 ≤ 100000) ⌝ }
-    ensures { λ r. ⌜ r ≡ earlyAmount (now (calendar .entry)) book (tradesOf (now (table .entry))) contract count price ⌝ }
+    requires { ⌜ (Fits (now calendar) desk (tradesOf (now table))) × (length (now calendar) ≤ 1200) × (place ≡ placeOf contract (tradesTo (now table) (desk .trades))) × (place < desk .trades) × (count .0 ≤ 100000000) × (price .0 ≤ 100000) ⌝ }
+    ensures { λ r. ⌜ ((rows : Rows) → r ≡ earlyAmount (now (calendar .entry)) (bookOf desk rows) (tradesOf (now (table .entry))) contract count price) ⌝ }
 {
-    let standing = book.standing;
+    let standing = desk.standing;
     let day = standing.day;
     let payment = days::payment_day(calendar, day);
     redemption::redeemed_for(table, place, count.0, price, payment)
@@ -54,17 +52,17 @@ fn amount_at(
 
 fn early_refusal(
     calendar: &[u32],
-    book: Book,
+    desk: Desk,
     table: &[u64],
     place: usize,
     contract: Contract,
     count: Sheets,
     price: Ticks,
 ) -> u8
-    requires { ⌜ (fit (now calendar) book (tradesOf (now table)) ≡ true) × (length (now calendar) ≤ 1200) × (place ≡ placeOf contract (tradesTo (now table) (book .trades))) ⌝ }
-    ensures { λ r. ⌜ r ≡ numberOf (firstOf (earlyCauses (now (calendar .entry)) book (tradesOf (now (table .entry))) contract count price)) ⌝ }
+    requires { ⌜ (Fits (now calendar) desk (tradesOf (now table))) × (length (now calendar) ≤ 1200) × (place ≡ placeOf contract (tradesTo (now table) (desk .trades))) ⌝ }
+    ensures { λ r. ⌜ ((rows : Rows) → r ≡ numberOf (firstOf (earlyCauses (now (calendar .entry)) (bookOf desk rows) (tradesOf (now (table .entry))) contract count price))) ⌝ }
 {
-    let standing = book.standing;
+    let standing = desk.standing;
     if !standing::is_trading(standing) {
         return 4;
     }
@@ -77,17 +75,17 @@ fn early_refusal(
     if price.0 > 100_000 {
         return 8;
     }
-    if past_due(book, table, place, contract) {
+    if past_due(desk, table, place, contract) {
         return 9;
     }
-    if place >= book.trades {
+    if place >= desk.trades {
         return 10;
     }
     if flat::sheets_at(table, place) < count.0 {
         return 13;
     }
-    let nets = book.nets;
-    let amount = amount_at(calendar, book, table, place, contract, count, price);
+    let nets = desk.nets;
+    let amount = amount_at(calendar, desk, table, place, contract, count, price);
     if !nets::today_fit(nets::today_plus(nets, amount)) {
         return 14;
     }
@@ -96,25 +94,25 @@ fn early_refusal(
 
 pub fn early(
     calendar: &[u32],
-    book: Book,
+    desk: Desk,
     table: &mut [u64],
     contract: Contract,
     count: Sheets,
     price: Ticks,
-) -> Applied
-    requires { ⌜ (fit (now calendar) book (tradesOf (now table)) ≡ true) × (length (now calendar) ≤ 1200) ⌝ }
-    ensures { λ r. ⌜ (r ≡ appliedBy (firstOf (earlyCauses (now (calendar .entry)) book (tradesOf (now (table .entry))) contract count price)) book (earlyBook (now (calendar .entry)) book (tradesOf (now (table .entry))) contract count price)) × (tradesOf (now (table .exit)) ≡ tableBy (firstOf (earlyCauses (now (calendar .entry)) book (tradesOf (now (table .entry))) contract count price)) (tradesOf (now (table .entry))) (earlyTable book (tradesOf (now (table .entry))) contract count)) ⌝ }
+) -> Done
+    requires { ⌜ (Fits (now calendar) desk (tradesOf (now table))) × (length (now calendar) ≤ 1200) ⌝ }
+    ensures { λ r. ⌜ ((rows : Rows) → (appliedAt r rows ≡ appliedBy (firstOf (earlyCauses (now (calendar .entry)) (bookOf desk rows) (tradesOf (now (table .entry))) contract count price)) (bookOf desk rows) (earlyBook (now (calendar .entry)) (bookOf desk rows) (tradesOf (now (table .entry))) contract count price)) × (tradesOf (now (table .exit)) ≡ tableBy (firstOf (earlyCauses (now (calendar .entry)) (bookOf desk rows) (tradesOf (now (table .entry))) contract count price)) (tradesOf (now (table .entry))) (earlyTable (bookOf desk rows) (tradesOf (now (table .entry))) contract count))) ⌝ }
 {
-    let place = trades::place_of(&*table, book.trades, contract);
-    let refusal = early_refusal(calendar, book, &*table, place, contract, count, price);
+    let place = trades::place_of(&*table, desk.trades, contract);
+    let refusal = early_refusal(calendar, desk, &*table, place, contract, count, price);
     if refusal != 0 {
-        return step::answered(refusal, book);
+        return desk::answered(refusal, desk);
     }
-    let amount = amount_at(calendar, book, &*table, place, contract, count, price);
+    let amount = amount_at(calendar, desk, &*table, place, contract, count, price);
     let left = flat::sheets_at(&*table, place) - count.0;
     flat::put_sheets(table, place, left);
-    let nets = book.nets;
-    let mut next = book;
+    let nets = desk.nets;
+    let mut next = desk;
     next.nets = nets::today_plus(nets, amount);
-    step::answered(0, next)
+    desk::answered(0, next)
 }

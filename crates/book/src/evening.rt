@@ -3,17 +3,18 @@ ghost use mathlib.Core.Path.{_≡_};
 ghost use mathlib.Core.Bool.{true, cond};
 ghost use Prim.Native.Nat.{_≤_, _+_};
 ghost use lib.IntN.{pos};
+ghost use mathlib.Core.List.{map};
 ghost use lib.ListN.{length};
 ghost use lib.Signed.{ltZ};
 ghost use Rattle.money.specs.Collateral.{rateOf, unitLimitOf, kindValue};
+ghost use Rattle.book.specs.Book.{Vault};
 ghost use Rattle.book.specs.Vault.{securityAt, effectiveOf, frozenOf, value as valueOf, headroomOf};
 ghost use Rattle.book.specs.Fit.{securitiesFit, withdrawalsFit};
-ghost use Rattle.book.specs.Close.{securityArrived, guaranteeArrived, allArrived, takenOut, mayGo, applications};
+ghost use Rattle.book.specs.Close.{securityArrived, guaranteeArrived, takenOut, mayGo, applications};
+ghost use Rattle.book.specs.Flat.{vaultOf, securitiesOf, eveningAt};
 use crate::book::Guarantee;
 use crate::book::Security;
-use crate::book::Vault;
-use crate::book::Withdrawals;
-use crate::close::Evening;
+use crate::held;
 use money::units::Fen;
 
 fn security_arrived(security: Security) -> Security
@@ -28,7 +29,7 @@ fn security_arrived(security: Security) -> Security
     }
 }
 
-fn guarantee_arrived(guarantee: Guarantee) -> Guarantee
+pub fn guarantee_arrived(guarantee: Guarantee) -> Guarantee
     requires { ⌜ guarantee .effective .0 + guarantee .arriving .0 ≤ 10000000000000000 ⌝ }
     ensures { λ r. ⌜ r ≡ guaranteeArrived guarantee ⌝ }
 {
@@ -39,20 +40,17 @@ fn guarantee_arrived(guarantee: Guarantee) -> Guarantee
     }
 }
 
-// What arrives becomes effective, of every kind.
-pub fn all_arrived(vault: Vault) -> Vault
-    requires { ⌜ (securitiesFit vault ≡ true) × (vault .guarantee .effective .0 + vault .guarantee .arriving .0 ≤ 10000000000000000) ⌝ }
-    ensures { λ r. ⌜ r ≡ allArrived vault ⌝ }
+// What arrives becomes effective, of every security.
+pub fn all_arrived(held: &mut [u64], guarantee: Guarantee)
+    requires { ⌜ (length (now held) ≡ 128) × (securitiesFit (vaultOf guarantee (securitiesOf (now held))) ≡ true) ⌝ }
+    ensures { λ _. ⌜ securitiesOf (now (held .exit)) ≡ map securityArrived (securitiesOf (now (held .entry))) ⌝ }
 {
-    let mut next = vault;
-    next.guarantee = guarantee_arrived(vault.guarantee);
     let mut kind = 0;
     while kind < 32 {
-        let security = next.securities[kind];
-        next.securities[kind] = security_arrived(security);
+        let security = held::security_at(&*held, kind);
+        held::put_security(held, kind, security_arrived(security));
         kind += 1;
     }
-    next
 }
 
 // Guarantee cash as a security, and back; a security's rate is not looked at in cash.
@@ -112,49 +110,60 @@ fn judged(
     }
 }
 
-// The applications in order. The vault stays where it is: of each application's kind a copy is looked at, and written back if it goes.
+// Own and guarantee cash as the evening goes on, and the applications done and dropped so far. The securities stand in their row.
+pub struct Evened {
+    pub own: Fen,
+    pub guarantee: Guarantee,
+    pub done: u32,
+    pub dropped: u32,
+}
+
+// The applications in order: of each one's kind a copy is looked at, and written back if it goes.
 pub fn applications(
     served: bool,
     outstanding: u64,
-    withdrawals: Withdrawals,
-    evening: Evening,
-) -> Evening
-    requires { ⌜ (withdrawalsFit withdrawals ≡ true) × (securitiesFit (evening .vault) ≡ true) × (evening .vault .guarantee .frozen .0 ≤ evening .vault .guarantee .effective .0) × (evening .vault .guarantee .effective .0 ≤ 10000000000000000) × (evening .own .0 + evening .vault .guarantee .effective .0 ≤ 10000000000000000) × (evening .done ≡ 0) × (evening .dropped ≡ 0) ⌝ }
-    ensures { λ r. ⌜ r ≡ applications served outstanding withdrawals evening ⌝ }
+    kinds: &[u8],
+    units: &[u64],
+    count: usize,
+    held: &mut [u64],
+    begun: Evened,
+) -> Evened
+    requires { ⌜ (length (now kinds) ≡ 128) × (length (now units) ≡ 128) × (length (now held) ≡ 128) × (withdrawalsFit (record { kinds = now kinds; units = now units; count = count }) ≡ true) ⌝ }
+    requires { ⌜ (securitiesFit (vaultOf (begun .guarantee) (securitiesOf (now held))) ≡ true) × (begun .guarantee .frozen .0 ≤ begun .guarantee .effective .0) × (begun .guarantee .effective .0 ≤ 10000000000000000) × (begun .own .0 + begun .guarantee .effective .0 ≤ 10000000000000000) × (begun .done ≡ 0) × (begun .dropped ≡ 0) ⌝ }
+    ensures { λ r. ⌜ eveningAt r (securitiesOf (now (held .exit))) ≡ applications served outstanding (record { kinds = now (kinds .entry); units = now (units .entry); count = count }) (eveningAt begun (securitiesOf (now (held .entry)))) ⌝ }
 {
-    let mut vault = evening.vault;
-    let mut own = evening.own.0;
-    let mut value = crate::vault::value_of(vault);
-    let mut done = evening.done;
-    let mut dropped = evening.dropped;
-    let count = withdrawals.count;
+    let mut guarantee = begun.guarantee;
+    let mut own = begun.own.0;
+    let mut value = crate::vault::value_of(&*held, guarantee);
+    let mut done = begun.done;
+    let mut dropped = begun.dropped;
     let mut i = 0;
     while i < count {
-        let kind = withdrawals.kinds[i];
-        let units = withdrawals.units[i];
-        let mut had = as_security(vault.guarantee);
+        let kind = kinds[i];
+        let amount = units[i];
+        let mut had = as_security(guarantee);
         if kind < 32 {
-            had = vault.securities[kind as usize];
+            had = held::security_at(&*held, kind as usize);
         }
-        let verdict = judged(served, outstanding, kind, units, had, value);
+        let verdict = judged(served, outstanding, kind, amount, had, value);
         value = verdict.value;
         if verdict.goes {
             done += 1;
-            had.effective = had.effective - units;
+            had.effective = had.effective - amount;
             if kind < 32 {
-                vault.securities[kind as usize] = had;
+                held::put_security(held, kind as usize, had);
             } else {
-                vault.guarantee = as_guarantee(had);
-                own += units;
+                guarantee = as_guarantee(had);
+                own += amount;
             }
         } else {
             dropped += 1;
         }
         i += 1;
     }
-    Evening {
+    Evened {
         own: Fen(own),
-        vault,
+        guarantee,
         done,
         dropped,
     }

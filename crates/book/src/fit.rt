@@ -7,12 +7,12 @@ ghost use Rattle.book.specs.Book.{On};
 ghost use Rattle.book.specs.Folds.{every};
 ghost use Rattle.book.specs.Trades.{outstanding, differ};
 ghost use Rattle.book.specs.Fit.{capacityFit, sizeFit, netsFit, withdrawalsFit, unopenedFit, openedFit, dayFit, fit};
-ghost use Rattle.book.specs.Flat.{tradesTo, tradesOf, Kept};
-use crate::book::Book;
+ghost use Rattle.book.specs.Flat.{rowsOf, bookOf, tradesTo, tradesOf, Kept};
 use crate::book::Day;
 use crate::book::Nets;
 use crate::book::Standing;
 use crate::days;
+use crate::desk::Desk;
 use crate::nets;
 use crate::standing;
 use crate::trades;
@@ -85,48 +85,53 @@ fn day_fit(calendar: &[u32], standing: Standing, table: &[u64], count: usize) ->
 }
 
 // The tests after those of the vault, the cash and the sheets.
-fn others_fit(calendar: &[u32], book: Book, table: &[u64]) -> bool
-    requires { ⌜ (length (now calendar) ≤ 1200) × (Kept (now table) (book .trades)) ⌝ }
-    ensures { λ r. ⌜ r ≡ every (netsFit (book .nets) ∷ differ (tradesTo (now (table .entry)) (book .trades)) ∷ withdrawalsFit (book .withdrawals) ∷ dayFit (now (calendar .entry)) (book .standing .day) (book .standing .phase) (tradesTo (now (table .entry)) (book .trades)) (book .trades) ∷ []) ⌝ }
+fn others_fit(calendar: &[u32], desk: Desk, kinds: &[u8], units: &[u64], table: &[u64]) -> bool
+    requires { ⌜ (length (now calendar) ≤ 1200) × (length (now kinds) ≡ 128) × (length (now units) ≡ 128) × (Kept (now table) (desk .trades)) ⌝ }
+    ensures { λ r. ⌜ r ≡ every (netsFit (desk .nets) ∷ differ (tradesTo (now (table .entry)) (desk .trades)) ∷ withdrawalsFit (record { kinds = now (kinds .entry); units = now (units .entry); count = desk .applications }) ∷ dayFit (now (calendar .entry)) (desk .standing .day) (desk .standing .phase) (tradesTo (now (table .entry)) (desk .trades)) (desk .trades) ∷ []) ⌝ }
 {
-    let nets = book.nets;
+    let nets = desk.nets;
     if !nets_fit(nets) {
         return false;
     }
-    let count = book.trades;
+    let count = desk.trades;
     if !trades::contracts_differ(table, count) {
         return false;
     }
-    let withdrawals = book.withdrawals;
-    if !vault::withdrawals_fit(withdrawals) {
+    if !vault::withdrawals_fit(kinds, units, desk.applications) {
         return false;
     }
-    let standing = book.standing;
+    let standing = desk.standing;
     day_fit(calendar, standing, table, count)
 }
 
-pub fn is_fit(calendar: &[u32], book: Book, table: &[u64]) -> bool
-    requires { ⌜ length (now calendar) ≤ 1200 ⌝ }
-    ensures { λ r. ⌜ r ≡ fit (now (calendar .entry)) book (tradesOf (now (table .entry))) ⌝ }
+pub fn is_fit(
+    calendar: &[u32],
+    desk: Desk,
+    held: &[u64],
+    kinds: &[u8],
+    units: &[u64],
+    table: &[u64],
+) -> bool
+    requires { ⌜ (length (now held) ≡ 128) × (length (now kinds) ≡ 128) × (length (now units) ≡ 128) × (length (now calendar) ≤ 1200) ⌝ }
+    ensures { λ r. ⌜ r ≡ fit (now (calendar .entry)) (bookOf desk (rowsOf (now (held .entry)) (now (kinds .entry)) (now (units .entry)))) (tradesOf (now (table .entry))) ⌝ }
 {
-    let count = book.trades;
+    let count = desk.trades;
     if !capacity_fit(count, table) {
         return false;
     }
-    let vault = book.vault;
-    if !vault::securities_fit(vault) {
+    if !vault::securities_fit(held) {
         return false;
     }
-    let cash = book.cash;
-    let guarantee = vault.guarantee;
+    let cash = desk.cash;
+    let guarantee = desk.guarantee;
     if !vault::cash_fit(cash, guarantee) {
         return false;
     }
     if !trades::trades_fit(table, count) {
         return false;
     }
-    if !size_fit(book.size.0, table, count) {
+    if !size_fit(desk.size.0, table, count) {
         return false;
     }
-    others_fit(calendar, book, table)
+    others_fit(calendar, desk, kinds, units, table)
 }

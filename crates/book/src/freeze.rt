@@ -1,70 +1,67 @@
 // 7 Freeze: sets frozen units.
 ghost use mathlib.Core.Path.{_≡_};
-ghost use Prim.Native.Nat.{_<_};
+ghost use mathlib.Core.List.{List};
+ghost use Prim.Native.Nat.{ℕ, _<_};
+ghost use lib.ListN.{length, set};
 ghost use Rattle.money.specs.Causes.{firstOf, numberOf};
-ghost use Rattle.book.specs.Vault.{securityAt, withSecurity, withGuarantee};
 ghost use Rattle.book.specs.Freeze.{freezeCauses, frozen, withFrozen, cashFrozen};
-ghost use Rattle.book.specs.Flat.{appliedBy};
-use crate::answer::Applied;
-use crate::book::Book;
+ghost use Rattle.book.specs.Flat.{securityIn, securitiesOf, rowsOf, bookOf, appliedBy, appliedAt};
 use crate::book::Guarantee;
-use crate::book::Vault;
-use crate::step;
+use crate::desk;
+use crate::desk::Desk;
+use crate::desk::Done;
+use crate::held;
 use crate::vault;
 use money::units::Fen;
 
-fn freeze_refusal(book: Book, kind: u8, units: u64) -> u8
-    ensures { λ r. ⌜ r ≡ numberOf (firstOf (freezeCauses book kind units)) ⌝ }
+fn freeze_refusal(desk: Desk, held: &[u64], kind: u8, units: u64) -> u8
+    requires { ⌜ length (now held) ≡ 128 ⌝ }
+    ensures { λ r. ⌜ ((kinds amounts : List ℕ) → r ≡ numberOf (firstOf (freezeCauses (bookOf desk (rowsOf (now (held .entry)) kinds amounts)) kind units))) ⌝ }
 {
     if kind > 32 {
         return 3;
     }
-    let held = book.vault;
-    if vault::effective_of(held, kind) < units {
+    let guarantee = desk.guarantee;
+    if vault::effective_of(held, guarantee, kind) < units {
         return 13;
     }
     0
 }
 
-fn with_frozen(vault: Vault, kind: u8, units: u64) -> Vault
-    requires { ⌜ kind < 32 ⌝ }
-    ensures { λ r. ⌜ r ≡ withSecurity kind (withFrozen units (securityAt vault kind)) vault ⌝ }
+fn put_frozen(held: &mut [u64], kind: u8, units: u64)
+    requires { ⌜ (kind < 32) × (length (now held) ≡ 128) ⌝ }
+    ensures { λ _. ⌜ securitiesOf (now (held .exit)) ≡ set (securitiesOf (now (held .entry))) kind (withFrozen units (securityIn (now (held .entry)) kind)) ⌝ }
 {
     let at = kind as usize;
-    let mut security = vault.securities[at];
+    let mut security = held::security_at(&*held, at);
     security.frozen = units;
-    let mut next = vault;
-    next.securities[at] = security;
-    next
+    held::put_security(held, at, security);
 }
 
-fn with_cash_frozen(vault: Vault, units: u64) -> Vault
-    ensures { λ r. ⌜ r ≡ withGuarantee (cashFrozen units (vault .guarantee)) vault ⌝ }
+fn cash_frozen(guarantee: Guarantee, units: u64) -> Guarantee
+    ensures { λ r. ⌜ r ≡ cashFrozen units guarantee ⌝ }
 {
-    let guarantee = vault.guarantee;
-    let changed = Guarantee {
+    Guarantee {
         effective: Fen(guarantee.effective.0),
         arriving: Fen(guarantee.arriving.0),
         frozen: Fen(units),
-    };
-    let mut next = vault;
-    next.guarantee = changed;
-    next
+    }
 }
 
-pub fn freeze(book: Book, kind: u8, units: u64) -> Applied
-    ensures { λ r. ⌜ r ≡ appliedBy (firstOf (freezeCauses book kind units)) book (frozen book kind units) ⌝ }
+pub fn freeze(desk: Desk, held: &mut [u64], kind: u8, units: u64) -> Done
+    requires { ⌜ length (now held) ≡ 128 ⌝ }
+    ensures { λ r. ⌜ ((kinds amounts : List ℕ) → appliedAt r (rowsOf (now (held .exit)) kinds amounts) ≡ appliedBy (firstOf (freezeCauses (bookOf desk (rowsOf (now (held .entry)) kinds amounts)) kind units)) (bookOf desk (rowsOf (now (held .entry)) kinds amounts)) (frozen (bookOf desk (rowsOf (now (held .entry)) kinds amounts)) kind units)) ⌝ }
 {
-    let refusal = freeze_refusal(book, kind, units);
+    let refusal = freeze_refusal(desk, &*held, kind, units);
     if refusal != 0 {
-        return step::answered(refusal, book);
+        return desk::answered(refusal, desk);
     }
-    let held = book.vault;
-    let mut next = book;
     if kind == 32 {
-        next.vault = with_cash_frozen(held, units);
-        return step::answered(0, next);
+        let guarantee = desk.guarantee;
+        let mut next = desk;
+        next.guarantee = cash_frozen(guarantee, units);
+        return desk::answered(0, next);
     }
-    next.vault = with_frozen(held, kind, units);
-    step::answered(0, next)
+    put_frozen(held, kind, units);
+    desk::answered(0, desk)
 }

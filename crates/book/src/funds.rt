@@ -4,12 +4,12 @@ ghost use mathlib.Core.Bool.{true};
 ghost use Rattle.money.specs.Causes.{firstOf, numberOf};
 ghost use Rattle.book.specs.Fit.{cashFit};
 ghost use Rattle.book.specs.Funds.{holds, withAccount, fundInCauses, fundedIn, fundOutCauses, fundedOut};
-ghost use Rattle.book.specs.Flat.{appliedBy};
-use crate::answer::Applied;
-use crate::book::Book;
+ghost use Rattle.book.specs.Flat.{Rows, bookOf, appliedBy, appliedAt};
 use crate::book::Cash;
+use crate::desk;
+use crate::desk::Desk;
+use crate::desk::Done;
 use crate::event::Account;
-use crate::step;
 use money::units::Fen;
 
 fn held(account: Account, cash: Cash) -> u64
@@ -36,59 +36,59 @@ fn with_account(account: Account, sum: u64, cash: Cash) -> Cash
     }
 }
 
-fn fund_in_refusal(book: Book, account: Account, amount: Fen) -> u8
-    requires { ⌜ cashFit (book .cash) (book .vault .guarantee) ≡ true ⌝ }
-    ensures { λ r. ⌜ r ≡ numberOf (firstOf (fundInCauses book account amount)) ⌝ }
+fn fund_in_refusal(desk: Desk, account: Account, amount: Fen) -> u8
+    requires { ⌜ cashFit (desk .cash) (desk .guarantee) ≡ true ⌝ }
+    ensures { λ r. ⌜ ((rows : Rows) → r ≡ numberOf (firstOf (fundInCauses (bookOf desk rows) account amount))) ⌝ }
 {
     if amount.0 == 0 {
         return 7;
     }
-    let cash = book.cash.own.0
-        + book.cash.client.0
-        + book.vault.guarantee.effective.0
-        + book.vault.guarantee.arriving.0;
+    let cash = desk.cash.own.0
+        + desk.cash.client.0
+        + desk.guarantee.effective.0
+        + desk.guarantee.arriving.0;
     if 10_000_000_000_000_000 - cash < amount.0 {
         return 14;
     }
     0
 }
 
-pub fn fund_in(book: Book, account: Account, amount: Fen) -> Applied
-    requires { ⌜ cashFit (book .cash) (book .vault .guarantee) ≡ true ⌝ }
-    ensures { λ r. ⌜ r ≡ appliedBy (firstOf (fundInCauses book account amount)) book (fundedIn book account amount) ⌝ }
+pub fn fund_in(desk: Desk, account: Account, amount: Fen) -> Done
+    requires { ⌜ cashFit (desk .cash) (desk .guarantee) ≡ true ⌝ }
+    ensures { λ r. ⌜ ((rows : Rows) → appliedAt r rows ≡ appliedBy (firstOf (fundInCauses (bookOf desk rows) account amount)) (bookOf desk rows) (fundedIn (bookOf desk rows) account amount)) ⌝ }
 {
-    let refusal = fund_in_refusal(book, account, amount);
+    let refusal = fund_in_refusal(desk, account, amount);
     if refusal != 0 {
-        return step::answered(refusal, book);
+        return desk::answered(refusal, desk);
     }
-    let cash = book.cash;
-    let mut next = book;
+    let cash = desk.cash;
+    let mut next = desk;
     next.cash = with_account(account, held(account, cash) + amount.0, cash);
-    step::answered(0, next)
+    desk::answered(0, next)
 }
 
-fn fund_out_refusal(book: Book, account: Account, amount: Fen) -> u8
-    ensures { λ r. ⌜ r ≡ numberOf (firstOf (fundOutCauses book account amount)) ⌝ }
+fn fund_out_refusal(desk: Desk, account: Account, amount: Fen) -> u8
+    ensures { λ r. ⌜ ((rows : Rows) → r ≡ numberOf (firstOf (fundOutCauses (bookOf desk rows) account amount))) ⌝ }
 {
     if amount.0 == 0 {
         return 7;
     }
-    let cash = book.cash;
+    let cash = desk.cash;
     if held(account, cash) < amount.0 {
         return 13;
     }
     0
 }
 
-pub fn fund_out(book: Book, account: Account, amount: Fen) -> Applied
-    ensures { λ r. ⌜ r ≡ appliedBy (firstOf (fundOutCauses book account amount)) book (fundedOut book account amount) ⌝ }
+pub fn fund_out(desk: Desk, account: Account, amount: Fen) -> Done
+    ensures { λ r. ⌜ ((rows : Rows) → appliedAt r rows ≡ appliedBy (firstOf (fundOutCauses (bookOf desk rows) account amount)) (bookOf desk rows) (fundedOut (bookOf desk rows) account amount)) ⌝ }
 {
-    let refusal = fund_out_refusal(book, account, amount);
+    let refusal = fund_out_refusal(desk, account, amount);
     if refusal != 0 {
-        return step::answered(refusal, book);
+        return desk::answered(refusal, desk);
     }
-    let cash = book.cash;
-    let mut next = book;
+    let cash = desk.cash;
+    let mut next = desk;
     next.cash = with_account(account, held(account, cash) - amount.0, cash);
-    step::answered(0, next)
+    desk::answered(0, next)
 }

@@ -1,26 +1,25 @@
 // 9 Initial: a new last trade; its amount is taken from today's net.
 ghost use mathlib.Core.Path.{_≡_};
-ghost use mathlib.Core.Bool.{true};
-ghost use Prim.Native.Nat.{_≤_, _<_, _*_};
+ghost use mathlib.Core.List.{List};
+ghost use Prim.Native.Nat.{ℕ, _≤_, _<_, _*_};
 ghost use lib.Dec.{ltb};
 ghost use lib.IntN.{pos, natAbs};
 ghost use lib.ListN.{length};
 ghost use lib.Signed.{ltZ};
 ghost use Rattle.money.specs.Causes.{firstOf, numberOf};
-ghost use Rattle.book.specs.Fit.{fit};
 ghost use Rattle.book.specs.Limits.{netLimit};
 ghost use Rattle.book.specs.Trades.{onTable};
 ghost use Rattle.book.specs.Vault.{headroom};
 ghost use Rattle.book.specs.Initial.{badCount, badPrices, badDue, begun, roomCauses, initialCauses, initialBook, initialTable};
-ghost use Rattle.book.specs.Flat.{tradesTo, tradesOf, appliedBy, tableBy};
-use crate::answer::Applied;
-use crate::book::Book;
+ghost use Rattle.book.specs.Flat.{Rows, rowsOf, bookOf, FitsHeld, appliedAt, tradesTo, tradesOf, appliedBy, tableBy};
 use crate::days;
+use crate::desk;
+use crate::desk::Desk;
+use crate::desk::Done;
 use crate::evening;
 use crate::flat;
 use crate::nets;
 use crate::standing;
-use crate::step;
 use crate::trade::Contract;
 use crate::trade::Terms;
 use crate::trade::Trade;
@@ -71,41 +70,42 @@ fn is_taken(table: &[u64], count: usize, contract: Contract) -> bool
 }
 
 // Whether sheets are above headroom.
-fn lacks_headroom(calendar: &[u32], book: Book, table: &[u64], count: u64) -> bool
-    requires { ⌜ (fit (now calendar) book (tradesOf (now table)) ≡ true) × (count ≤ 100000000) ⌝ }
-    ensures { λ r. ⌜ r ≡ ltZ (headroom book (tradesOf (now (table .entry)))) (pos count) ⌝ }
+fn lacks_headroom(calendar: &[u32], desk: Desk, held: &[u64], table: &[u64], count: u64) -> bool
+    requires { ⌜ (length (now held) ≡ 128) × (FitsHeld (now calendar) desk (now held) (tradesOf (now table))) × (count ≤ 100000000) ⌝ }
+    ensures { λ r. ⌜ ((kinds units : List ℕ) → r ≡ ltZ (headroom (bookOf desk (rowsOf (now (held .entry)) kinds units)) (tradesOf (now (table .entry)))) (pos count)) ⌝ }
 {
-    let held = book.vault;
-    let outstanding = trades::outstanding_of(table, book.trades);
-    evening::above_headroom(book.size.0, vault::value_of(held), outstanding, count)
+    let guarantee = desk.guarantee;
+    let outstanding = trades::outstanding_of(table, desk.trades);
+    let value = vault::value_of(held, guarantee);
+    evening::above_headroom(desk.size.0, value, outstanding, count)
 }
 
-fn room_refusal(calendar: &[u32], book: Book, table: &[u64], terms: Terms) -> u8
-    requires { ⌜ (fit (now calendar) book (tradesOf (now table)) ≡ true) × (terms .sheets .0 ≤ 100000000) ⌝ }
-    ensures { λ r. ⌜ r ≡ numberOf (firstOf (roomCauses book (tradesOf (now (table .entry))) terms)) ⌝ }
+fn room_refusal(calendar: &[u32], desk: Desk, held: &[u64], table: &[u64], terms: Terms) -> u8
+    requires { ⌜ (length (now held) ≡ 128) × (FitsHeld (now calendar) desk (now held) (tradesOf (now table))) × (terms .sheets .0 ≤ 100000000) ⌝ }
+    ensures { λ r. ⌜ ((kinds units : List ℕ) → r ≡ numberOf (firstOf (roomCauses (bookOf desk (rowsOf (now (held .entry)) kinds units)) (tradesOf (now (table .entry))) terms))) ⌝ }
 {
     let contract = terms.contract;
-    if is_taken(table, book.trades, contract) {
+    if is_taken(table, desk.trades, contract) {
         return 10;
     }
-    if table.len() / 6 <= book.trades {
+    if table.len() / 6 <= desk.trades {
         return 11;
     }
-    if lacks_headroom(calendar, book, table, terms.sheets.0) {
+    if lacks_headroom(calendar, desk, held, table, terms.sheets.0) {
         return 12;
     }
-    let nets = book.nets;
+    let nets = desk.nets;
     if !nets::today_fit(nets::today_less(nets, 10_000 * terms.sheets.0)) {
         return 14;
     }
     0
 }
 
-fn initial_refusal(calendar: &[u32], book: Book, table: &[u64], terms: Terms) -> u8
-    requires { ⌜ (fit (now calendar) book (tradesOf (now table)) ≡ true) × (length (now calendar) ≤ 1200) ⌝ }
-    ensures { λ r. ⌜ r ≡ numberOf (firstOf (initialCauses (now (calendar .entry)) book (tradesOf (now (table .entry))) terms)) ⌝ }
+fn initial_refusal(calendar: &[u32], desk: Desk, held: &[u64], table: &[u64], terms: Terms) -> u8
+    requires { ⌜ (length (now held) ≡ 128) × (FitsHeld (now calendar) desk (now held) (tradesOf (now table))) × (length (now calendar) ≤ 1200) ⌝ }
+    ensures { λ r. ⌜ ((kinds units : List ℕ) → r ≡ numberOf (firstOf (initialCauses (now (calendar .entry)) (bookOf desk (rowsOf (now (held .entry)) kinds units)) (tradesOf (now (table .entry))) terms))) ⌝ }
 {
-    let standing = book.standing;
+    let standing = desk.standing;
     if !standing::is_trading(standing) {
         return 4;
     }
@@ -127,15 +127,15 @@ fn initial_refusal(calendar: &[u32], book: Book, table: &[u64], terms: Terms) ->
     if bad_due(calendar, days::day_number(day), terms.due) {
         return 9;
     }
-    room_refusal(calendar, book, table, terms)
+    room_refusal(calendar, desk, held, table, terms)
 }
 
 // The record of a trade that begins today.
-fn begun_trade(calendar: &[u32], book: Book, terms: Terms) -> Trade
+fn begun_trade(calendar: &[u32], desk: Desk, terms: Terms) -> Trade
     requires { ⌜ length (now calendar) ≤ 1200 ⌝ }
-    ensures { λ r. ⌜ r ≡ begun (now (calendar .entry)) book terms ⌝ }
+    ensures { λ r. ⌜ ((rows : Rows) → r ≡ begun (now (calendar .entry)) (bookOf desk rows) terms) ⌝ }
 {
-    let standing = book.standing;
+    let standing = desk.standing;
     let day = standing.day;
     Trade {
         contract: Contract(terms.contract.0),
@@ -147,19 +147,19 @@ fn begun_trade(calendar: &[u32], book: Book, terms: Terms) -> Trade
     }
 }
 
-pub fn initial(calendar: &[u32], book: Book, table: &mut [u64], terms: Terms) -> Applied
-    requires { ⌜ (fit (now calendar) book (tradesOf (now table)) ≡ true) × (length (now calendar) ≤ 1200) ⌝ }
-    ensures { λ r. ⌜ (r ≡ appliedBy (firstOf (initialCauses (now (calendar .entry)) book (tradesOf (now (table .entry))) terms)) book (initialBook book terms)) × (tradesOf (now (table .exit)) ≡ tableBy (firstOf (initialCauses (now (calendar .entry)) book (tradesOf (now (table .entry))) terms)) (tradesOf (now (table .entry))) (initialTable (now (calendar .entry)) book (tradesOf (now (table .entry))) terms)) ⌝ }
+pub fn initial(calendar: &[u32], desk: Desk, held: &[u64], table: &mut [u64], terms: Terms) -> Done
+    requires { ⌜ (length (now held) ≡ 128) × (FitsHeld (now calendar) desk (now held) (tradesOf (now table))) × (length (now calendar) ≤ 1200) ⌝ }
+    ensures { λ r. ⌜ ((kinds units : List ℕ) → (appliedAt r (rowsOf (now (held .entry)) kinds units) ≡ appliedBy (firstOf (initialCauses (now (calendar .entry)) (bookOf desk (rowsOf (now (held .entry)) kinds units)) (tradesOf (now (table .entry))) terms)) (bookOf desk (rowsOf (now (held .entry)) kinds units)) (initialBook (bookOf desk (rowsOf (now (held .entry)) kinds units)) terms)) × (tradesOf (now (table .exit)) ≡ tableBy (firstOf (initialCauses (now (calendar .entry)) (bookOf desk (rowsOf (now (held .entry)) kinds units)) (tradesOf (now (table .entry))) terms)) (tradesOf (now (table .entry))) (initialTable (now (calendar .entry)) (bookOf desk (rowsOf (now (held .entry)) kinds units)) (tradesOf (now (table .entry))) terms))) ⌝ }
 {
-    let refusal = initial_refusal(calendar, book, &*table, terms);
+    let refusal = initial_refusal(calendar, desk, held, &*table, terms);
     if refusal != 0 {
-        return step::answered(refusal, book);
+        return desk::answered(refusal, desk);
     }
-    let place = book.trades;
-    flat::put_trade(table, place, begun_trade(calendar, book, terms));
-    let nets = book.nets;
-    let mut next = book;
+    let place = desk.trades;
+    flat::put_trade(table, place, begun_trade(calendar, desk, terms));
+    let nets = desk.nets;
+    let mut next = desk;
     next.nets = nets::today_less(nets, 10_000 * terms.sheets.0);
     next.trades = place + 1;
-    step::answered(0, next)
+    desk::answered(0, next)
 }

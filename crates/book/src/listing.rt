@@ -24,6 +24,6 @@ pub fn run_listing(calendar: &[u32], events: &[u8], lines: &mut [u64]) -> u8
         return refusal;
     }
     let mut table = [0; 6144];
-    let _ = run::run_events(calendar, book::fresh(), &mut table, events, lines);
+    let _ = run::run_flat(calendar, book::fresh(), &mut table, events, lines);
     0
 }

@@ -6,11 +6,8 @@ ghost use lib.ListN.{length};
 ghost use Rattle.money.specs.Causes.{firstOf};
 ghost use Rattle.book.specs.Book.{Normal, NotFailed, FailedOnce, isClosed};
 ghost use Rattle.book.specs.Days.{following, followed};
-ghost use Rattle.book.specs.Fit.{fit};
 ghost use Rattle.book.specs.Open.{statusAtOpen, turnsTerminated, openedStanding, netWithFallbacks, openCauses, openedBook, openedTable};
-ghost use Rattle.book.specs.Flat.{tradesOf, appliedBy, tableBy};
-use crate::answer::Applied;
-use crate::book::Book;
+ghost use Rattle.book.specs.Flat.{Rows, bookOf, Fits, appliedAt, tradesOf, appliedBy, tableBy};
 use crate::book::FailedRun;
 use crate::book::Nets;
 use crate::book::Phase;
@@ -18,10 +15,12 @@ use crate::book::ShortRun;
 use crate::book::Standing;
 use crate::book::Status;
 use crate::days;
+use crate::desk;
+use crate::desk::Desk;
+use crate::desk::Done;
 use crate::nets;
 use crate::redemption;
 use crate::standing;
-use crate::step;
 
 // Art. 69: short of collateral, initial trades are not taken from the next day on, and are again once headroom is not below
 // zero; still short two days later, the permission ends.
@@ -99,55 +98,55 @@ fn turns_terminated(before: Standing, after: Standing) -> bool
 }
 
 // Art. 72: every trade is redeemed whole at its fallback price on the day opened, into the cleared net.
-fn with_fallbacks(calendar: &[u32], book: Book, table: &[u64], after: Standing) -> Nets
-    requires { ⌜ (fit (now calendar) book (tradesOf (now table)) ≡ true) × (length (now calendar) ≤ 1200) ⌝ }
-    requires { ⌜ (followed (now calendar) (following (now calendar) (book .standing .day)) ≡ true) × (after ≡ openedStanding (now calendar) (book .standing)) ⌝ }
-    ensures { λ r. ⌜ r ≡ record { today = book .nets .today; cleared = netWithFallbacks (now (calendar .entry)) book (tradesOf (now (table .entry))) } ⌝ }
+fn with_fallbacks(calendar: &[u32], desk: Desk, table: &[u64], after: Standing) -> Nets
+    requires { ⌜ (Fits (now calendar) desk (tradesOf (now table))) × (length (now calendar) ≤ 1200) ⌝ }
+    requires { ⌜ (followed (now calendar) (following (now calendar) (desk .standing .day)) ≡ true) × (after ≡ openedStanding (now calendar) (desk .standing)) ⌝ }
+    ensures { λ r. ⌜ ((rows : Rows) → r ≡ record { today = desk .nets .today; cleared = netWithFallbacks (now (calendar .entry)) (bookOf desk rows) (tradesOf (now (table .entry))) }) ⌝ }
 {
-    let nets = book.nets;
+    let nets = desk.nets;
     let day = after.day;
     let payment = days::payment_day(calendar, day);
-    let amount = redemption::fallback_total(table, book.trades, payment);
+    let amount = redemption::fallback_total(table, desk.trades, payment);
     nets::cleared_plus(nets, amount)
 }
 
 // On turning terminated the table is emptied, unless the net would leave its limit.
-fn terminated(calendar: &[u32], book: Book, table: &mut [u64], after: Standing) -> Applied
-    requires { ⌜ (fit (now calendar) book (tradesOf (now table)) ≡ true) × (length (now calendar) ≤ 1200) ⌝ }
-    requires { ⌜ (followed (now calendar) (following (now calendar) (book .standing .day)) ≡ true) × (after ≡ openedStanding (now calendar) (book .standing)) ⌝ }
-    requires { ⌜ (isClosed (book .standing .phase) ≡ true) × (turnsTerminated (book .standing) ≡ true) ⌝ }
-    ensures { λ r. ⌜ (r ≡ appliedBy (firstOf (openCauses (now (calendar .entry)) book (tradesOf (now (table .entry))))) book (openedBook (now (calendar .entry)) book (tradesOf (now (table .entry))))) × (tradesOf (now (table .exit)) ≡ tableBy (firstOf (openCauses (now (calendar .entry)) book (tradesOf (now (table .entry))))) (tradesOf (now (table .entry))) (openedTable book (tradesOf (now (table .entry))))) ⌝ }
+fn terminated(calendar: &[u32], desk: Desk, table: &mut [u64], after: Standing) -> Done
+    requires { ⌜ (Fits (now calendar) desk (tradesOf (now table))) × (length (now calendar) ≤ 1200) ⌝ }
+    requires { ⌜ (followed (now calendar) (following (now calendar) (desk .standing .day)) ≡ true) × (after ≡ openedStanding (now calendar) (desk .standing)) ⌝ }
+    requires { ⌜ (isClosed (desk .standing .phase) ≡ true) × (turnsTerminated (desk .standing) ≡ true) ⌝ }
+    ensures { λ r. ⌜ ((rows : Rows) → (appliedAt r rows ≡ appliedBy (firstOf (openCauses (now (calendar .entry)) (bookOf desk rows) (tradesOf (now (table .entry))))) (bookOf desk rows) (openedBook (now (calendar .entry)) (bookOf desk rows) (tradesOf (now (table .entry))))) × (tradesOf (now (table .exit)) ≡ tableBy (firstOf (openCauses (now (calendar .entry)) (bookOf desk rows) (tradesOf (now (table .entry))))) (tradesOf (now (table .entry))) (openedTable (bookOf desk rows) (tradesOf (now (table .entry)))))) ⌝ }
 {
-    let nets = with_fallbacks(calendar, book, &*table, after);
+    let nets = with_fallbacks(calendar, desk, &*table, after);
     if !nets::cleared_fit(nets) {
-        return step::answered(14, book);
+        return desk::answered(14, desk);
     }
     // every due day has 32 bits, so every trade is due by the last of them
-    redemption::redeem_due(table, book.trades, 4_294_967_295);
-    let mut next = book;
+    redemption::redeem_due(table, desk.trades, 4_294_967_295);
+    let mut next = desk;
     next.nets = nets;
     next.standing = after;
-    step::answered(0, next)
+    desk::answered(0, next)
 }
 
-pub fn open(calendar: &[u32], book: Book, table: &mut [u64]) -> Applied
-    requires { ⌜ (fit (now calendar) book (tradesOf (now table)) ≡ true) × (length (now calendar) ≤ 1200) ⌝ }
-    ensures { λ r. ⌜ (r ≡ appliedBy (firstOf (openCauses (now (calendar .entry)) book (tradesOf (now (table .entry))))) book (openedBook (now (calendar .entry)) book (tradesOf (now (table .entry))))) × (tradesOf (now (table .exit)) ≡ tableBy (firstOf (openCauses (now (calendar .entry)) book (tradesOf (now (table .entry))))) (tradesOf (now (table .entry))) (openedTable book (tradesOf (now (table .entry))))) ⌝ }
+pub fn open(calendar: &[u32], desk: Desk, table: &mut [u64]) -> Done
+    requires { ⌜ (Fits (now calendar) desk (tradesOf (now table))) × (length (now calendar) ≤ 1200) ⌝ }
+    ensures { λ r. ⌜ ((rows : Rows) → (appliedAt r rows ≡ appliedBy (firstOf (openCauses (now (calendar .entry)) (bookOf desk rows) (tradesOf (now (table .entry))))) (bookOf desk rows) (openedBook (now (calendar .entry)) (bookOf desk rows) (tradesOf (now (table .entry))))) × (tradesOf (now (table .exit)) ≡ tableBy (firstOf (openCauses (now (calendar .entry)) (bookOf desk rows) (tradesOf (now (table .entry))))) (tradesOf (now (table .entry))) (openedTable (bookOf desk rows) (tradesOf (now (table .entry)))))) ⌝ }
 {
-    let standing = book.standing;
+    let standing = desk.standing;
     if !standing::is_closed(standing) {
-        return step::answered(4, book);
+        return desk::answered(4, desk);
     }
     let day = standing.day;
     // before 14: that one does not apply where this one does
     if !days::opens(calendar, day) {
-        return step::answered(16, book);
+        return desk::answered(16, desk);
     }
     let after = opened_standing(calendar, standing);
     if turns_terminated(standing, after) {
-        return terminated(calendar, book, table, after);
+        return terminated(calendar, desk, table, after);
     }
-    let mut next = book;
+    let mut next = desk;
     next.standing = after;
-    step::answered(0, next)
+    desk::answered(0, next)
 }

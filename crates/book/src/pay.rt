@@ -7,23 +7,23 @@ ghost use lib.IntN.{natAbs};
 ghost use Rattle.money.specs.Causes.{firstOf, numberOf};
 ghost use Rattle.book.specs.Fit.{netFit, netsFit, cashFit};
 ghost use Rattle.book.specs.Pay.{payerHolds, moved, failedMore, payCauses, paidStanding, paidBook};
-ghost use Rattle.book.specs.Flat.{paidBy};
-use crate::answer::Applied;
-use crate::book::Book;
+ghost use Rattle.book.specs.Flat.{Rows, bookOf, paidBy, appliedAt};
 use crate::book::Cash;
 use crate::book::FailedRun;
 use crate::book::Nets;
 use crate::book::Phase;
 use crate::book::Standing;
+use crate::desk;
+use crate::desk::Desk;
+use crate::desk::Done;
 use crate::nets;
 use crate::standing;
-use crate::step;
 use money::units::Fen;
 
-fn pay_refusal(book: Book) -> u8
-    ensures { λ r. ⌜ r ≡ numberOf (firstOf (payCauses book)) ⌝ }
+fn pay_refusal(desk: Desk) -> u8
+    ensures { λ r. ⌜ ((rows : Rows) → r ≡ numberOf (firstOf (payCauses (bookOf desk rows)))) ⌝ }
 {
-    let standing = book.standing;
+    let standing = desk.standing;
     if !standing::is_trading(standing) {
         return 4;
     }
@@ -94,42 +94,42 @@ fn paid_standing(standing: Standing, failed: FailedRun) -> Standing
 }
 
 // Nothing moves, and the failed run grows.
-fn unpaid_book(book: Book) -> Book
-    ensures { λ r. ⌜ r ≡ paidBook true book ⌝ }
+fn unpaid(desk: Desk) -> Desk
+    ensures { λ r. ⌜ ((rows : Rows) → bookOf r rows ≡ paidBook true (bookOf desk rows)) ⌝ }
 {
-    let standing = book.standing;
+    let standing = desk.standing;
     let failed = standing.failed;
-    let mut next = book;
+    let mut next = desk;
     next.standing = paid_standing(standing, failed_more(failed));
     next
 }
 
-fn paid_book(book: Book) -> Book
-    requires { ⌜ (netFit (book .nets .cleared) ≡ true) × (natAbs (book .nets .cleared) ≤ payerHolds (book .nets .cleared) (book .cash)) × (book .cash .own .0 + book .cash .client .0 ≤ 10000000000000000) ⌝ }
-    ensures { λ r. ⌜ r ≡ paidBook false book ⌝ }
+fn paid(desk: Desk) -> Desk
+    requires { ⌜ (netFit (desk .nets .cleared) ≡ true) × (natAbs (desk .nets .cleared) ≤ payerHolds (desk .nets .cleared) (desk .cash)) × (desk .cash .own .0 + desk .cash .client .0 ≤ 10000000000000000) ⌝ }
+    ensures { λ r. ⌜ ((rows : Rows) → bookOf r rows ≡ paidBook false (bookOf desk rows)) ⌝ }
 {
-    let nets = book.nets;
-    let cash = book.cash;
-    let standing = book.standing;
-    let mut next = book;
+    let nets = desk.nets;
+    let cash = desk.cash;
+    let standing = desk.standing;
+    let mut next = desk;
     next.nets = nets::settled(nets);
     next.cash = cash_moved(nets, cash);
     next.standing = paid_standing(standing, FailedRun::NotFailed);
     next
 }
 
-pub fn pay(book: Book) -> Applied
-    requires { ⌜ (netsFit (book .nets) ≡ true) × (cashFit (book .cash) (book .vault .guarantee) ≡ true) ⌝ }
-    ensures { λ r. ⌜ r ≡ paidBy (firstOf (payCauses book)) book ⌝ }
+pub fn pay(desk: Desk) -> Done
+    requires { ⌜ (netsFit (desk .nets) ≡ true) × (cashFit (desk .cash) (desk .guarantee) ≡ true) ⌝ }
+    ensures { λ r. ⌜ ((rows : Rows) → appliedAt r rows ≡ paidBy (firstOf (payCauses (bookOf desk rows))) (bookOf desk rows)) ⌝ }
 {
-    let refusal = pay_refusal(book);
+    let refusal = pay_refusal(desk);
     if refusal != 0 {
-        return step::answered(refusal, book);
+        return desk::answered(refusal, desk);
     }
-    let nets = book.nets;
-    let cash = book.cash;
+    let nets = desk.nets;
+    let cash = desk.cash;
     if falls_short(nets, cash) {
-        return step::answered(99, unpaid_book(book));
+        return desk::answered(99, unpaid(desk));
     }
-    step::answered(0, paid_book(book))
+    desk::answered(0, paid(desk))
 }

@@ -1,38 +1,38 @@
 // 6 Pledge: units arrive, and count from the next close.
 ghost use mathlib.Core.Path.{_≡_};
 ghost use mathlib.Core.Bool.{true};
-ghost use Prim.Native.Nat.{_+_, _<_, _≤_};
+ghost use mathlib.Core.List.{List};
+ghost use Prim.Native.Nat.{ℕ, _+_, _<_, _≤_};
+ghost use lib.ListN.{length, set};
 ghost use Rattle.money.specs.Causes.{firstOf, numberOf};
 ghost use Rattle.book.specs.Fit.{cashFit, securitiesFit};
-ghost use Rattle.book.specs.Vault.{securityAt, withSecurity, withGuarantee};
 ghost use Rattle.book.specs.Pledge.{pledgeCauses, pledged, arrived, cashArrived};
-ghost use Rattle.book.specs.Flat.{appliedBy};
-use crate::answer::Applied;
-use crate::book::Book;
+ghost use Rattle.book.specs.Flat.{securityIn, securitiesOf, vaultOf, rowsOf, bookOf, appliedBy, appliedAt};
 use crate::book::Guarantee;
-use crate::book::Vault;
+use crate::desk;
+use crate::desk::Desk;
+use crate::desk::Done;
+use crate::held;
 use crate::standing;
-use crate::step;
 use money::units::Fen;
 
 // The units of a security, effective and arriving together.
-fn units_of(vault: Vault, kind: u8) -> u64
-    requires { ⌜ (kind < 32) × (securitiesFit vault ≡ true) ⌝ }
-    ensures { λ r. ⌜ r ≡ securityAt vault kind .effective + securityAt vault kind .arriving ⌝ }
+fn units_of(held: &[u64], guarantee: Guarantee, kind: u8) -> u64
+    requires { ⌜ (kind < 32) × (length (now held) ≡ 128) × (securitiesFit (vaultOf guarantee (securitiesOf (now held))) ≡ true) ⌝ }
+    ensures { λ r. ⌜ r ≡ securityIn (now (held .entry)) kind .effective + securityIn (now (held .entry)) kind .arriving ⌝ }
 {
-    let at = kind as usize;
-    let security = vault.securities[at];
+    let security = held::security_at(held, kind as usize);
     security.effective + security.arriving
 }
 
-fn pledge_refusal(book: Book, kind: u8, units: u64) -> u8
-    requires { ⌜ securitiesFit (book .vault) ≡ true ⌝ }
-    ensures { λ r. ⌜ r ≡ numberOf (firstOf (pledgeCauses book kind units)) ⌝ }
+fn pledge_refusal(desk: Desk, held: &[u64], kind: u8, units: u64) -> u8
+    requires { ⌜ (length (now held) ≡ 128) × (securitiesFit (vaultOf (desk .guarantee) (securitiesOf (now held))) ≡ true) ⌝ }
+    ensures { λ r. ⌜ ((kinds amounts : List ℕ) → r ≡ numberOf (firstOf (pledgeCauses (bookOf desk (rowsOf (now (held .entry)) kinds amounts)) kind units))) ⌝ }
 {
     if kind > 32 {
         return 3;
     }
-    let standing = book.standing;
+    let standing = desk.standing;
     if !standing::is_trading(standing) {
         return 4;
     }
@@ -40,61 +40,55 @@ fn pledge_refusal(book: Book, kind: u8, units: u64) -> u8
         return 7;
     }
     if kind == 32 {
-        if book.cash.own.0 < units {
+        if desk.cash.own.0 < units {
             return 13;
         }
         return 0;
     }
-    let vault = book.vault;
-    if 1_000_000_000_000 - units_of(vault, kind) < units {
+    let guarantee = desk.guarantee;
+    if 1_000_000_000_000 - units_of(held, guarantee, kind) < units {
         return 14;
     }
     0
 }
 
-fn with_arrived(vault: Vault, kind: u8, units: u64) -> Vault
-    requires { ⌜ (kind < 32) × (securityAt vault kind .arriving + units ≤ 1000000000000) ⌝ }
-    ensures { λ r. ⌜ r ≡ withSecurity kind (arrived units (securityAt vault kind)) vault ⌝ }
+fn put_arrived(held: &mut [u64], kind: u8, units: u64)
+    requires { ⌜ (kind < 32) × (length (now held) ≡ 128) × (securityIn (now held) kind .arriving + units ≤ 1000000000000) ⌝ }
+    ensures { λ _. ⌜ securitiesOf (now (held .exit)) ≡ set (securitiesOf (now (held .entry))) kind (arrived units (securityIn (now (held .entry)) kind)) ⌝ }
 {
     let at = kind as usize;
-    let mut security = vault.securities[at];
+    let mut security = held::security_at(&*held, at);
     security.arriving = security.arriving + units;
-    let mut next = vault;
-    next.securities[at] = security;
-    next
+    held::put_security(held, at, security);
 }
 
-fn with_cash_arrived(vault: Vault, units: u64) -> Vault
-    requires { ⌜ vault .guarantee .arriving .0 + units ≤ 10000000000000000 ⌝ }
-    ensures { λ r. ⌜ r ≡ withGuarantee (cashArrived units (vault .guarantee)) vault ⌝ }
+fn cash_arrived(guarantee: Guarantee, units: u64) -> Guarantee
+    requires { ⌜ guarantee .arriving .0 + units ≤ 10000000000000000 ⌝ }
+    ensures { λ r. ⌜ r ≡ cashArrived units guarantee ⌝ }
 {
-    let guarantee = vault.guarantee;
-    let more = Guarantee {
+    Guarantee {
         effective: Fen(guarantee.effective.0),
         arriving: Fen(guarantee.arriving.0 + units),
         frozen: Fen(guarantee.frozen.0),
-    };
-    let mut next = vault;
-    next.guarantee = more;
-    next
+    }
 }
 
-pub fn pledge(book: Book, kind: u8, units: u64) -> Applied
-    requires { ⌜ (securitiesFit (book .vault) ≡ true) × (cashFit (book .cash) (book .vault .guarantee) ≡ true) ⌝ }
-    ensures { λ r. ⌜ r ≡ appliedBy (firstOf (pledgeCauses book kind units)) book (pledged book kind units) ⌝ }
+pub fn pledge(desk: Desk, held: &mut [u64], kind: u8, units: u64) -> Done
+    requires { ⌜ (length (now held) ≡ 128) × (securitiesFit (vaultOf (desk .guarantee) (securitiesOf (now held))) ≡ true) × (cashFit (desk .cash) (desk .guarantee) ≡ true) ⌝ }
+    ensures { λ r. ⌜ ((kinds amounts : List ℕ) → appliedAt r (rowsOf (now (held .exit)) kinds amounts) ≡ appliedBy (firstOf (pledgeCauses (bookOf desk (rowsOf (now (held .entry)) kinds amounts)) kind units)) (bookOf desk (rowsOf (now (held .entry)) kinds amounts)) (pledged (bookOf desk (rowsOf (now (held .entry)) kinds amounts)) kind units)) ⌝ }
 {
-    let refusal = pledge_refusal(book, kind, units);
+    let refusal = pledge_refusal(desk, &*held, kind, units);
     if refusal != 0 {
-        return step::answered(refusal, book);
+        return desk::answered(refusal, desk);
     }
-    let vault = book.vault;
-    let mut next = book;
     if kind == 32 {
-        let own = book.cash.own.0 - units;
+        let own = desk.cash.own.0 - units;
+        let guarantee = desk.guarantee;
+        let mut next = desk;
         next.cash.own.0 = own;
-        next.vault = with_cash_arrived(vault, units);
-        return step::answered(0, next);
+        next.guarantee = cash_arrived(guarantee, units);
+        return desk::answered(0, next);
     }
-    next.vault = with_arrived(vault, kind, units);
-    step::answered(0, next)
+    put_arrived(held, kind, units);
+    desk::answered(0, desk)
 }

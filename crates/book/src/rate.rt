@@ -1,14 +1,15 @@
 // 5 Rate: sets a security's rate.
 ghost use mathlib.Core.Path.{_≡_};
-ghost use Prim.Native.Nat.{_<_};
+ghost use mathlib.Core.List.{List};
+ghost use Prim.Native.Nat.{ℕ};
+ghost use lib.ListN.{length};
 ghost use Rattle.money.specs.Causes.{firstOf, numberOf};
-ghost use Rattle.book.specs.Rate.{rateCauses, rated, withRate};
-ghost use Rattle.book.specs.Vault.{securityAt, withSecurity};
-ghost use Rattle.book.specs.Flat.{appliedBy};
-use crate::answer::Applied;
-use crate::book::Book;
-use crate::book::Vault;
-use crate::step;
+ghost use Rattle.book.specs.Rate.{rateCauses, rated};
+ghost use Rattle.book.specs.Flat.{rowsOf, bookOf, appliedBy, appliedAt};
+use crate::desk;
+use crate::desk::Desk;
+use crate::desk::Done;
+use crate::held;
 
 fn rate_refusal(kind: u8, rate: u64) -> u8
     ensures { λ r. ⌜ r ≡ numberOf (firstOf (rateCauses kind rate)) ⌝ }
@@ -22,27 +23,17 @@ fn rate_refusal(kind: u8, rate: u64) -> u8
     0
 }
 
-fn with_rate(vault: Vault, kind: u8, rate: u64) -> Vault
-    requires { ⌜ kind < 32 ⌝ }
-    ensures { λ r. ⌜ r ≡ withSecurity kind (withRate rate (securityAt vault kind)) vault ⌝ }
-{
-    let at = kind as usize;
-    let mut security = vault.securities[at];
-    security.rate = rate;
-    let mut next = vault;
-    next.securities[at] = security;
-    next
-}
-
-pub fn set_rate(book: Book, kind: u8, rate: u64) -> Applied
-    ensures { λ r. ⌜ r ≡ appliedBy (firstOf (rateCauses kind rate)) book (rated book kind rate) ⌝ }
+pub fn set_rate(desk: Desk, held: &mut [u64], kind: u8, rate: u64) -> Done
+    requires { ⌜ length (now held) ≡ 128 ⌝ }
+    ensures { λ r. ⌜ ((kinds units : List ℕ) → appliedAt r (rowsOf (now (held .exit)) kinds units) ≡ appliedBy (firstOf (rateCauses kind rate)) (bookOf desk (rowsOf (now (held .entry)) kinds units)) (rated (bookOf desk (rowsOf (now (held .entry)) kinds units)) kind rate)) ⌝ }
 {
     let refusal = rate_refusal(kind, rate);
     if refusal != 0 {
-        return step::answered(refusal, book);
+        return desk::answered(refusal, desk);
     }
-    let vault = book.vault;
-    let mut next = book;
-    next.vault = with_rate(vault, kind, rate);
-    step::answered(0, next)
+    let at = kind as usize;
+    let mut security = held::security_at(&*held, at);
+    security.rate = rate;
+    held::put_security(held, at, security);
+    desk::answered(0, desk)
 }

@@ -9,14 +9,16 @@ ghost use Rattle.book.specs.Fit.{fit};
 ghost use Rattle.book.specs.Entry.{decoded};
 ghost use Rattle.book.specs.Step.{step};
 ghost use Rattle.book.specs.Listing.{lineOf, lengthCauses, runDone, runOutcome};
-ghost use Rattle.book.specs.Flat.{tradesOf};
+ghost use Rattle.book.specs.Flat.{rowsOf, bookOf, tradesOf};
 use crate::answer::Ran;
 use crate::book::Book;
 use crate::cover;
 use crate::decode;
+use crate::desk::Desk;
 use crate::dispatch;
 use crate::fit;
 use crate::line;
+use crate::split;
 
 // The lent lengths: whole events, no more than a journal's, and room for their lines.
 pub fn lengths_refusal(bytes: usize, room: usize) -> u8
@@ -38,40 +40,63 @@ pub fn lengths_refusal(bytes: usize, room: usize) -> u8
 fn run_event(
     calendar: &[u32],
     bytes: &[u8],
-    book: Book,
+    desk: Desk,
+    held: &mut [u64],
+    kinds: &mut [u8],
+    units: &mut [u64],
     table: &mut [u64],
     lines: &mut [u64],
     at: usize,
-) -> Book
-    requires { ⌜ (fit (now calendar) book (tradesOf (now table)) ≡ true) × (length (now calendar) ≤ 1200) × (at + 7 ≤ length (now lines)) ⌝ }
-    ensures { λ r. ⌜ (r ≡ step (now (calendar .entry)) book (tradesOf (now (table .entry))) (decoded (now (bytes .entry))) .book) × (tradesOf (now (table .exit)) ≡ step (now (calendar .entry)) book (tradesOf (now (table .entry))) (decoded (now (bytes .entry))) .table) × (now (lines .exit) ≡ sets (now (lines .entry)) at (lineOf (step (now (calendar .entry)) book (tradesOf (now (table .entry))) (decoded (now (bytes .entry)))))) ⌝ }
+) -> Desk
+    requires { ⌜ (length (now held) ≡ 128) × (length (now kinds) ≡ 128) × (length (now units) ≡ 128) × (length (now calendar) ≤ 1200) × (fit (now calendar) (bookOf desk (rowsOf (now held) (now kinds) (now units))) (tradesOf (now table)) ≡ true) × (at + 7 ≤ length (now lines)) ⌝ }
+    ensures { λ r. ⌜ (bookOf r (rowsOf (now (held .exit)) (now (kinds .exit)) (now (units .exit))) ≡ step (now (calendar .entry)) (bookOf desk (rowsOf (now (held .entry)) (now (kinds .entry)) (now (units .entry)))) (tradesOf (now (table .entry))) (decoded (now (bytes .entry))) .book) × (tradesOf (now (table .exit)) ≡ step (now (calendar .entry)) (bookOf desk (rowsOf (now (held .entry)) (now (kinds .entry)) (now (units .entry)))) (tradesOf (now (table .entry))) (decoded (now (bytes .entry))) .table) × (now (lines .exit) ≡ sets (now (lines .entry)) at (lineOf (step (now (calendar .entry)) (bookOf desk (rowsOf (now (held .entry)) (now (kinds .entry)) (now (units .entry)))) (tradesOf (now (table .entry))) (decoded (now (bytes .entry)))))) ⌝ }
 {
-    let applied = dispatch::entry_on(calendar, book, table, decode::decode(bytes));
-    let answer = applied.answer;
-    let after = applied.book;
-    let held = after.vault;
-    let cover = cover::cover_of(calendar, after, &*table);
-    line::write_line(lines, at, answer.number, cover, after.cash, held.guarantee);
+    let done = dispatch::entry_on(
+        calendar,
+        desk,
+        held,
+        kinds,
+        units,
+        table,
+        decode::decode(bytes),
+    );
+    let answer = done.answer;
+    let after = done.desk;
+    let cover = cover::cover_of(calendar, after, &*held, &*table);
+    line::write_line(lines, at, answer.number, cover, after.cash, after.guarantee);
     after
 }
 
 // The events in order on a fit book.
-pub fn run_events(
+fn run_events(
     calendar: &[u32],
-    book: Book,
+    desk: Desk,
+    held: &mut [u64],
+    kinds: &mut [u8],
+    units: &mut [u64],
     table: &mut [u64],
     events: &[u8],
     lines: &mut [u64],
-) -> Book
-    requires { ⌜ (fit (now calendar) book (tradesOf (now table)) ≡ true) × (length (now calendar) ≤ 1200) × (7 * (length (now events) / 40) ≤ length (now lines)) ⌝ }
-    ensures { λ r. ⌜ (r ≡ runDone (now (calendar .entry)) book (tradesOf (now (table .entry))) (now (events .entry)) (now (lines .entry)) .ran .book) × (tradesOf (now (table .exit)) ≡ runDone (now (calendar .entry)) book (tradesOf (now (table .entry))) (now (events .entry)) (now (lines .entry)) .table) × (now (lines .exit) ≡ runDone (now (calendar .entry)) book (tradesOf (now (table .entry))) (now (events .entry)) (now (lines .entry)) .lines) ⌝ }
+) -> Desk
+    requires { ⌜ (length (now held) ≡ 128) × (length (now kinds) ≡ 128) × (length (now units) ≡ 128) × (length (now calendar) ≤ 1200) × (fit (now calendar) (bookOf desk (rowsOf (now held) (now kinds) (now units))) (tradesOf (now table)) ≡ true) × (7 * (length (now events) / 40) ≤ length (now lines)) ⌝ }
+    ensures { λ r. ⌜ (bookOf r (rowsOf (now (held .exit)) (now (kinds .exit)) (now (units .exit))) ≡ runDone (now (calendar .entry)) (bookOf desk (rowsOf (now (held .entry)) (now (kinds .entry)) (now (units .entry)))) (tradesOf (now (table .entry))) (now (events .entry)) (now (lines .entry)) .ran .book) × (tradesOf (now (table .exit)) ≡ runDone (now (calendar .entry)) (bookOf desk (rowsOf (now (held .entry)) (now (kinds .entry)) (now (units .entry)))) (tradesOf (now (table .entry))) (now (events .entry)) (now (lines .entry)) .table) × (now (lines .exit) ≡ runDone (now (calendar .entry)) (bookOf desk (rowsOf (now (held .entry)) (now (kinds .entry)) (now (units .entry)))) (tradesOf (now (table .entry))) (now (events .entry)) (now (lines .entry)) .lines) ⌝ }
 {
     let count = events.len() / 40;
-    let mut after = book;
+    let mut after = desk;
     let mut k = 0;
     while k < count {
         let bytes = &events[k * 40..k * 40 + 40];
-        after = run_event(calendar, bytes, after, table, lines, k * 7);
+        after = run_event(
+            calendar,
+            bytes,
+            after,
+            held,
+            kinds,
+            units,
+            table,
+            lines,
+            k * 7,
+        );
         k += 1;
     }
     after
@@ -96,16 +121,31 @@ pub fn run_flat(
     if calendar.len() > 1_200 {
         return refused(1, book);
     }
-    if !fit::is_fit(calendar, book, &*table) {
+    let desk = split::desk_of(book);
+    let vault = book.vault;
+    let withdrawals = book.withdrawals;
+    let mut held = split::held_of(vault);
+    let mut kinds = split::kinds_of(withdrawals);
+    let mut units = split::units_of(withdrawals);
+    if !fit::is_fit(calendar, desk, &held, &kinds, &units, &*table) {
         return refused(1, book);
     }
     let refusal = lengths_refusal(events.len(), lines.len());
     if refusal != 0 {
         return refused(refusal, book);
     }
-    let after = run_events(calendar, book, table, events, lines);
+    let after = run_events(
+        calendar,
+        desk,
+        &mut held,
+        &mut kinds,
+        &mut units,
+        table,
+        events,
+        lines,
+    );
     Ran {
         number: 0,
-        book: after,
+        book: split::book_of(after, &held, kinds, units),
     }
 }

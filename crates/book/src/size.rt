@@ -2,36 +2,36 @@
 ghost use mathlib.Core.Path.{_≡_};
 ghost use Rattle.money.specs.Causes.{firstOf, numberOf};
 ghost use Rattle.book.specs.Size.{sizeCauses, sized};
-ghost use Rattle.book.specs.Flat.{appliedBy, tradesOf, Kept};
-use crate::answer::Applied;
-use crate::book::Book;
-use crate::step;
+ghost use Rattle.book.specs.Flat.{Rows, bookOf, appliedBy, appliedAt, tradesOf, Kept};
+use crate::desk;
+use crate::desk::Desk;
+use crate::desk::Done;
 use crate::trades;
 use money::units::Sheets;
 
-fn size_refusal(book: Book, table: &[u64], size: Sheets) -> u8
-    requires { ⌜ Kept (now table) (book .trades) ⌝ }
-    ensures { λ r. ⌜ r ≡ numberOf (firstOf (sizeCauses book (tradesOf (now (table .entry))) size)) ⌝ }
+fn size_refusal(desk: Desk, table: &[u64], size: Sheets) -> u8
+    requires { ⌜ Kept (now table) (desk .trades) ⌝ }
+    ensures { λ r. ⌜ ((rows : Rows) → r ≡ numberOf (firstOf (sizeCauses (bookOf desk rows) (tradesOf (now (table .entry))) size))) ⌝ }
 {
     if size.0 > 10_000_000_000 {
         return 14;
     }
-    let count = book.trades;
+    let count = desk.trades;
     if size.0 < trades::outstanding_of(table, count) {
         return 15;
     }
     0
 }
 
-pub fn set_size(book: Book, table: &[u64], size: Sheets) -> Applied
-    requires { ⌜ Kept (now table) (book .trades) ⌝ }
-    ensures { λ r. ⌜ r ≡ appliedBy (firstOf (sizeCauses book (tradesOf (now (table .entry))) size)) book (sized book size) ⌝ }
+pub fn set_size(desk: Desk, table: &[u64], size: Sheets) -> Done
+    requires { ⌜ Kept (now table) (desk .trades) ⌝ }
+    ensures { λ r. ⌜ ((rows : Rows) → appliedAt r rows ≡ appliedBy (firstOf (sizeCauses (bookOf desk rows) (tradesOf (now (table .entry))) size)) (bookOf desk rows) (sized (bookOf desk rows) size)) ⌝ }
 {
-    let refusal = size_refusal(book, table, size);
+    let refusal = size_refusal(desk, table, size);
     if refusal != 0 {
-        return step::answered(refusal, book);
+        return desk::answered(refusal, desk);
     }
-    let mut next = book;
+    let mut next = desk;
     next.size = size;
-    step::answered(0, next)
+    desk::answered(0, next)
 }

@@ -2,15 +2,17 @@
 ghost use mathlib.Core.Path.{_≡_};
 ghost use mathlib.Core.Bool.{true};
 ghost use Prim.Native.Nat.{_≤_};
+ghost use lib.ListN.{length};
+ghost use Rattle.book.specs.Book.{Guarantee};
 ghost use Rattle.money.specs.Collateral.{unitLimitOf, rateOf, kindValue};
 ghost use Rattle.book.specs.Vault.{effectiveOf, frozenOf, value};
 ghost use Rattle.book.specs.Fit.{securityFit, securitiesFit, cashFit, applicationFit, withdrawalsFit};
 ghost use Rattle.book.specs.Withdraw.{applied};
+ghost use Rattle.book.specs.Flat.{vaultOf, securitiesOf};
 use crate::book::Cash;
 use crate::book::Guarantee;
 use crate::book::Security;
-use crate::book::Vault;
-use crate::book::Withdrawals;
+use crate::held;
 
 fn security_fit(security: Security) -> bool
     ensures { λ r. ⌜ r ≡ securityFit security ⌝ }
@@ -30,15 +32,16 @@ fn security_fit(security: Security) -> bool
     true
 }
 
-pub fn securities_fit(vault: Vault) -> bool
-    ensures { λ r. ⌜ r ≡ securitiesFit vault ⌝ }
+pub fn securities_fit(held: &[u64]) -> bool
+    requires { ⌜ length (now held) ≡ 128 ⌝ }
+    ensures { λ r. ⌜ ((guarantee : Guarantee) → r ≡ securitiesFit (vaultOf guarantee (securitiesOf (now (held .entry))))) ⌝ }
 {
-    let mut place = 0;
-    while place < 32 {
-        if !security_fit(vault.securities[place]) {
+    let mut kind = 0;
+    while kind < 32 {
+        if !security_fit(held::security_at(held, kind)) {
             return false;
         }
-        place += 1;
+        kind += 1;
     }
     true
 }
@@ -82,16 +85,16 @@ fn application_fit(kind: u8, units: u64) -> bool
     true
 }
 
-pub fn withdrawals_fit(withdrawals: Withdrawals) -> bool
-    ensures { λ r. ⌜ r ≡ withdrawalsFit withdrawals ⌝ }
+pub fn withdrawals_fit(kinds: &[u8], units: &[u64], count: usize) -> bool
+    requires { ⌜ (length (now kinds) ≡ 128) × (length (now units) ≡ 128) ⌝ }
+    ensures { λ r. ⌜ r ≡ withdrawalsFit (record { kinds = now (kinds .entry); units = now (units .entry); count = count }) ⌝ }
 {
-    let count = withdrawals.count;
     if count > 128 {
         return false;
     }
     let mut i = 0;
     while i < count {
-        if !application_fit(withdrawals.kinds[i], withdrawals.units[i]) {
+        if !application_fit(kinds[i], units[i]) {
             return false;
         }
         i += 1;
@@ -109,14 +112,14 @@ pub fn worth(kind: u8, effective: u64, frozen: u64, rate: u64) -> u64
 }
 
 // V: the value of the 32 securities, and of the guarantee cash.
-pub fn value_of(vault: Vault) -> u64
-    requires { ⌜ (securitiesFit vault ≡ true) × (vault .guarantee .frozen .0 ≤ vault .guarantee .effective .0) × (vault .guarantee .effective .0 ≤ 10000000000000000) ⌝ }
-    ensures { λ r. ⌜ r ≡ value vault ⌝ }
+pub fn value_of(held: &[u64], guarantee: Guarantee) -> u64
+    requires { ⌜ (length (now held) ≡ 128) × (securitiesFit (vaultOf guarantee (securitiesOf (now held))) ≡ true) × (guarantee .frozen .0 ≤ guarantee .effective .0) × (guarantee .effective .0 ≤ 10000000000000000) ⌝ }
+    ensures { λ r. ⌜ r ≡ value (vaultOf guarantee (securitiesOf (now (held .entry)))) ⌝ }
 {
     let mut sum = 0;
     let mut kind: usize = 0;
     while kind < 32 {
-        let security = vault.securities[kind];
+        let security = held::security_at(held, kind);
         sum += worth(
             kind as u8,
             security.effective,
@@ -125,42 +128,41 @@ pub fn value_of(vault: Vault) -> u64
         );
         kind += 1;
     }
-    sum + worth(32, vault.guarantee.effective.0, vault.guarantee.frozen.0, 0)
+    sum + worth(32, guarantee.effective.0, guarantee.frozen.0, 0)
 }
 
-pub fn effective_of(vault: Vault, kind: u8) -> u64
-    requires { ⌜ kind ≤ 32 ⌝ }
-    ensures { λ r. ⌜ r ≡ effectiveOf vault kind ⌝ }
+pub fn effective_of(held: &[u64], guarantee: Guarantee, kind: u8) -> u64
+    requires { ⌜ (kind ≤ 32) × (length (now held) ≡ 128) ⌝ }
+    ensures { λ r. ⌜ r ≡ effectiveOf (vaultOf guarantee (securitiesOf (now (held .entry)))) kind ⌝ }
 {
     if kind == 32 {
-        return vault.guarantee.effective.0;
+        return guarantee.effective.0;
     }
-    let security = vault.securities[kind as usize];
+    let security = held::security_at(held, kind as usize);
     security.effective
 }
 
-pub fn frozen_of(vault: Vault, kind: u8) -> u64
-    requires { ⌜ kind ≤ 32 ⌝ }
-    ensures { λ r. ⌜ r ≡ frozenOf vault kind ⌝ }
+pub fn frozen_of(held: &[u64], guarantee: Guarantee, kind: u8) -> u64
+    requires { ⌜ (kind ≤ 32) × (length (now held) ≡ 128) ⌝ }
+    ensures { λ r. ⌜ r ≡ frozenOf (vaultOf guarantee (securitiesOf (now (held .entry)))) kind ⌝ }
 {
     if kind == 32 {
-        return vault.guarantee.frozen.0;
+        return guarantee.frozen.0;
     }
-    let security = vault.securities[kind as usize];
+    let security = held::security_at(held, kind as usize);
     security.frozen
 }
 
 // The units of a kind that stand applied for.
-pub fn applied_of(withdrawals: Withdrawals, kind: u8) -> u64
-    requires { ⌜ withdrawalsFit withdrawals ≡ true ⌝ }
-    ensures { λ r. ⌜ r ≡ applied withdrawals kind ⌝ }
+pub fn applied_of(kinds: &[u8], units: &[u64], count: usize, kind: u8) -> u64
+    requires { ⌜ (length (now kinds) ≡ 128) × (length (now units) ≡ 128) × (withdrawalsFit (record { kinds = now kinds; units = now units; count = count }) ≡ true) ⌝ }
+    ensures { λ r. ⌜ r ≡ applied (record { kinds = now (kinds .entry); units = now (units .entry); count = count }) kind ⌝ }
 {
-    let count = withdrawals.count;
     let mut sum = 0;
     let mut i = 0;
     while i < count {
-        if withdrawals.kinds[i] == kind {
-            sum += withdrawals.units[i];
+        if kinds[i] == kind {
+            sum += units[i];
         }
         i += 1;
     }

@@ -1,83 +1,89 @@
 // 8 Withdraw: puts an application down for the evening.
 ghost use mathlib.Core.Path.{_≡_};
 ghost use mathlib.Core.Bool.{true};
-ghost use Prim.Native.Nat.{_+_, _<_, _≤_};
+ghost use Prim.Native.Nat.{_+_, _≤_};
 ghost use lib.Dec.{ltb};
-ghost use lib.ListN.{set};
+ghost use lib.ListN.{length};
 ghost use Rattle.money.specs.Causes.{firstOf, numberOf};
 ghost use Rattle.book.specs.Fit.{withdrawalsFit, securitiesFit, cashFit};
 ghost use Rattle.book.specs.Vault.{effectiveOf, frozenOf};
 ghost use Rattle.book.specs.Withdraw.{applied, withdrawCauses, withdrawn};
-ghost use Rattle.book.specs.Flat.{appliedBy};
-use crate::answer::Applied;
-use crate::book::Book;
-use crate::book::Withdrawals;
+ghost use Rattle.book.specs.Flat.{rowsOf, bookOf, appliedBy, appliedAt};
+use crate::desk;
+use crate::desk::Desk;
+use crate::desk::Done;
 use crate::standing;
-use crate::step;
 use crate::vault;
 
 // Whether the units, with those frozen and applied for, are above the effective. The units are tested first: any number may be applied for, and the sum of the three is then below 2^64.
-fn lacks(book: Book, kind: u8, units: u64) -> bool
-    requires { ⌜ (kind ≤ 32) × (withdrawalsFit (book .withdrawals) ≡ true) × (securitiesFit (book .vault) ≡ true) × (cashFit (book .cash) (book .vault .guarantee) ≡ true) ⌝ }
-    ensures { λ r. ⌜ r ≡ ltb (effectiveOf (book .vault) kind) (units + frozenOf (book .vault) kind + applied (book .withdrawals) kind) ⌝ }
+fn lacks(desk: Desk, held: &[u64], kinds: &[u8], units: &[u64], kind: u8, amount: u64) -> bool
+    requires { ⌜ (length (now held) ≡ 128) × (length (now kinds) ≡ 128) × (length (now units) ≡ 128) × (kind ≤ 32) ⌝ }
+    requires { ⌜ (withdrawalsFit (bookOf desk (rowsOf (now held) (now kinds) (now units)) .withdrawals) ≡ true) × (securitiesFit (bookOf desk (rowsOf (now held) (now kinds) (now units)) .vault) ≡ true) × (cashFit (desk .cash) (desk .guarantee) ≡ true) ⌝ }
+    ensures { λ r. ⌜ r ≡ ltb (effectiveOf (bookOf desk (rowsOf (now (held .entry)) (now (kinds .entry)) (now (units .entry))) .vault) kind) (amount + frozenOf (bookOf desk (rowsOf (now (held .entry)) (now (kinds .entry)) (now (units .entry))) .vault) kind + applied (bookOf desk (rowsOf (now (held .entry)) (now (kinds .entry)) (now (units .entry))) .withdrawals) kind) ⌝ }
 {
-    let held = book.vault;
-    let effective = vault::effective_of(held, kind);
-    if effective < units {
+    let guarantee = desk.guarantee;
+    let effective = vault::effective_of(held, guarantee, kind);
+    if effective < amount {
         return true;
     }
-    let withdrawals = book.withdrawals;
-    effective < units + vault::frozen_of(held, kind) + vault::applied_of(withdrawals, kind)
+    let frozen = vault::frozen_of(held, guarantee, kind);
+    effective < amount + frozen + vault::applied_of(kinds, units, desk.applications, kind)
 }
 
-fn withdraw_refusal(book: Book, kind: u8, units: u64) -> u8
-    requires { ⌜ (withdrawalsFit (book .withdrawals) ≡ true) × (securitiesFit (book .vault) ≡ true) × (cashFit (book .cash) (book .vault .guarantee) ≡ true) ⌝ }
-    ensures { λ r. ⌜ r ≡ numberOf (firstOf (withdrawCauses book kind units)) ⌝ }
+fn withdraw_refusal(
+    desk: Desk,
+    held: &[u64],
+    kinds: &[u8],
+    units: &[u64],
+    kind: u8,
+    amount: u64,
+) -> u8
+    requires { ⌜ (length (now held) ≡ 128) × (length (now kinds) ≡ 128) × (length (now units) ≡ 128) ⌝ }
+    requires { ⌜ (withdrawalsFit (bookOf desk (rowsOf (now held) (now kinds) (now units)) .withdrawals) ≡ true) × (securitiesFit (bookOf desk (rowsOf (now held) (now kinds) (now units)) .vault) ≡ true) × (cashFit (desk .cash) (desk .guarantee) ≡ true) ⌝ }
+    ensures { λ r. ⌜ r ≡ numberOf (firstOf (withdrawCauses (bookOf desk (rowsOf (now (held .entry)) (now (kinds .entry)) (now (units .entry)))) kind amount)) ⌝ }
 {
     if kind > 32 {
         return 3;
     }
-    let standing = book.standing;
+    let standing = desk.standing;
     if !standing::is_trading(standing) {
         return 4;
     }
     if standing::is_terminated(standing) {
         return 5;
     }
-    if units == 0 {
+    if amount == 0 {
         return 7;
     }
-    if lacks(book, kind, units) {
+    if lacks(desk, held, kinds, units, kind, amount) {
         return 13;
     }
-    if book.withdrawals.count >= 128 {
+    if desk.applications >= 128 {
         return 17;
     }
     0
 }
 
-fn with_application(withdrawals: Withdrawals, kind: u8, units: u64) -> Withdrawals
-    requires { ⌜ withdrawals .count < 128 ⌝ }
-    ensures { λ r. ⌜ r ≡ record { kinds = set (withdrawals .kinds) (withdrawals .count) kind; units = set (withdrawals .units) (withdrawals .count) units; count = withdrawals .count + 1 } ⌝ }
+pub fn withdraw(
+    desk: Desk,
+    held: &[u64],
+    kinds: &mut [u8],
+    units: &mut [u64],
+    kind: u8,
+    amount: u64,
+) -> Done
+    requires { ⌜ (length (now held) ≡ 128) × (length (now kinds) ≡ 128) × (length (now units) ≡ 128) ⌝ }
+    requires { ⌜ (withdrawalsFit (bookOf desk (rowsOf (now held) (now kinds) (now units)) .withdrawals) ≡ true) × (securitiesFit (bookOf desk (rowsOf (now held) (now kinds) (now units)) .vault) ≡ true) × (cashFit (desk .cash) (desk .guarantee) ≡ true) ⌝ }
+    ensures { λ r. ⌜ appliedAt r (rowsOf (now (held .entry)) (now (kinds .exit)) (now (units .exit))) ≡ appliedBy (firstOf (withdrawCauses (bookOf desk (rowsOf (now (held .entry)) (now (kinds .entry)) (now (units .entry)))) kind amount)) (bookOf desk (rowsOf (now (held .entry)) (now (kinds .entry)) (now (units .entry)))) (withdrawn (bookOf desk (rowsOf (now (held .entry)) (now (kinds .entry)) (now (units .entry)))) kind amount) ⌝ }
 {
-    let at = withdrawals.count;
-    let mut next = withdrawals;
-    next.kinds[at] = kind;
-    next.units[at] = units;
-    next.count = at + 1;
-    next
-}
-
-pub fn withdraw(book: Book, kind: u8, units: u64) -> Applied
-    requires { ⌜ (withdrawalsFit (book .withdrawals) ≡ true) × (securitiesFit (book .vault) ≡ true) × (cashFit (book .cash) (book .vault .guarantee) ≡ true) ⌝ }
-    ensures { λ r. ⌜ r ≡ appliedBy (firstOf (withdrawCauses book kind units)) book (withdrawn book kind units) ⌝ }
-{
-    let refusal = withdraw_refusal(book, kind, units);
+    let refusal = withdraw_refusal(desk, held, &*kinds, &*units, kind, amount);
     if refusal != 0 {
-        return step::answered(refusal, book);
+        return desk::answered(refusal, desk);
     }
-    let withdrawals = book.withdrawals;
-    let mut next = book;
-    next.withdrawals = with_application(withdrawals, kind, units);
-    step::answered(0, next)
+    let at = desk.applications;
+    kinds[at] = kind;
+    units[at] = amount;
+    let mut next = desk;
+    next.applications = at + 1;
+    desk::answered(0, next)
 }

@@ -1,12 +1,25 @@
-use mathlib.Core.Path.{_≡_, sym, _∙_}
+use mathlib.Core.Path.{_≡_, sym, _∙_, ap}
+use mathlib.Core.Bool.{Bool}
 use borrow.Author.Needs.{needs}
 use borrow.Author.Tests.{not-true, not-false}
-use Rattle.book.specs.Step.{unfit}
-use Rattle.book.specs.Cover.{coverOf}
+use Rattle.book.specs.Book.{Book}
+use Rattle.book.specs.Fit.{fit}
+use Rattle.book.specs.Cover.{covered}
+use Rattle.book.specs.Flat.{rowsOf, bookOf, tradesOf}
 use Rattle.book.proofs.StepLaws.{too-many-words, not-fit, not-unfit}
 use Rattle.book.proofs.CoverLaws.{unfit-cover, fit-cover}
+use Rattle.book.proofs.SplitLaws.{whole}
 use Rattle.book.proofs.cover.cover_flat.Statement.{statement}
 use Rattle.book.proofs.cover.cover_flat.Tie as tie
+
+-- the book as it was, taken apart
+apart : (c : tie.After-is-fit) → (let a = c .before .before .before .before .before .before .before .before .before .before .before .before .before .args in bookOf (c .before .before .before .before .before .before .before .before .before .desk-of .result) (rowsOf (c .before .before .before .before .before .before .held-of .result) (c .before .before .before .before .before .kinds-of .result) (c .before .before .before .before .units-of .result)) ≡ a .book)
+apart c = whole (c .before .before .before .before .before .before .before .before .before .before .before .before .before .args .book) _ (c .before .before .before .before .before .before .before .before .before .desk-of .ensures) (c .before .before .before .before .before .before .held-of .ensures) (c .before .before .before .before .before .kinds-of .ensures) (c .before .before .before .before .units-of .ensures)
+
+tested : (c : tie.After-is-fit) → (let a = c .before .before .before .before .before .before .before .before .before .before .before .before .before .args in c .is-fit .result ≡ fit (a .calendar .now) (a .book) (tradesOf (a .table .now)))
+tested c =
+    let a = c .before .before .before .before .before .before .before .before .before .before .before .before .before .args in
+    c .is-fit .ensures ∙ ap (λ (book : Book). fit (a .calendar .now) book (tradesOf (a .table .now))) (apart c)
 
 refused-requires : tie.Need-refused-requires
 refused-requires c κs = search needs
@@ -14,22 +27,51 @@ refused-requires c κs = search needs
 returns : tie.Need-returns
 returns c = c .refused .ensures ∙ sym (unfit-cover _ _ _ (too-many-words _ _ _ (c .before .if1 .taken)))
 
+desk-of-requires : tie.Need-desk-of-requires
+desk-of-requires c κs = search needs
+
+held-of-requires : tie.Need-held-of-requires
+held-of-requires c κs = search needs
+
+kinds-of-requires : tie.Need-kinds-of-requires
+kinds-of-requires c κs = search needs
+
+units-of-requires : tie.Need-units-of-requires
+units-of-requires c κs = search needs
+
+slice-aggregate-is-fit : tie.Need-slice-aggregate-is-fit
+slice-aggregate-is-fit c = search needs
+
+slice-aggregate-is-fit-2 : tie.Need-slice-aggregate-is-fit-2
+slice-aggregate-is-fit-2 c = search needs
+
+slice-aggregate-is-fit-3 : tie.Need-slice-aggregate-is-fit-3
+slice-aggregate-is-fit-3 c = search needs
+
 is-fit-requires : tie.Need-is-fit-requires
-is-fit-requires c κs = search needs
+is-fit-requires c κs = (search needs, search needs, search needs, c .before .before .before .before .before .before .before .before .before .if1 .left)
 
 refused-requires-2 : tie.Need-refused-requires-2
 refused-requires-2 c κs = search needs
 
 returns-2 : tie.Need-returns-2
-returns-2 c = c .refused2 .ensures ∙ sym (unfit-cover _ _ _ (not-fit _ _ _ (sym (c .before .before .is-fit .ensures) ∙ not-true _ (c .before .if2 .taken))))
+returns-2 c = c .refused2 .ensures ∙ sym (unfit-cover _ _ _ (not-fit _ _ _ (sym (tested (c .before .before)) ∙ not-true _ (c .before .if2 .taken))))
+
+slice-aggregate-cover-of : tie.Need-slice-aggregate-cover-of
+slice-aggregate-cover-of c = search needs
 
 cover-of-requires : tie.Need-cover-of-requires
-cover-of-requires c κs = sym (c .before .is-fit .ensures) ∙ not-false _ (c .if2 .left)
+cover-of-requires c κs =
+    (search needs, record { kinds = c .before .before .before .before .before .before .before .kinds-of .result; units = c .before .before .before .before .before .before .units-of .result; fits = sym (c .before .before .is-fit .ensures) ∙ not-false _ (c .before .if2 .left) })
 
 returns-3 : tie.Need-returns-3
 returns-3 c =
-    let fits = sym (c .before .before .is-fit .ensures) ∙ not-false _ (c .before .if2 .left) in
-    c .cover-of .ensures ∙ sym (fit-cover _ _ _ (not-unfit _ _ _ fits (c .before .before .before .if1 .left)))
+    let test = c .before .before .before in
+    let a = c .before .before .before .before .before .before .before .before .before .before .before .before .before .before .before .before .args in
+    let fits = sym (tested test) ∙ not-false _ (c .before .before .if2 .left) in
+    c .cover-of .ensures (c .before .before .before .before .before .before .before .before .kinds-of .result) (c .before .before .before .before .before .before .before .units-of .result)
+    ∙ ap (λ (book : Book). covered book (tradesOf (a .table .now))) (apart test)
+    ∙ sym (fit-cover _ _ _ (not-unfit _ _ _ fits (c .before .before .before .before .before .before .before .before .before .before .before .before .before .if1 .left)))
 
 pub cover-flat-spec : {M : Type 1} → statement M
 cover-flat-spec =
@@ -37,8 +79,16 @@ cover-flat-spec =
     (tie.spec
     refused-requires
     returns
+    desk-of-requires
+    held-of-requires
+    kinds-of-requires
+    units-of-requires
+    slice-aggregate-is-fit
+    slice-aggregate-is-fit-2
+    slice-aggregate-is-fit-3
     is-fit-requires
     refused-requires-2
     returns-2
+    slice-aggregate-cover-of
     cover-of-requires
     returns-3)

@@ -1,7 +1,7 @@
 use mathlib.Core.Path.{refl}
 use borrow.Author.Needs.{needs}
-use Rattle.book.proofs.StepLaws.{fit-step}
 use Rattle.money.proofs.Refusals.{hit}
+use Rattle.book.proofs.StepLaws.{fit-step}
 use Rattle.book.proofs.dispatch.entry_on.Statement.{statement}
 use Rattle.book.proofs.dispatch.entry_on.Tie as tie
 
@@ -20,13 +20,22 @@ answered-requires c κs = search needs
 same-length : tie.Need-same-length
 same-length c = search needs
 
+same-length-2 : tie.Need-same-length-2
+same-length-2 c = search needs
+
+same-length-3 : tie.Need-same-length-3
+same-length-3 c = search needs
+
+same-length-4 : tie.Need-same-length-4
+same-length-4 c = search needs
+
 returns : tie.Need-returns
-returns c = rw (c .before .before .before .before .before .entry .given .1) (c .before .before .event-on .ensures)
+returns c = rw (c .before .before .before .before .before .before .before .before .before .before .before .before .before .before .entry .given .1) (c .before .before .before .before .before .before .before .before .event-on .ensures)
 
 returns-2 : tie.Need-returns-2
 returns-2 c =
-    let s = c .before .before .before .before .before in
-    rw (fit-step _ _ _ (s .pre .0) (s .pre .1) _, c .before .enum-told .given .1, hit 2 _ refl) (c .answered .ensures, refl)
+    let s = c .before .before .before .before .before .before .before .before in
+    rw (fit-step _ _ _ (s .pre .4) (s .pre .3) _, c .before .enum-told .given .1, hit 2 _ refl, c .answered .ensures) (refl, refl)
 
 pub entry-on-spec : {M : Type 1} → statement M
 entry-on-spec =
@@ -37,5 +46,8 @@ entry-on-spec =
     enum-told
     answered-requires
     same-length
+    same-length-2
+    same-length-3
+    same-length-4
     returns
     returns-2)

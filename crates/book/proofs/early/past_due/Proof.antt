@@ -4,7 +4,7 @@ use Rattle.book.proofs.early.past_due.Statement.{statement}
 use Rattle.book.proofs.early.past_due.Tie as tie
 
 returns : tie.Need-returns
-returns c =
+returns c rows =
     let start = c .before .before .before in
     rw (missing _ _ _ _ (start .pre .0) (start .pre .1) (c .if1 .taken))
 
@@ -15,7 +15,7 @@ day-number-requires : tie.Need-day-number-requires
 day-number-requires c κs = search needs
 
 returns-2 : tie.Need-returns-2
-returns-2 c =
+returns-2 c rows =
     let start = c .before .before .before .before .before .before in
     let below = c .before .before .before .if1 .left in
     rw (c .before .due-at .ensures, c .day-number .ensures, present _ _ _ _ (start .pre .0) (start .pre .1) below, trade-here _ _ _ _ (start .pre .0) (start .pre .1) below)

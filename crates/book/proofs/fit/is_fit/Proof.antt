@@ -14,31 +14,43 @@ securities-fit-requires : tie.Need-securities-fit-requires
 securities-fit-requires c κs = search needs
 
 returns-2 : tie.Need-returns-2
-returns-2 c = by-flat-tests _ _ _ _ (search fitting depth 12)
+returns-2 c =
+    let row = c .before .securities-fit .ensures (c .before .before .before .before .before .before .before .before .before .args .desk .guarantee) in
+    by-flat-tests _ _ _ _ (search fitting depth 12)
 
 cash-fit-requires : tie.Need-cash-fit-requires
 cash-fit-requires c κs = search needs
 
 returns-3 : tie.Need-returns-3
-returns-3 c = by-flat-tests _ _ _ _ (search fitting depth 12)
+returns-3 c =
+    let row = c .before .before .before .before .before .securities-fit .ensures (c .before .before .before .before .before .before .before .before .before .before .before .before .before .args .desk .guarantee) in
+    by-flat-tests _ _ _ _ (search fitting depth 12)
 
 trades-fit-requires : tie.Need-trades-fit-requires
-trades-fit-requires c κs = room-where-fit _ _ (upheld (c .before .before .before .before .before .before .before .before .capacity-fit .ensures) (c .before .before .before .before .before .before .before .if1 .left))
+trades-fit-requires c κs = room-where-fit _ _ (upheld (c .before .before .before .before .before .before .before .capacity-fit .ensures) (c .before .before .before .before .before .before .if1 .left))
 
 returns-4 : tie.Need-returns-4
-returns-4 c = by-flat-tests _ _ _ _ (search fitting depth 12)
+returns-4 c =
+    let row = c .before .before .before .before .before .before .before .securities-fit .ensures (c .before .before .before .before .before .before .before .before .before .before .before .before .before .before .before .args .desk .guarantee) in
+    by-flat-tests _ _ _ _ (search fitting depth 12)
 
 size-fit-requires : tie.Need-size-fit-requires
-size-fit-requires c κs = kept-where-fit _ _ (upheld (c .before .before .before .before .before .before .before .before .before .before .capacity-fit .ensures) (c .before .before .before .before .before .before .before .before .before .if1 .left)) (upheld (c .before .trades-fit .ensures) (c .if4 .left))
+size-fit-requires c κs = kept-where-fit _ _ (upheld (c .before .before .before .before .before .before .before .before .before .capacity-fit .ensures) (c .before .before .before .before .before .before .before .before .if1 .left)) (upheld (c .before .trades-fit .ensures) (c .if4 .left))
 
 returns-5 : tie.Need-returns-5
-returns-5 c = by-flat-tests _ _ _ _ (search fitting depth 12)
+returns-5 c =
+    let row = c .before .before .before .before .before .before .before .before .before .securities-fit .ensures (c .before .before .before .before .before .before .before .before .before .before .before .before .before .before .before .before .before .args .desk .guarantee) in
+    by-flat-tests _ _ _ _ (search fitting depth 12)
 
 others-fit-requires : tie.Need-others-fit-requires
-others-fit-requires c κs = (search needs, kept-where-fit _ _ (upheld (c .before .before .before .before .before .before .before .before .before .before .before .before .capacity-fit .ensures) (c .before .before .before .before .before .before .before .before .before .before .before .if1 .left)) (upheld (c .before .before .before .trades-fit .ensures) (c .before .before .if4 .left)))
+others-fit-requires c κs =
+    let s = c .before .before .before .before .before .before .before .before .before .before .before .before .before .before .before .before .before in
+    (s .pre .3, s .pre .1, s .pre .2, kept-where-fit _ _ (upheld (c .before .before .before .before .before .before .before .before .before .before .before .capacity-fit .ensures) (c .before .before .before .before .before .before .before .before .before .before .if1 .left)) (upheld (c .before .before .before .trades-fit .ensures) (c .before .before .if4 .left)))
 
 returns-6 : tie.Need-returns-6
-returns-6 c = by-flat-tests _ _ _ _ (search fitting depth 12)
+returns-6 c =
+    let row = c .before .before .before .before .before .before .before .before .before .before .securities-fit .ensures (c .before .before .before .before .before .before .before .before .before .before .before .before .before .before .before .before .before .before .args .desk .guarantee) in
+    by-flat-tests _ _ _ _ (search fitting depth 12)
 
 pub is-fit-spec : {M : Type 1} → statement M
 is-fit-spec =

@@ -1,7 +1,7 @@
 use mathlib.Core.Path.{_≡_, refl, _∙_}
-use mathlib.Core.List.{[]}
+use mathlib.Core.List.{List, []}
 use mathlib.Core.Option.{none}
-use Prim.Native.Nat.{ℕ, _≤_}
+use Prim.Native.Nat.{ℕ, _≤_, _<_}
 use native.Mathlib.Omega.{arith}
 use borrow.Author.Needs.{needs}
 use borrow.Author.Tests.{ltb-false, eq-eqb, ne-eqb}
@@ -11,19 +11,28 @@ use Rattle.book.specs.Book.{Book}
 use Rattle.book.specs.Entry.{Freeze}
 use Rattle.book.specs.Freeze.{freezeCauses, frozen}
 use Rattle.book.specs.Step.{eventCauses}
+use Rattle.book.specs.Flat.{rowsOf, bookOf}
+use Rattle.book.proofs.HeldLaws.{security-at-row}
 use Rattle.book.proofs.Refusing.{turned-down, carried-out, done}
 use Rattle.book.proofs.freeze.freeze.Statement.{statement}
 use Rattle.book.proofs.freeze.freeze.Tie as tie
 
-none-applies : (c : tie.Else1) → firstOf (freezeCauses (c .before .before .args .book) (c .before .before .args .kind) (c .before .before .args .units)) ≡ none
+abbrev start : tie.Else1 → tie.Start
+start c = c .before .before .before .before
+
+none-applies : (c : tie.Else1) (kinds amounts : List ℕ) → (let a = start c .args in firstOf (freezeCauses (bookOf (a .desk) (rowsOf (a .held .now) kinds amounts)) (a .kind) (a .units)) ≡ none)
 unfolding eventCauses
-none-applies c =
-    let a = c .before .before .args in
-    done [] (a .book) [] (Freeze (a .kind) (a .units)) _ (c .before .freeze-refusal .ensures) (c .if1 .left)
+none-applies c kinds amounts =
+    let a = start c .args in
+    done [] (bookOf (a .desk) (rowsOf (a .held .now) kinds amounts)) [] (Freeze (a .kind) (a .units)) _ (c .before .freeze-refusal .ensures kinds amounts) (c .if1 .left)
 
 known-kind : (book : Book) (kind units : ℕ) → firstOf (freezeCauses book kind units) ≡ none → kind ≤ 32
 unfolding freezeCauses
 known-kind book kind units e = ltb-false 32 kind (failed (freezeCauses book kind units) e 3 .0 refl)
+
+-- a kind that is not cash is a security
+security-kind : (c : tie.Else2) → start (c .before) .args .kind < 32
+security-kind c = omega (arith, known-kind _ _ _ (none-applies (c .before) [] []), c .if2 .left)
 
 freeze-refusal-requires : tie.Need-freeze-refusal-requires
 freeze-refusal-requires c κs = search needs
@@ -31,32 +40,44 @@ freeze-refusal-requires c κs = search needs
 answered-requires : tie.Need-answered-requires
 answered-requires c κs = search needs
 
-returns : tie.Need-returns
-returns c = turned-down _ _ _ (c .before .before .freeze-refusal .ensures) (c .before .if1 .taken) (c .answered .ensures)
+same-length : tie.Need-same-length
+same-length c = search needs
 
-with-cash-frozen-requires : tie.Need-with-cash-frozen-requires
-with-cash-frozen-requires c κs = search needs
+returns : tie.Need-returns
+returns c kinds amounts = turned-down _ _ (rowsOf _ kinds amounts) _ _ (c .before .before .freeze-refusal .ensures kinds amounts) (c .before .if1 .taken) (c .answered .ensures) refl
+
+cash-frozen-requires : tie.Need-cash-frozen-requires
+cash-frozen-requires c κs = search needs
 
 answered-requires-2 : tie.Need-answered-requires-2
 answered-requires-2 c κs = search needs
 
+same-length-2 : tie.Need-same-length-2
+same-length-2 c = search needs
+
 returns-2 : tie.Need-returns-2
 unfolding frozen
-returns-2 c =
-    let q = c .before .before in
-    carried-out _ _ _ (none-applies (q .before .before)) (c .answered2 .ensures ∙ rw (c .before .with-cash-frozen .ensures, eq-eqb _ _ (q .if2 .taken)))
+returns-2 c kinds amounts =
+    let q = c .before .before .before in
+    carried-out _ _ (rowsOf _ kinds amounts) _ _ (none-applies (q .before) kinds amounts) (c .answered2 .ensures) (rw (c .before .cash-frozen .ensures, eq-eqb _ _ (q .if2 .taken)))
 
-with-frozen-requires : tie.Need-with-frozen-requires
-with-frozen-requires c κs = omega (arith, known-kind _ _ _ (none-applies (c .before .before)))
+put-frozen-requires : tie.Need-put-frozen-requires
+put-frozen-requires c κs = (security-kind (c .before), start (c .before .before) .pre)
 
 answered-requires-3 : tie.Need-answered-requires-3
 answered-requires-3 c κs = search needs
 
+same-length-3 : tie.Need-same-length-3
+same-length-3 c = search needs
+
 returns-3 : tie.Need-returns-3
 unfolding frozen
-returns-3 c =
-    let q = c .before .before in
-    carried-out _ _ _ (none-applies (q .before .before)) (c .answered3 .ensures ∙ rw (c .before .with-frozen .ensures, ne-eqb _ _ (q .if2 .left)))
+returns-3 c kinds amounts =
+    let q = c .before .before .before .before .before in
+    let a = start (q .before) .args in
+    let row = security-at-row (a .held .now) (a .desk .guarantee) (a .kind) (security-kind q) in
+    carried-out _ _ (rowsOf (a .held .now) kinds amounts) _ _ (none-applies (q .before) kinds amounts) (c .answered3 .ensures)
+    (rw (c .before .before .before .put-frozen .ensures, ne-eqb _ _ (q .if2 .left), row))
 
 pub freeze-spec : {M : Type 1} → statement M
 freeze-spec =
@@ -64,10 +85,13 @@ freeze-spec =
     (tie.spec
     freeze-refusal-requires
     answered-requires
+    same-length
     returns
-    with-cash-frozen-requires
+    cash-frozen-requires
     answered-requires-2
+    same-length-2
     returns-2
-    with-frozen-requires
+    put-frozen-requires
     answered-requires-3
+    same-length-3
     returns-3)

@@ -6,18 +6,18 @@ use Rattle.book.proofs.freeze.freeze_refusal.Tie as tie
 
 returns : tie.Need-returns
 unfolding freezeCauses
-returns c = search column
+returns c kinds amounts = search column
 
 effective-of-requires : tie.Need-effective-of-requires
 effective-of-requires c κs = search needs
 
 returns-2 : tie.Need-returns-2
 unfolding freezeCauses
-returns-2 c = search column
+returns-2 c kinds amounts = search column
 
 returns-3 : tie.Need-returns-3
 unfolding freezeCauses
-returns-3 c = search column
+returns-3 c kinds amounts = search column
 
 pub freeze-refusal-spec : {M : Type 1} → statement M
 freeze-refusal-spec = tie.close (tie.spec returns effective-of-requires returns-2 returns-3)

@@ -14,15 +14,16 @@ use Rattle.book.specs.Entry.{Account, Own, Client, FundIn}
 use Rattle.book.specs.Fit.{allCash}
 use Rattle.book.specs.Funds.{holds, fundInCauses, fundedIn}
 use Rattle.book.specs.Step.{eventCauses}
-use Rattle.book.proofs.Refusing.{turned-down, carried-out, done}
+use Rattle.book.specs.Flat.{Rows, bookOf}
+use Rattle.book.proofs.Refusing.{noRows, turned-down, carried-out, done}
 use Rattle.book.proofs.funds.fund_in.Statement.{statement}
 use Rattle.book.proofs.funds.fund_in.Tie as tie
 
-none-applies : (c : tie.Else1) → firstOf (fundInCauses (c .before .before .args .book) (c .before .before .args .account) (c .before .before .args .amount)) ≡ none
+none-applies : (c : tie.Else1) (rows : Rows) → firstOf (fundInCauses (bookOf (c .before .before .args .desk) rows) (c .before .before .args .account) (c .before .before .args .amount)) ≡ none
 unfolding eventCauses
-none-applies c =
+none-applies c rows =
     let a = c .before .before .args in
-    done [] (a .book) [] (FundIn (a .account) (a .amount)) _ (c .before .fund-in-refusal .ensures) (c .if1 .left)
+    done [] (bookOf (a .desk) rows) [] (FundIn (a .account) (a .amount)) _ (c .before .fund-in-refusal .ensures rows) (c .if1 .left)
 
 -- an account holds at most all cash, so that there is room for the amount
 room : (book : Book) (account : Account) (amount : Fen) → firstOf (fundInCauses book account amount) ≡ none → holds account (book .cash) + amount .0 ≤ cashLimit
@@ -40,7 +41,7 @@ answered-requires : tie.Need-answered-requires
 answered-requires c κs = search needs
 
 returns : tie.Need-returns
-returns c = turned-down _ _ _ (c .before .before .fund-in-refusal .ensures) (c .before .if1 .taken) (c .answered .ensures)
+returns c rows = turned-down _ _ rows _ _ (c .before .before .fund-in-refusal .ensures rows) (c .before .if1 .taken) (c .answered .ensures) refl
 
 held-requires : tie.Need-held-requires
 held-requires c κs = search needs
@@ -49,7 +50,7 @@ add-with-account : tie.Need-add-with-account
 add-with-account c =
     let q = c .before .before .before in
     let a = q .before .before .args in
-    omega (arith, c .before .held .ensures, room (a .book) (a .account) (a .amount) (none-applies q))
+    omega (arith, c .before .held .ensures, room (bookOf (a .desk) noRows) (a .account) (a .amount) (none-applies q noRows))
 
 with-account-requires : tie.Need-with-account-requires
 with-account-requires c κs = search needs
@@ -59,7 +60,7 @@ answered-requires-2 c κs = search needs
 
 returns-2 : tie.Need-returns-2
 unfolding fundedIn
-returns-2 c = carried-out _ _ _ (none-applies (c .before .before .before .before .before)) (c .answered2 .ensures ∙ rw (c .before .with-account .ensures, c .before .before .before .held .ensures))
+returns-2 c rows = carried-out _ _ rows _ _ (none-applies (c .before .before .before .before .before) rows) (c .answered2 .ensures) (rw (c .before .with-account .ensures, c .before .before .before .held .ensures))
 
 pub fund-in-spec : {M : Type 1} → statement M
 fund-in-spec =

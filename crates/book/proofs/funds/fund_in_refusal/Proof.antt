@@ -9,12 +9,12 @@ use Rattle.book.proofs.funds.fund_in_refusal.Statement.{statement}
 use Rattle.book.proofs.funds.fund_in_refusal.Tie as tie
 
 -- all cash together is within its limit, so that its sum does not wrap
-cash-within : (c : tie.Start) → allCash (c .args .book .cash) (c .args .book .vault .guarantee) ≤ cashLimit
+cash-within : (c : tie.Start) → allCash (c .args .desk .cash) (c .args .desk .guarantee) ≤ cashLimit
 cash-within c = cash-fits _ _ (c .pre) .sum
 
 returns : tie.Need-returns
 unfolding fundInCauses
-returns c = search column
+returns c rows = search column
 
 add-cash : tie.Need-add-cash
 add-cash c = omega (arith, cash-within (c .before .before .before))
@@ -30,16 +30,16 @@ sub-if2 c = omega (arith, cash-within (c .before .before .before .before .before
 
 returns-2 : tie.Need-returns-2
 unfolding fundInCauses
-returns-2 c =
+returns-2 c rows =
     let s = c .before .before .before .before .before .before .before in
-    let over : cashLimit < allCash (s .args .book .cash) (s .args .book .vault .guarantee) + s .args .amount .0 = omega (arith, cash-within s) in
+    let over : cashLimit < allCash (s .args .desk .cash) (s .args .desk .guarantee) + s .args .amount .0 = omega (arith, cash-within s) in
     search column
 
 returns-3 : tie.Need-returns-3
 unfolding fundInCauses
-returns-3 c =
+returns-3 c rows =
     let s = c .before .before .before .before .before .before .before in
-    let room : allCash (s .args .book .cash) (s .args .book .vault .guarantee) + s .args .amount .0 ≤ cashLimit = omega (arith, cash-within s) in
+    let room : allCash (s .args .desk .cash) (s .args .desk .guarantee) + s .args .amount .0 ≤ cashLimit = omega (arith, cash-within s) in
     search column
 
 pub fund-in-refusal-spec : {M : Type 1} → statement M

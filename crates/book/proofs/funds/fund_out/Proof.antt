@@ -12,15 +12,16 @@ use Rattle.book.specs.Book.{Book}
 use Rattle.book.specs.Entry.{Account, FundOut}
 use Rattle.book.specs.Funds.{holds, fundOutCauses, fundedOut}
 use Rattle.book.specs.Step.{eventCauses}
-use Rattle.book.proofs.Refusing.{turned-down, carried-out, done}
+use Rattle.book.specs.Flat.{Rows, bookOf}
+use Rattle.book.proofs.Refusing.{noRows, turned-down, carried-out, done}
 use Rattle.book.proofs.funds.fund_out.Statement.{statement}
 use Rattle.book.proofs.funds.fund_out.Tie as tie
 
-none-applies : (c : tie.Else1) → firstOf (fundOutCauses (c .before .before .args .book) (c .before .before .args .account) (c .before .before .args .amount)) ≡ none
+none-applies : (c : tie.Else1) (rows : Rows) → firstOf (fundOutCauses (bookOf (c .before .before .args .desk) rows) (c .before .before .args .account) (c .before .before .args .amount)) ≡ none
 unfolding eventCauses
-none-applies c =
+none-applies c rows =
     let a = c .before .before .args in
-    done [] (a .book) [] (FundOut (a .account) (a .amount)) _ (c .before .fund-out-refusal .ensures) (c .if1 .left)
+    done [] (bookOf (a .desk) rows) [] (FundOut (a .account) (a .amount)) _ (c .before .fund-out-refusal .ensures rows) (c .if1 .left)
 
 covered : (book : Book) (account : Account) (amount : Fen) → firstOf (fundOutCauses book account amount) ≡ none → amount .0 ≤ holds account (book .cash)
 unfolding fundOutCauses
@@ -33,7 +34,7 @@ answered-requires : tie.Need-answered-requires
 answered-requires c κs = search needs
 
 returns : tie.Need-returns
-returns c = turned-down _ _ _ (c .before .before .fund-out-refusal .ensures) (c .before .if1 .taken) (c .answered .ensures)
+returns c rows = turned-down _ _ rows _ _ (c .before .before .fund-out-refusal .ensures rows) (c .before .if1 .taken) (c .answered .ensures) refl
 
 held-requires : tie.Need-held-requires
 held-requires c κs = search needs
@@ -42,7 +43,7 @@ sub-with-account : tie.Need-sub-with-account
 sub-with-account c =
     let q = c .before .before .before in
     let a = q .before .before .args in
-    omega (arith, c .before .held .ensures, covered (a .book) (a .account) (a .amount) (none-applies q))
+    omega (arith, c .before .held .ensures, covered (bookOf (a .desk) noRows) (a .account) (a .amount) (none-applies q noRows))
 
 with-account-requires : tie.Need-with-account-requires
 with-account-requires c κs = search needs
@@ -52,7 +53,7 @@ answered-requires-2 c κs = search needs
 
 returns-2 : tie.Need-returns-2
 unfolding fundedOut
-returns-2 c = carried-out _ _ _ (none-applies (c .before .before .before .before .before)) (c .answered2 .ensures ∙ rw (c .before .with-account .ensures, c .before .before .before .held .ensures))
+returns-2 c rows = carried-out _ _ rows _ _ (none-applies (c .before .before .before .before .before) rows) (c .answered2 .ensures) (rw (c .before .with-account .ensures, c .before .before .before .held .ensures))
 
 pub fund-out-spec : {M : Type 1} → statement M
 fund-out-spec =

@@ -6,18 +6,18 @@ use Rattle.book.proofs.funds.fund_out_refusal.Tie as tie
 
 returns : tie.Need-returns
 unfolding fundOutCauses
-returns c = search column
+returns c rows = search column
 
 held-requires : tie.Need-held-requires
 held-requires c κs = search needs
 
 returns-2 : tie.Need-returns-2
 unfolding fundOutCauses
-returns-2 c = search column
+returns-2 c rows = search column
 
 returns-3 : tie.Need-returns-3
 unfolding fundOutCauses
-returns-3 c = search column
+returns-3 c rows = search column
 
 pub fund-out-refusal-spec : {M : Type 1} → statement M
 fund-out-refusal-spec = tie.close (tie.spec returns held-requires returns-2 returns-3)

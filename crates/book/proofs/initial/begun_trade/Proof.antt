@@ -7,7 +7,7 @@ payment-day-requires : tie.Need-payment-day-requires
 payment-day-requires c κs = search needs
 
 returns : tie.Need-returns
-returns c = rw (c .payment-day .ensures) refl
+returns c rows = rw (c .payment-day .ensures) refl
 
 pub begun-trade-spec : {M : Type 1} → statement M
 begun-trade-spec = tie.close (tie.spec payment-day-requires returns)

@@ -1,22 +1,27 @@
 use mathlib.Core.Path.{_≡_, refl, _∙_}
+use mathlib.Core.List.{List, []}
 use mathlib.Core.Option.{none}
+use Prim.Native.Nat.{ℕ}
 use borrow.Author.Needs.{needs}
 use native.Mathlib.Omega.{arith}
 use Rattle.money.specs.Causes.{firstOf}
 use Rattle.money.specs.Money.{principal}
 use Rattle.book.specs.Initial.{initialCauses, initialBook, initialTable}
-use Rattle.book.specs.Flat.{tradesOf}
-use Rattle.book.proofs.Refusing.{refused}
+use Rattle.book.specs.Flat.{rowsOf, bookOf, tradesOf}
+use Rattle.book.proofs.Refusing.{refused, turned-down, carried-out}
 use Rattle.book.proofs.FitFacts.{fit-keeps, fit-net}
 use Rattle.book.proofs.InitialLaws.{Begins, initial-clear, initial-begins}
 use Rattle.book.proofs.initial.initial.Statement.{statement}
 use Rattle.book.proofs.initial.initial.Tie as tie
 
-clear : (c : tie.Else1) → (let s = c .before .before .before .before .before .args in firstOf (initialCauses (s .calendar .now) (s .book) (tradesOf (s .table .now)) (s .terms)) ≡ none)
-clear c = initial-clear _ _ _ _ _ (c .before .initial-refusal .ensures) (c .if1 .left)
+abbrev start : tie.Else1 → tie.Start
+start c = c .before .before .before .before .before .before
 
-begins : (c : tie.Else1) → (let s = c .before .before .before .before .before .args in Begins (s .calendar .now) (s .book) (s .table .now) (s .terms))
-begins c = initial-begins _ _ _ _ (clear c)
+clear : (c : tie.Else1) (kinds units : List ℕ) → (let a = start c .args in firstOf (initialCauses (a .calendar .now) (bookOf (a .desk) (rowsOf (a .held .now) kinds units)) (tradesOf (a .table .now)) (a .terms)) ≡ none)
+clear c kinds units = initial-clear _ _ _ _ _ (c .before .initial-refusal .ensures kinds units) (c .if1 .left)
+
+begins : (c : tie.Else1) → (let a = start c .args in Begins (a .calendar .now) (bookOf (a .desk) (rowsOf (a .held .now) [] [])) (a .table .now) (a .terms))
+begins c = initial-begins _ _ _ _ (clear c [] [])
 
 initial-refusal-requires : tie.Need-initial-refusal-requires
 initial-refusal-requires c κs = search needs
@@ -28,9 +33,11 @@ same-length : tie.Need-same-length
 same-length c = search needs
 
 returns : tie.Need-returns
-returns c =
-    let s = c .before .before .before .before .before .before .args in
-    rw (refused (firstOf (initialCauses (s .calendar .now) (s .book) (tradesOf (s .table .now)) (s .terms))) (c .before .before .initial-refusal .result) (c .before .before .initial-refusal .ensures) (c .before .if1 .taken)) (c .answered .ensures, refl)
+returns c kinds units =
+    let a = c .before .before .before .before .before .before .before .args in
+    let causes = initialCauses (a .calendar .now) (bookOf (a .desk) (rowsOf (a .held .now) kinds units)) (tradesOf (a .table .now)) (a .terms) in
+    let said = c .before .before .initial-refusal .ensures kinds units in
+    (turned-down causes (a .desk) (rowsOf (a .held .now) kinds units) _ _ said (c .before .if1 .taken) (c .answered .ensures) refl, rw (refused (firstOf causes) _ said (c .before .if1 .taken)) refl)
 
 begun-trade-requires : tie.Need-begun-trade-requires
 begun-trade-requires c κs = search needs
@@ -42,10 +49,10 @@ mul-today-less : tie.Need-mul-today-less
 mul-today-less c = omega (arith, begins (c .before .before .before .before .before .before .before) .few)
 
 today-less-requires : tie.Need-today-less-requires
-today-less-requires c κs = (fit-net _ _ _ (c .before .before .before .before .before .before .before .before .before .before .before .before .pre .0), omega (arith, begins (c .before .before .before .before .before .before .before) .few))
+today-less-requires c κs = (fit-net _ _ _ (c .before .before .before .before .before .before .before .before .before .before .before .before .before .pre .1 .fits), omega (arith, begins (c .before .before .before .before .before .before .before) .few))
 
 add-next : tie.Need-add-next
-add-next c = omega (arith, fit-keeps _ _ _ (c .before .before .before .before .before .before .before .before .before .before .before .before .before .pre .0) .few)
+add-next c = omega (arith, fit-keeps _ _ _ (c .before .before .before .before .before .before .before .before .before .before .before .before .before .before .pre .1 .fits) .few)
 
 answered-requires-2 : tie.Need-answered-requires-2
 answered-requires-2 c κs = search needs
@@ -55,9 +62,14 @@ same-length-2 c = search needs
 
 returns-2 : tie.Need-returns-2
 unfolding initialBook initialTable principal
-returns-2 c =
-    rw (clear (c .before .before .before .before .before .before .before .before .before))
-    (rw (c .answered2 .ensures, c .before .today-less .ensures) refl, c .before .before .before .before .before .before .put-trade .ensures ∙ rw (c .before .before .before .before .before .before .before .begun-trade .ensures) refl)
+returns-2 c kinds units =
+    let q = c .before .before .before .before .before .before .before .before .before in
+    let a = start q .args in
+    let rows = rowsOf (a .held .now) kinds units in
+    let none-applies = clear q kinds units in (
+      carried-out _ _ rows _ _ none-applies (c .answered2 .ensures) (rw (c .before .today-less .ensures)),
+      c .before .before .before .before .before .before .put-trade .ensures ∙ rw (c .before .before .before .before .before .before .before .begun-trade .ensures rows, none-applies) refl,
+    )
 
 pub initial-spec : {M : Type 1} → statement M
 initial-spec =

@@ -10,52 +10,56 @@ is-trading-requires c κs = search needs
 
 returns : tie.Need-returns
 unfolding initialCauses
-returns c = search column depth 20
+returns c kinds units = search column depth 20
 
 is-terminated-requires : tie.Need-is-terminated-requires
 is-terminated-requires c κs = search needs
 
 returns-2 : tie.Need-returns-2
 unfolding initialCauses
-returns-2 c = search column depth 20
+returns-2 c kinds units = search column depth 20
 
 is-suspended-requires : tie.Need-is-suspended-requires
 is-suspended-requires c κs = search needs
 
 returns-3 : tie.Need-returns-3
 unfolding initialCauses
-returns-3 c = search column depth 20
+returns-3 c kinds units = search column depth 20
 
 bad-count-requires : tie.Need-bad-count-requires
 bad-count-requires c κs = search needs
 
 returns-4 : tie.Need-returns-4
 unfolding initialCauses
-returns-4 c = search column depth 20
+returns-4 c kinds units = search column depth 20
 
 bad-prices-requires : tie.Need-bad-prices-requires
 bad-prices-requires c κs = search needs
 
 returns-5 : tie.Need-returns-5
 unfolding initialCauses
-returns-5 c = search column depth 20
+returns-5 c kinds units = search column depth 20
 
 day-number-requires : tie.Need-day-number-requires
 day-number-requires c κs = search needs
 
 bad-due-requires : tie.Need-bad-due-requires
-bad-due-requires c κs = (c .before .before .before .before .before .before .before .before .before .before .before .before .before .before .before .before .pre .1, rw (c .day-number .ensures) (today-within _ _ _ (c .before .before .before .before .before .before .before .before .before .before .before .before .before .before .before .before .pre .0) (c .before .before .before .before .before .before .before .before .before .before .before .before .before .before .before .before .pre .1)))
+bad-due-requires c κs =
+    let s = c .before .before .before .before .before .before .before .before .before .before .before .before .before .before .before .before .before in
+    (s .pre .2, rw (c .day-number .ensures) (today-within _ _ _ (s .pre .1 .fits) (s .pre .2)))
 
 returns-6 : tie.Need-returns-6
 unfolding initialCauses
-returns-6 c = passes _ _ _ (denied-not (c .before .before .before .before .before .before .before .before .before .before .before .before .before .before .is-trading .ensures) (c .before .before .before .before .before .before .before .before .before .before .before .before .before .if1 .left)) (passes _ _ _ (asked-not (c .before .before .before .before .before .before .before .before .before .before .before .before .is-terminated .ensures) (c .before .before .before .before .before .before .before .before .before .before .before .if2 .left)) (passes _ _ _ (asked-not (c .before .before .before .before .before .before .before .before .before .before .is-suspended .ensures) (c .before .before .before .before .before .before .before .before .before .if3 .left)) (passes _ _ _ (asked-not (c .before .before .before .before .before .before .before .before .bad-count .ensures) (c .before .before .before .before .before .before .before .if4 .left)) (passes _ _ _ (asked-not (c .before .before .before .before .bad-prices .ensures) (c .before .before .before .if5 .left)) (applies _ _ (asked (rw (c .before .before .day-number .ensures) at (c .before .bad-due .ensures)) (c .if6 .taken)))))))
+returns-6 c kinds units = passes _ _ _ (denied-not (c .before .before .before .before .before .before .before .before .before .before .before .before .before .before .is-trading .ensures) (c .before .before .before .before .before .before .before .before .before .before .before .before .before .if1 .left)) (passes _ _ _ (asked-not (c .before .before .before .before .before .before .before .before .before .before .before .before .is-terminated .ensures) (c .before .before .before .before .before .before .before .before .before .before .before .if2 .left)) (passes _ _ _ (asked-not (c .before .before .before .before .before .before .before .before .before .before .is-suspended .ensures) (c .before .before .before .before .before .before .before .before .before .if3 .left)) (passes _ _ _ (asked-not (c .before .before .before .before .before .before .before .before .bad-count .ensures) (c .before .before .before .before .before .before .before .if4 .left)) (passes _ _ _ (asked-not (c .before .before .before .before .bad-prices .ensures) (c .before .before .before .if5 .left)) (applies _ _ (asked (rw (c .before .before .day-number .ensures) at (c .before .bad-due .ensures)) (c .if6 .taken)))))))
 
 room-refusal-requires : tie.Need-room-refusal-requires
-room-refusal-requires c κs = (c .before .before .before .before .before .before .before .before .before .before .before .before .before .before .before .before .before .before .pre .0, count-within _ (asked-not (c .before .before .before .before .before .before .before .before .bad-count .ensures) (c .before .before .before .before .before .before .before .if4 .left)))
+room-refusal-requires c κs =
+    let s = c .before .before .before .before .before .before .before .before .before .before .before .before .before .before .before .before .before .before .before in
+    (s .pre .0, s .pre .1, count-within _ (asked-not (c .before .before .before .before .before .before .before .before .bad-count .ensures) (c .before .before .before .before .before .before .before .if4 .left)))
 
 returns-7 : tie.Need-returns-7
 unfolding initialCauses
-returns-7 c = passes _ _ _ (denied-not (c .before .before .before .before .before .before .before .before .before .before .before .before .before .before .before .is-trading .ensures) (c .before .before .before .before .before .before .before .before .before .before .before .before .before .before .if1 .left)) (passes _ _ _ (asked-not (c .before .before .before .before .before .before .before .before .before .before .before .before .before .is-terminated .ensures) (c .before .before .before .before .before .before .before .before .before .before .before .before .if2 .left)) (passes _ _ _ (asked-not (c .before .before .before .before .before .before .before .before .before .before .before .is-suspended .ensures) (c .before .before .before .before .before .before .before .before .before .before .if3 .left)) (passes _ _ _ (asked-not (c .before .before .before .before .before .before .before .before .before .bad-count .ensures) (c .before .before .before .before .before .before .before .before .if4 .left)) (passes _ _ _ (asked-not (c .before .before .before .before .before .bad-prices .ensures) (c .before .before .before .before .if5 .left)) (passes _ _ _ (asked-not (rw (c .before .before .before .day-number .ensures) at (c .before .before .bad-due .ensures)) (c .before .if6 .left)) (c .room-refusal .ensures))))))
+returns-7 c kinds units = passes _ _ _ (denied-not (c .before .before .before .before .before .before .before .before .before .before .before .before .before .before .before .is-trading .ensures) (c .before .before .before .before .before .before .before .before .before .before .before .before .before .before .if1 .left)) (passes _ _ _ (asked-not (c .before .before .before .before .before .before .before .before .before .before .before .before .before .is-terminated .ensures) (c .before .before .before .before .before .before .before .before .before .before .before .before .if2 .left)) (passes _ _ _ (asked-not (c .before .before .before .before .before .before .before .before .before .before .before .is-suspended .ensures) (c .before .before .before .before .before .before .before .before .before .before .if3 .left)) (passes _ _ _ (asked-not (c .before .before .before .before .before .before .before .before .before .bad-count .ensures) (c .before .before .before .before .before .before .before .before .if4 .left)) (passes _ _ _ (asked-not (c .before .before .before .before .before .bad-prices .ensures) (c .before .before .before .before .if5 .left)) (passes _ _ _ (asked-not (rw (c .before .before .before .day-number .ensures) at (c .before .before .bad-due .ensures)) (c .before .if6 .left)) (c .room-refusal .ensures kinds units))))))
 
 pub initial-refusal-spec : {M : Type 1} → statement M
 initial-refusal-spec =

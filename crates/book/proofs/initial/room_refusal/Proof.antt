@@ -10,8 +10,9 @@ use lib.ListN.{length, take}
 use Rattle.money.specs.Money.{principal}
 use Rattle.book.specs.Trades.{onTable}
 use Rattle.book.specs.Initial.{netLess}
-use Rattle.book.specs.Flat.{tradesOf}
+use Rattle.book.specs.Flat.{bookOf, tradesOf}
 use Rattle.book.proofs.Column.{applies, passes, ends, asked, asked-not}
+use Rattle.book.proofs.Refusing.{noRows}
 use Rattle.book.proofs.Fitting.{refuted, upheld}
 use Rattle.book.proofs.NetLaws.{over-net, within-net}
 use Rattle.book.proofs.FlatLaws.{length-trades}
@@ -22,55 +23,57 @@ use Rattle.book.proofs.initial.room_refusal.Tie as tie
 -- the tests as the causes have them: over the trades of the flat table
 module _ (c : tie.After-is-taken) where
   abbrev start : tie.Start
-  start = c .before .before .before .before
+  start = c .before .before .before .before .before
 
-  taken : c .is-taken .result ≡ onTable (start .args .terms .contract) (take (start .args .book .trades) (tradesOf (start .args .table .now)))
-  taken = c .is-taken .ensures ∙ ap (onTable (start .args .terms .contract)) (sym (fit-in-use _ _ _ (start .pre .0)))
+  taken : c .is-taken .result ≡ onTable (start .args .terms .contract) (take (start .args .desk .trades) (tradesOf (start .args .table .now)))
+  taken = c .is-taken .ensures ∙ ap (onTable (start .args .terms .contract)) (sym (fit-in-use _ _ _ (start .pre .1 .fits)))
 
 abbrev net-after : tie.Start → ℤ
-net-after s = netLess (s .args .book) (s .args .terms)
+net-after s = netLess (bookOf (s .args .desk) noRows) (s .args .terms)
 
 is-taken-requires : tie.Need-is-taken-requires
-is-taken-requires c κs = fit-keeps _ _ _ (c .before .before .before .pre .0) .room
+is-taken-requires c κs = fit-keeps _ _ _ (c .before .before .before .before .pre .1 .fits) .room
 
 returns : tie.Need-returns
-returns c = applies _ _ (asked (taken (c .before)) (c .if1 .taken))
+returns c kinds units = applies _ _ (asked (taken (c .before)) (c .if1 .taken))
 
 returns-2 : tie.Need-returns-2
-returns-2 c =
+returns-2 c kinds units =
     let t = c .before .before .before in
-    passes _ _ _ (asked-not (taken t) (c .before .before .if1 .left)) (applies _ _ (le-leb (length (tradesOf (start t .args .table .now))) (start t .args .book .trades) (omega (arith, c .if2 .taken, length-trades (start t .args .table .now) (length (start t .args .table .now) / 6)))))
+    passes _ _ _ (asked-not (taken t) (c .before .before .if1 .left)) (applies _ _ (le-leb (length (tradesOf (start t .args .table .now))) (start t .args .desk .trades) (omega (arith, c .if2 .taken, length-trades (start t .args .table .now) (length (start t .args .table .now) / 6)))))
 
 lacks-headroom-requires : tie.Need-lacks-headroom-requires
-lacks-headroom-requires c κs = c .before .before .before .before .before .before .before .pre
+lacks-headroom-requires c κs = c .before .before .before .before .before .before .before .before .pre
 
-full : (c : tie.Else2) → (let s = c .before .before .before .before .before .before .before .args in leb (length (tradesOf (s .table .now))) (s .book .trades) ≡ false)
-full c = lt-leb (length (tradesOf (c .before .before .before .before .before .before .before .args .table .now))) (c .before .before .before .before .before .before .before .args .book .trades) (omega (arith, c .if2 .left, length-trades (c .before .before .before .before .before .before .before .args .table .now) (length (c .before .before .before .before .before .before .before .args .table .now) / 6)))
+full : (c : tie.Else2) → (let s = c .before .before .before .before .before .before .before .before .args in leb (length (tradesOf (s .table .now))) (s .desk .trades) ≡ false)
+full c =
+    let a = c .before .before .before .before .before .before .before .before .args in
+    lt-leb (length (tradesOf (a .table .now))) (a .desk .trades) (omega (arith, c .if2 .left, length-trades (a .table .now) (length (a .table .now) / 6)))
 
 returns-3 : tie.Need-returns-3
-returns-3 c =
-    passes _ _ _ (asked-not (taken (c .before .before .before .before .before)) (c .before .before .before .before .if1 .left)) (passes _ _ _ (full (c .before .before)) (applies _ _ (asked (c .before .lacks-headroom .ensures) (c .if3 .taken))))
+returns-3 c kinds units =
+    passes _ _ _ (asked-not (taken (c .before .before .before .before .before)) (c .before .before .before .before .if1 .left)) (passes _ _ _ (full (c .before .before)) (applies _ _ (asked (c .before .lacks-headroom .ensures kinds units) (c .if3 .taken))))
 
 mul-today-less : tie.Need-mul-today-less
-mul-today-less c = omega (arith, c .before .before .before .before .before .before .before .before .before .before .before .pre .1)
+mul-today-less c = omega (arith, c .before .before .before .before .before .before .before .before .before .before .before .before .pre .2)
 
 today-less-requires : tie.Need-today-less-requires
-today-less-requires c κs = (fit-net _ _ _ (c .before .before .before .before .before .before .before .before .before .before .before .pre .0), omega (arith, c .before .before .before .before .before .before .before .before .before .before .before .pre .1))
+today-less-requires c κs = (fit-net _ _ _ (c .before .before .before .before .before .before .before .before .before .before .before .before .pre .1 .fits), omega (arith, c .before .before .before .before .before .before .before .before .before .before .before .before .pre .2))
 
 today-fit-requires : tie.Need-today-fit-requires
 today-fit-requires c κs = search needs
 
 returns-4 : tie.Need-returns-4
 unfolding principal
-returns-4 c =
+returns-4 c kinds units =
     let net = rw (c .before .before .today-less .ensures) at (c .before .today-fit .ensures) in
-    passes _ _ _ (asked-not (taken (c .before .before .before .before .before .before .before .before .before .before)) (c .before .before .before .before .before .before .before .before .before .if1 .left)) (passes _ _ _ (full (c .before .before .before .before .before .before .before)) (passes _ _ _ (asked-not (c .before .before .before .before .before .before .lacks-headroom .ensures) (c .before .before .before .before .before .if3 .left)) (applies _ _ (over-net (net-after (c .before .before .before .before .before .before .before .before .before .before .before .before .before .before)) (refuted net (c .if4 .taken))))))
+    passes _ _ _ (asked-not (taken (c .before .before .before .before .before .before .before .before .before .before)) (c .before .before .before .before .before .before .before .before .before .if1 .left)) (passes _ _ _ (full (c .before .before .before .before .before .before .before)) (passes _ _ _ (asked-not (c .before .before .before .before .before .before .lacks-headroom .ensures kinds units) (c .before .before .before .before .before .if3 .left)) (applies _ _ (over-net (net-after (c .before .before .before .before .before .before .before .before .before .before .before .before .before .before .before)) (refuted net (c .if4 .taken))))))
 
 returns-5 : tie.Need-returns-5
 unfolding principal
-returns-5 c =
+returns-5 c kinds units =
     let net = rw (c .before .before .today-less .ensures) at (c .before .today-fit .ensures) in
-    passes _ _ _ (asked-not (taken (c .before .before .before .before .before .before .before .before .before .before)) (c .before .before .before .before .before .before .before .before .before .if1 .left)) (passes _ _ _ (full (c .before .before .before .before .before .before .before)) (passes _ _ _ (asked-not (c .before .before .before .before .before .before .lacks-headroom .ensures) (c .before .before .before .before .before .if3 .left)) (passes _ _ _ (within-net (net-after (c .before .before .before .before .before .before .before .before .before .before .before .before .before .before)) (upheld net (c .if4 .left))) ends)))
+    passes _ _ _ (asked-not (taken (c .before .before .before .before .before .before .before .before .before .before)) (c .before .before .before .before .before .before .before .before .before .if1 .left)) (passes _ _ _ (full (c .before .before .before .before .before .before .before)) (passes _ _ _ (asked-not (c .before .before .before .before .before .before .lacks-headroom .ensures kinds units) (c .before .before .before .before .before .if3 .left)) (passes _ _ _ (within-net (net-after (c .before .before .before .before .before .before .before .before .before .before .before .before .before .before .before)) (upheld net (c .if4 .left))) ends)))
 
 pub room-refusal-spec : {M : Type 1} → statement M
 room-refusal-spec =

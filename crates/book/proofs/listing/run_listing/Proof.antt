@@ -1,16 +1,11 @@
 use mathlib.Core.Path.{_≡_, refl}
 use mathlib.Core.Option.{none}
-use Prim.Native.Nat.{ℕ}
-use native.Mathlib.Omega.{arith}
 use borrow.Author.Needs.{needs}
-use lib.ListN.{length, length-replicate}
+use lib.ListN.{length}
 use Rattle.money.specs.Causes.{firstOf}
-use Rattle.book.specs.Listing.{listingOf, listingCauses, runDone}
-use Rattle.book.specs.Flat.{capacity}
+use Rattle.book.specs.Listing.{listingCauses}
 use Rattle.book.proofs.Refusing.{refused}
-use Rattle.book.proofs.ListingLaws.{zeros, listing-clear, words-within, lines-within, journal-starts-empty}
-use Rattle.book.proofs.FlatLaws.{length-trades}
-use Rattle.book.proofs.StaysFit.{fresh-is-fit}
+use Rattle.book.proofs.ListingLaws.{listing-clear, fresh-listing, journal-starts-empty}
 use Rattle.book.proofs.listing.run_listing.Statement.{statement}
 use Rattle.book.proofs.listing.run_listing.Tie as tie
 
@@ -31,23 +26,22 @@ returns c =
 fresh-requires : tie.Need-fresh-requires
 fresh-requires c κs = search needs
 
-slice-aggregate-run-events : tie.Need-slice-aggregate-run-events
-slice-aggregate-run-events c = search needs
+slice-aggregate-run-flat : tie.Need-slice-aggregate-run-flat
+slice-aggregate-run-flat c = search needs
 
-run-events-requires : tie.Need-run-events-requires
-run-events-requires c κs =
-    let e = clear (c .before .before .before) in
-    let few = length-replicate {A = ℕ} 6144 0 in
-    (rw (c .before .before .fresh .ensures) (fresh-is-fit _ _ (omega (arith, few, length-trades (zeros 6144) (capacity (zeros 6144))))), words-within _ _ _ e, lines-within _ _ _ e)
+run-flat-requires : tie.Need-run-flat-requires
+run-flat-requires c κs = search needs
 
 same-length : tie.Need-same-length
 same-length c = search needs
 
 returns-2 : tie.Need-returns-2
-unfolding listingOf runDone
 returns-2 c =
     let told = c .before .before .before in
-    rw (clear (told .before .before .before .before)) (refl, rw (told .before .before .before .fresh .ensures, journal-starts-empty) at (told .run-events .ensures .2))
+    let passed = told .before .before .before .before in
+    let s = at-start (passed .before) .args in
+    let e = clear passed in
+    rw e (refl, rw (told .before .before .before .fresh .ensures, journal-starts-empty, fresh-listing (s .calendar .now) (s .events .now) (s .lines .now) e) at (told .run-flat .ensures .2))
 
 pub run-listing-spec : {M : Type 1} → statement M
 run-listing-spec =
@@ -56,7 +50,7 @@ run-listing-spec =
     listing-refusal-requires
     returns
     fresh-requires
-    slice-aggregate-run-events
-    run-events-requires
+    slice-aggregate-run-flat
+    run-flat-requires
     same-length
     returns-2)

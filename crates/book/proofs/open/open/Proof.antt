@@ -6,18 +6,18 @@ use denote.Ref.{now}
 use Rattle.book.specs.Book.{Standing, isClosed}
 use Rattle.book.specs.Days.{following, followed}
 use Rattle.book.specs.Open.{openedBook, openedTable}
-use Rattle.book.specs.Flat.{tradesOf}
+use Rattle.book.specs.Flat.{bookOf, tradesOf}
 use Rattle.book.proofs.OpenLaws.{not-closed, no-day-to-open, none-unless-ended}
 use Rattle.book.proofs.open.open.Statement.{statement}
 use Rattle.book.proofs.open.open.Tie as tie
 
 -- past the first two tests
 
-closed : (c : tie.Else1) → isClosed (c .before .before .before .before .before .args .book .standing .phase) ≡ true
+closed : (c : tie.Else1) → isClosed (c .before .before .before .before .before .args .desk .standing .phase) ≡ true
 closed c = sym (c .before .is-closed .ensures) ∙ not-false _ (c .if1 .left)
 
 abbrev hasNext : tie.Start → Bool
-hasNext s = followed (now (s .args .calendar)) (following (now (s .args .calendar)) (s .args .book .standing .day))
+hasNext s = followed (now (s .args .calendar)) (following (now (s .args .calendar)) (s .args .desk .standing .day))
 
 follows : (c : tie.Else2) → hasNext (c .before .before .before .before .before .before .before) ≡ true
 follows c = sym (c .before .opens .ensures) ∙ not-false _ (c .if2 .left)
@@ -29,10 +29,10 @@ answered-requires : tie.Need-answered-requires
 answered-requires c κs = search needs
 
 returns : tie.Need-returns
-returns c =
+returns c rows =
     let s = c .before .before .before .before .before .before in
-    let e = not-closed (now (s .args .calendar)) (s .args .book) (tradesOf (now (s .args .table))) (sym (c .before .before .is-closed .ensures) ∙ not-true _ (c .before .if1 .taken)) in
-    (c .answered .ensures ∙ rw e, rw e)
+    let e = not-closed (now (s .args .calendar)) (bookOf (s .args .desk) rows) (tradesOf (now (s .args .table))) (sym (c .before .before .is-closed .ensures) ∙ not-true _ (c .before .if1 .taken)) in
+    (rw (c .answered .ensures, e), rw e)
 
 opens-requires : tie.Need-opens-requires
 opens-requires c κs = search needs
@@ -41,11 +41,11 @@ answered-requires-2 : tie.Need-answered-requires-2
 answered-requires-2 c κs = search needs
 
 returns-2 : tie.Need-returns-2
-returns-2 c =
+returns-2 c rows =
     let q = c .before .before in
     let s = q .before .before .before .before .before .before in
-    let e = no-day-to-open (now (s .args .calendar)) (s .args .book) (tradesOf (now (s .args .table))) (closed (q .before)) (sym (q .opens .ensures) ∙ not-true _ (c .before .if2 .taken)) in
-    (c .answered2 .ensures ∙ rw e, rw e)
+    let e = no-day-to-open (now (s .args .calendar)) (bookOf (s .args .desk) rows) (tradesOf (now (s .args .table))) (closed (q .before)) (sym (q .opens .ensures) ∙ not-true _ (c .before .if2 .taken)) in
+    (rw (c .answered2 .ensures, e), rw e)
 
 opened-standing-requires : tie.Need-opened-standing-requires
 opened-standing-requires c κs = search needs
@@ -71,13 +71,13 @@ answered-requires-3 c κs = search needs
 
 returns-4 : tie.Need-returns-4
 unfolding openedBook openedTable
-returns-4 c =
+returns-4 c rows =
     let t = c .before .before in
     let q = t .before .before in
     let s = q .before .before .before .before .before .before .before in
     let stays = sym (t .turns-terminated .ensures) ∙ c .before .if3 .left in
-    let e = none-unless-ended (now (s .args .calendar)) (s .args .book) (tradesOf (now (s .args .table))) (closed (q .before .before)) (follows q) stays in
-    (c .answered3 .ensures ∙ rw (e, t .before .opened-standing .ensures, stays), rw (e, stays))
+    let e = none-unless-ended (now (s .args .calendar)) (bookOf (s .args .desk) rows) (tradesOf (now (s .args .table))) (closed (q .before .before)) (follows q) stays in
+    (rw (c .answered3 .ensures, e, t .before .opened-standing .ensures, stays), rw (e, stays))
 
 pub open-spec : {M : Type 1} → statement M
 open-spec =

@@ -3,22 +3,26 @@ use borrow.Author.Needs.{needs}
 use borrow.Author.Tests.{not-true, not-false}
 use denote.Ref.{now}
 use lib.IntN.{ℤ}
-use Rattle.book.specs.Book.{Nets}
+use Rattle.book.specs.Book.{Book, Nets}
 use Rattle.book.specs.Fit.{netFit}
 use Rattle.book.specs.Open.{netWithFallbacks, openedBook, openedTable}
-use Rattle.book.specs.Flat.{tradesOf}
+use Rattle.book.specs.Flat.{Rows, bookOf, tradesOf}
 use Rattle.book.proofs.FitFacts.{fit-in-use, fit-keeps}
 use Rattle.book.proofs.RedemptionLaws.{all-due}
 use Rattle.book.proofs.OpenLaws.{net-too-large, none-within-net}
 use Rattle.book.proofs.open.terminated.Statement.{statement}
 use Rattle.book.proofs.open.terminated.Tie as tie
 
-abbrev net : tie.Start → ℤ
-net s = netWithFallbacks (now (s .args .calendar)) (s .args .book) (tradesOf (now (s .args .table)))
+-- the book that the desk is fit as
+abbrev book : tie.Start → Book
+book s = bookOf (s .args .desk) (s .pre .0 .0 .rows)
+
+abbrev net : tie.Start → Rows → ℤ
+net s rows = netWithFallbacks (now (s .args .calendar)) (bookOf (s .args .desk) rows) (tradesOf (now (s .args .table)))
 
 -- the code's test is of the net with every trade redeemed
-net-tested : (c : tie.After-cleared-fit) → netFit (net (c .before .before .before .before .before)) ≡ c .cleared-fit .result
-net-tested c = ap (λ (nets : Nets). netFit (nets .cleared)) (sym (c .before .with-fallbacks .ensures)) ∙ sym (c .cleared-fit .ensures)
+net-tested : (c : tie.After-cleared-fit) (rows : Rows) → netFit (net (c .before .before .before .before .before) rows) ≡ c .cleared-fit .result
+net-tested c rows = ap (λ (nets : Nets). netFit (nets .cleared)) (sym (c .before .with-fallbacks .ensures rows)) ∙ sym (c .cleared-fit .ensures)
 
 with-fallbacks-requires : tie.Need-with-fallbacks-requires
 with-fallbacks-requires c κs = search needs
@@ -33,16 +37,16 @@ same-length : tie.Need-same-length
 same-length c = search needs
 
 returns : tie.Need-returns
-returns c =
+returns c rows =
     let q = c .before .before in
     let s = q .before .before .before .before .before in
-    let e = net-too-large (now (s .args .calendar)) (s .args .book) (tradesOf (now (s .args .table))) (s .pre .1 .1 .0) (s .pre .1 .0 .0) (s .pre .1 .1 .1) (net-tested q ∙ not-true _ (c .before .if1 .taken)) in
-    (c .answered .ensures ∙ rw e, rw e)
+    let e = net-too-large (now (s .args .calendar)) (bookOf (s .args .desk) rows) (tradesOf (now (s .args .table))) (s .pre .1 .1 .0) (s .pre .1 .0 .0) (s .pre .1 .1 .1) (net-tested q rows ∙ not-true _ (c .before .if1 .taken)) in
+    (rw (c .answered .ensures, e), rw e)
 
 redeem-due-requires : tie.Need-redeem-due-requires
 redeem-due-requires c κs =
     let s = c .before .before .before .before .before .before .before in
-    fit-keeps (now (s .args .calendar)) (s .args .book) (now (s .args .table)) (s .pre .0 .0) .room
+    fit-keeps (now (s .args .calendar)) (book s) (now (s .args .table)) (s .pre .0 .0 .fits) .room
 
 answered-requires-2 : tie.Need-answered-requires-2
 answered-requires-2 c κs = search needs
@@ -52,16 +56,16 @@ same-length-2 c = search needs
 
 returns-2 : tie.Need-returns-2
 unfolding openedBook openedTable
-returns-2 c =
+returns-2 c rows =
     let r = c .before .before .before in
     let q = r .before .before .before in
     let s = q .before .before .before .before .before in
     let calendar = now (s .args .calendar) in
     let table = now (s .args .table) in
     let ended = s .pre .1 .1 .1 in
-    let e = none-within-net calendar (s .args .book) (tradesOf table) (s .pre .1 .1 .0) (s .pre .1 .0 .0) ended (net-tested q ∙ not-false _ (r .before .before .if1 .left)) in (
-      c .answered2 .ensures ∙ rw (e, q .before .with-fallbacks .ensures, s .pre .1 .0 .1, ended),
-      r .redeem-due .ensures ∙ rw (e, ended, fit-in-use calendar (s .args .book) table (s .pre .0 .0), all-due table (s .args .book .trades)),
+    let e = none-within-net calendar (bookOf (s .args .desk) rows) (tradesOf table) (s .pre .1 .1 .0) (s .pre .1 .0 .0) ended (net-tested q rows ∙ not-false _ (r .before .before .if1 .left)) in (
+      rw (c .answered2 .ensures, e, q .before .with-fallbacks .ensures rows, s .pre .1 .0 .1, ended),
+      r .redeem-due .ensures ∙ rw (e, ended, fit-in-use calendar (book s) table (s .pre .0 .0 .fits), all-due table (s .args .desk .trades)),
     )
 
 pub terminated-spec : {M : Type 1} → statement M

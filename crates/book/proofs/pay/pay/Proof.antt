@@ -11,15 +11,16 @@ use Rattle.book.specs.Entry.{Pay}
 use Rattle.book.specs.Fit.{netFit, netsFit}
 use Rattle.book.specs.Pay.{payCauses}
 use Rattle.book.specs.Step.{eventCauses}
+use Rattle.book.specs.Flat.{Rows, bookOf}
 use Rattle.book.proofs.FoldLaws.{both}
 use Rattle.book.proofs.FitParts.{cash-fits}
 use Rattle.book.proofs.Refusing.{refused, done}
 use Rattle.book.proofs.pay.pay.Statement.{statement}
 use Rattle.book.proofs.pay.pay.Tie as tie
 
-none-applies : (c : tie.Else1) → firstOf (payCauses (c .before .before .args .book)) ≡ none
+none-applies : (c : tie.Else1) (rows : Rows) → firstOf (payCauses (bookOf (c .before .before .args .desk) rows)) ≡ none
 unfolding eventCauses
-none-applies c = done [] (c .before .before .args .book) [] Pay _ (c .before .pay-refusal .ensures) (c .if1 .left)
+none-applies c rows = done [] (bookOf (c .before .before .args .desk) rows) [] Pay _ (c .before .pay-refusal .ensures rows) (c .if1 .left)
 
 cleared-fits : (nets : Nets) → netsFit nets ≡ true → netFit (nets .cleared) ≡ true
 unfolding netsFit
@@ -32,25 +33,24 @@ answered-requires : tie.Need-answered-requires
 answered-requires c κs = search needs
 
 returns : tie.Need-returns
-returns c = c .answered .ensures ∙ rw (refused (firstOf (payCauses (c .before .before .before .args .book))) _ (c .before .before .pay-refusal .ensures) (c .before .if1 .taken))
+returns c rows = rw (c .answered .ensures, refused (firstOf (payCauses (bookOf (c .before .before .before .args .desk) rows))) _ (c .before .before .pay-refusal .ensures rows) (c .before .if1 .taken))
 
 falls-short-requires : tie.Need-falls-short-requires
 falls-short-requires c κs = cleared-fits _ (c .before .before .before .before .pre .0)
 
-unpaid-book-requires : tie.Need-unpaid-book-requires
-unpaid-book-requires c κs = search needs
+unpaid-requires : tie.Need-unpaid-requires
+unpaid-requires c κs = search needs
 
 answered-requires-2 : tie.Need-answered-requires-2
 answered-requires-2 c κs = search needs
 
 returns-2 : tie.Need-returns-2
-returns-2 c =
+returns-2 c rows =
     let q = c .before .before in
-    c .answered2 .ensures
-    ∙ rw (c .before .unpaid-book .ensures, none-applies (q .before .before .before .before), sym (q .before .falls-short .ensures) ∙ q .if2 .taken)
+    rw (c .answered2 .ensures, c .before .unpaid .ensures rows, none-applies (q .before .before .before .before) rows, sym (q .before .falls-short .ensures) ∙ q .if2 .taken)
 
-paid-book-requires : tie.Need-paid-book-requires
-paid-book-requires c κs =
+paid-requires : tie.Need-paid-requires
+paid-requires c κs =
     let s = c .before .before .before .before .before .before in
     (cleared-fits _ (s .pre .0), ltb-false _ _ (sym (c .before .falls-short .ensures) ∙ c .if2 .left), omega (arith, cash-fits _ _ (s .pre .1) .sum))
 
@@ -58,10 +58,9 @@ answered-requires-3 : tie.Need-answered-requires-3
 answered-requires-3 c κs = search needs
 
 returns-3 : tie.Need-returns-3
-returns-3 c =
+returns-3 c rows =
     let q = c .before .before in
-    c .answered3 .ensures
-    ∙ rw (c .before .paid-book .ensures, none-applies (q .before .before .before .before), sym (q .before .falls-short .ensures) ∙ q .if2 .left)
+    rw (c .answered3 .ensures, c .before .paid .ensures rows, none-applies (q .before .before .before .before) rows, sym (q .before .falls-short .ensures) ∙ q .if2 .left)
 
 pub pay-spec : {M : Type 1} → statement M
 pay-spec =
@@ -71,9 +70,9 @@ pay-spec =
     answered-requires
     returns
     falls-short-requires
-    unpaid-book-requires
+    unpaid-requires
     answered-requires-2
     returns-2
-    paid-book-requires
+    paid-requires
     answered-requires-3
     returns-3)

@@ -1,7 +1,7 @@
 use mathlib.Core.Path.{_≡_, refl, _∙_}
-use mathlib.Core.List.{[]}
+use mathlib.Core.List.{List, []}
 use mathlib.Core.Option.{none}
-use Prim.Native.Nat.{ℕ, _+_, _≤_}
+use Prim.Native.Nat.{ℕ, _+_, _≤_, _<_}
 use native.Mathlib.Omega.{arith}
 use borrow.Author.Needs.{needs}
 use borrow.Author.Tests.{ltb-false, eq-eqb, ne-eqb}
@@ -13,16 +13,21 @@ use Rattle.book.specs.Entry.{Pledge}
 use Rattle.book.specs.Vault.{securityAt}
 use Rattle.book.specs.Pledge.{pledgeCauses, pledged}
 use Rattle.book.specs.Step.{eventCauses}
+use Rattle.book.specs.Flat.{rowsOf, bookOf}
 use Rattle.book.proofs.FitParts.{cash-fits}
+use Rattle.book.proofs.HeldLaws.{security-at-row}
 use Rattle.book.proofs.Refusing.{turned-down, carried-out, done}
 use Rattle.book.proofs.pledge.pledge.Statement.{statement}
 use Rattle.book.proofs.pledge.pledge.Tie as tie
 
-none-applies : (c : tie.Else1) → firstOf (pledgeCauses (c .before .before .args .book) (c .before .before .args .kind) (c .before .before .args .units)) ≡ none
+abbrev start : tie.Else1 → tie.Start
+start c = c .before .before .before .before
+
+none-applies : (c : tie.Else1) (kinds amounts : List ℕ) → (let a = start c .args in firstOf (pledgeCauses (bookOf (a .desk) (rowsOf (a .held .now) kinds amounts)) (a .kind) (a .units)) ≡ none)
 unfolding eventCauses
-none-applies c =
-    let a = c .before .before .args in
-    done [] (a .book) [] (Pledge (a .kind) (a .units)) _ (c .before .pledge-refusal .ensures) (c .if1 .left)
+none-applies c kinds amounts =
+    let a = start c .args in
+    done [] (bookOf (a .desk) (rowsOf (a .held .now) kinds amounts)) [] (Pledge (a .kind) (a .units)) _ (c .before .pledge-refusal .ensures kinds amounts) (c .if1 .left)
 
 -- what no cause leaves: a known kind, own cash for cash, and room for a security
 module _ (book : Book) (kind units : ℕ) (e : firstOf (pledgeCauses book kind units) ≡ none) where
@@ -40,10 +45,16 @@ module _ (book : Book) (kind units : ℕ) (e : firstOf (pledgeCauses book kind u
       let security = securityAt (book .vault) kind in
       ltb-false unitLimit (security .effective + security .arriving + units) (rw (ne-eqb kind 32 other) at (failed (pledgeCauses book kind units) e 14 .1 .1 .1 .1 .0 refl))
 
-covered : (c : tie.Then2) → c .before .before .before .before .args .units ≤ c .before .before .before .before .args .book .cash .own .0
+covered : (c : tie.Then2) → (let a = start (c .before) .args in a .units ≤ a .desk .cash .own .0)
 covered c =
-    let a = c .before .before .before .before .args in
-    owned (a .book) (a .kind) (a .units) (none-applies (c .before .before)) (c .if2 .taken)
+    let a = start (c .before) .args in
+    owned (bookOf (a .desk) (rowsOf (a .held .now) [] [])) (a .kind) (a .units) (none-applies (c .before) [] []) (c .if2 .taken)
+
+-- a kind that is not cash is a security, and its row has what the vault has
+security-kind : (c : tie.Else2) → start (c .before) .args .kind < 32
+security-kind c =
+    let a = start (c .before) .args in
+    omega (arith, known-kind (bookOf (a .desk) (rowsOf (a .held .now) [] [])) (a .kind) (a .units) (none-applies (c .before) [] []), c .if2 .left)
 
 pledge-refusal-requires : tie.Need-pledge-refusal-requires
 pledge-refusal-requires c κs = search needs
@@ -51,40 +62,54 @@ pledge-refusal-requires c κs = search needs
 answered-requires : tie.Need-answered-requires
 answered-requires c κs = search needs
 
+same-length : tie.Need-same-length
+same-length c = search needs
+
 returns : tie.Need-returns
-returns c = turned-down _ _ _ (c .before .before .pledge-refusal .ensures) (c .before .if1 .taken) (c .answered .ensures)
+returns c kinds amounts = turned-down _ _ (rowsOf _ kinds amounts) _ _ (c .before .before .pledge-refusal .ensures kinds amounts) (c .before .if1 .taken) (c .answered .ensures) refl
 
 sub-own : tie.Need-sub-own
 sub-own c = omega (arith, covered (c .before))
 
-with-cash-arrived-requires : tie.Need-with-cash-arrived-requires
-with-cash-arrived-requires c κs =
-    let q = c .before .before in
-    omega (arith, covered q, cash-fits _ _ (q .before .before .before .before .pre .1) .sum)
+cash-arrived-requires : tie.Need-cash-arrived-requires
+cash-arrived-requires c κs =
+    let q = c .before .before .before in
+    omega (arith, covered q, cash-fits _ _ (start (q .before) .pre .2) .sum)
 
 answered-requires-2 : tie.Need-answered-requires-2
 answered-requires-2 c κs = search needs
 
+same-length-2 : tie.Need-same-length-2
+same-length-2 c = search needs
+
 returns-2 : tie.Need-returns-2
 unfolding pledged
-returns-2 c =
-    let q = c .before .before .before .before in
-    carried-out _ _ _ (none-applies (q .before .before)) (c .answered2 .ensures ∙ rw (c .before .with-cash-arrived .ensures, eq-eqb _ _ (q .if2 .taken)))
+returns-2 c kinds amounts =
+    let q = c .before .before .before .before .before in
+    carried-out _ _ (rowsOf _ kinds amounts) _ _ (none-applies (q .before) kinds amounts) (c .answered2 .ensures) (rw (c .before .cash-arrived .ensures, eq-eqb _ _ (q .if2 .taken)))
 
-with-arrived-requires : tie.Need-with-arrived-requires
-with-arrived-requires c κs =
-    let a = c .before .before .before .before .args in
-    let e = none-applies (c .before .before) in
-    omega (arith, known-kind (a .book) (a .kind) (a .units) e, room (a .book) (a .kind) (a .units) e (c .if2 .left))
+put-arrived-requires : tie.Need-put-arrived-requires
+put-arrived-requires c κs =
+    let q = c .before in
+    let a = start (q .before) .args in
+    let row = security-at-row (a .held .now) (a .desk .guarantee) (a .kind) (security-kind q) in
+    let fits = rw row at (room (bookOf (a .desk) (rowsOf (a .held .now) [] [])) (a .kind) (a .units) (none-applies (q .before) [] []) (q .if2 .left)) in
+    (security-kind q, start (q .before) .pre .0, omega (arith, fits))
 
 answered-requires-3 : tie.Need-answered-requires-3
 answered-requires-3 c κs = search needs
 
+same-length-3 : tie.Need-same-length-3
+same-length-3 c = search needs
+
 returns-3 : tie.Need-returns-3
 unfolding pledged
-returns-3 c =
-    let q = c .before .before in
-    carried-out _ _ _ (none-applies (q .before .before)) (c .answered3 .ensures ∙ rw (c .before .with-arrived .ensures, ne-eqb _ _ (q .if2 .left)))
+returns-3 c kinds amounts =
+    let q = c .before .before .before .before .before in
+    let a = start (q .before) .args in
+    let row = security-at-row (a .held .now) (a .desk .guarantee) (a .kind) (security-kind q) in
+    carried-out _ _ (rowsOf (a .held .now) kinds amounts) _ _ (none-applies (q .before) kinds amounts) (c .answered3 .ensures)
+    (rw (c .before .before .before .put-arrived .ensures, ne-eqb _ _ (q .if2 .left), row))
 
 pub pledge-spec : {M : Type 1} → statement M
 pledge-spec =
@@ -92,11 +117,14 @@ pledge-spec =
     (tie.spec
     pledge-refusal-requires
     answered-requires
+    same-length
     returns
     sub-own
-    with-cash-arrived-requires
+    cash-arrived-requires
     answered-requires-2
+    same-length-2
     returns-2
-    with-arrived-requires
+    put-arrived-requires
     answered-requires-3
+    same-length-3
     returns-3)

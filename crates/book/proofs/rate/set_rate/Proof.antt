@@ -1,5 +1,5 @@
-use mathlib.Core.Path.{_≡_, refl, _∙_}
-use mathlib.Core.List.{[]}
+use mathlib.Core.Path.{_≡_, refl, sym, _∙_, ap}
+use mathlib.Core.List.{List, []}
 use mathlib.Core.Option.{none}
 use Prim.Native.Nat.{ℕ, _<_}
 use borrow.Author.Needs.{needs}
@@ -7,17 +7,19 @@ use borrow.Author.Tests.{leb-false}
 use Rattle.money.specs.Causes.{firstOf}
 use Rattle.money.proofs.Refusals.{failed}
 use Rattle.book.specs.Entry.{Rate}
-use Rattle.book.specs.Rate.{rateCauses, rated}
+use Rattle.book.specs.Rate.{rateCauses, rated, withRate}
 use Rattle.book.specs.Step.{eventCauses}
-use Rattle.book.proofs.Refusing.{turned-down, carried-out, done}
+use Rattle.book.specs.Flat.{rowsOf, bookOf}
+use Rattle.book.proofs.HeldLaws.{security-at-row}
+use Rattle.book.proofs.Refusing.{noRows, turned-down, carried-out, done}
 use Rattle.book.proofs.rate.set_rate.Statement.{statement}
 use Rattle.book.proofs.rate.set_rate.Tie as tie
 
-none-applies : (c : tie.Else1) → firstOf (rateCauses (c .before .before .args .kind) (c .before .before .args .rate)) ≡ none
+none-applies : (c : tie.Else1) → (let a = c .before .before .before .args in firstOf (rateCauses (a .kind) (a .rate)) ≡ none)
 unfolding eventCauses
 none-applies c =
-    let a = c .before .before .args in
-    done [] (a .book) [] (Rate (a .kind) (a .rate)) _ (c .before .rate-refusal .ensures) (c .if1 .left)
+    let a = c .before .before .before .args in
+    done [] (bookOf (a .desk) noRows) [] (Rate (a .kind) (a .rate)) _ (c .before .rate-refusal .ensures) (c .if1 .left)
 
 security-kind : (kind rate : ℕ) → firstOf (rateCauses kind rate) ≡ none → kind < 32
 unfolding rateCauses
@@ -30,17 +32,28 @@ answered-requires : tie.Need-answered-requires
 answered-requires c κs = search needs
 
 returns : tie.Need-returns
-returns c = turned-down _ _ _ (c .before .before .rate-refusal .ensures) (c .before .if1 .taken) (c .answered .ensures)
+returns c kinds units = turned-down _ _ (rowsOf _ kinds units) _ _ (c .before .before .rate-refusal .ensures) (c .before .if1 .taken) (c .answered .ensures) refl
 
-with-rate-requires : tie.Need-with-rate-requires
-with-rate-requires c κs = security-kind _ _ (none-applies (c .before))
+security-at-requires : tie.Need-security-at-requires
+security-at-requires c κs = (security-kind _ _ (none-applies (c .before)), c .before .before .before .before .pre)
+
+put-security-requires : tie.Need-put-security-requires
+put-security-requires c κs = (security-kind _ _ (none-applies (c .before .before .before)), c .before .before .before .before .before .before .pre)
 
 answered-requires-2 : tie.Need-answered-requires-2
 answered-requires-2 c κs = search needs
 
+same-length : tie.Need-same-length
+same-length c = search needs
+
 returns-2 : tie.Need-returns-2
 unfolding rated
-returns-2 c = carried-out _ _ _ (none-applies (c .before .before .before)) (c .answered2 .ensures ∙ rw (c .before .with-rate .ensures))
+returns-2 c kinds units =
+    let q = c .before .before .before .before .before .before .before in
+    let a = q .before .before .before .args in
+    let here = security-at-row (a .held .now) (a .desk .guarantee) (a .kind) (security-kind _ _ (none-applies q)) in
+    carried-out _ _ (rowsOf (a .held .now) kinds units) _ _ (none-applies q) (c .answered2 .ensures)
+    (rw (c .before .before .before .put-security .ensures, c .before .before .before .before .before .security-at .ensures, here))
 
 pub set-rate-spec : {M : Type 1} → statement M
 set-rate-spec =
@@ -49,6 +62,8 @@ set-rate-spec =
     rate-refusal-requires
     answered-requires
     returns
-    with-rate-requires
+    security-at-requires
+    put-security-requires
     answered-requires-2
+    same-length
     returns-2)

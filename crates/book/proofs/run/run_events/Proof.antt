@@ -1,20 +1,24 @@
-use mathlib.Core.Path.{_≡_, refl, ap}
+use mathlib.Core.Path.{_≡_, refl, ap, _∙_}
 use Prim.Native.Nat.{_+_, _-_, _*_, _/_, _≤_}
 use native.Mathlib.Omega.{arith}
 use borrow.Author.Needs.{needs}
 use lib.ListN.{length, take, drop}
+use Rattle.book.specs.Flat.{rowsOf, bookOf}
 use Rattle.book.proofs.RunLaws.{RunTo, none-run, next-run, all-run}
 use Rattle.book.proofs.run.run_events.Statement.{statement}
 use Rattle.book.proofs.run.run_events.Tie as tie
 
 abbrev Inv-loop : tie.InvT-loop
-Inv-loop calendar table₀ events lines₀ count after₀ k₀ table lines after k = RunTo calendar after₀ events table₀ lines₀ count table lines after k
+Inv-loop calendar held₀ kinds₀ units₀ table₀ events lines₀ count after₀ k₀ held kinds units table lines after k =
+    RunTo calendar (bookOf after₀ (rowsOf held₀ kinds₀ units₀)) events table₀ lines₀ count table lines (bookOf after (rowsOf held kinds units)) k × (length held ≡ 128) × (length kinds ≡ 128) × (length units ≡ 128)
 
 abbrev μ-loop : tie.MeasureT-loop
-μ-loop calendar table₀ events lines₀ count after₀ k₀ table lines after k = count - k
+μ-loop calendar held₀ kinds₀ units₀ table₀ events lines₀ count after₀ k₀ held kinds units table lines after k = count - k
 
 loop-holds : tie.Need-loop-holds Inv-loop μ-loop
-loop-holds c = none-run _ _ _ _ _ _ (c .before .before .before .before .pre .0)
+loop-holds c =
+    let s = c .before .before .before .before .before .before .before in
+    (none-run _ _ _ _ _ _ (s .pre .4), s .pre .0, s .pre .1, s .pre .2)
 
 mul-bytes : tie.Need-mul-bytes Inv-loop μ-loop
 mul-bytes c = search needs
@@ -39,34 +43,48 @@ mul-run-event c = search needs
 
 run-event-requires : tie.Need-run-event-requires Inv-loop μ-loop
 run-event-requires c κs =
-    let start = c .before .before .before .before .before .before .before .before .before in
-    let ran = c .before .before .before .before .loop .inv in
-    (ran .fits, start .pre .1, omega (arith, ran .wide, start .pre .2, c .before .before .before .loop-test .taken))
+    let s = c .before .before .before .before .before .before .before .before .before .before .before .before .before .before .before in
+    let inv = c .before .before .before .before .before .before .before .loop .inv in
+    (inv .1, inv .2, inv .3, s .pre .3, inv .0 .fits, omega (arith, inv .0 .wide, s .pre .5, c .before .before .before .before .before .before .loop-test .taken))
 
 add-k : tie.Need-add-k Inv-loop μ-loop
-add-k c = omega (arith, c .before .before .before .before .before .before .before .before .loop-test .taken, c .before .before .before .before .before .before .before .before .before .before .before .before .before .before .good)
+add-k c = omega (arith, c .before .before .before .before .before .before .before .before .before .before .before .before .before .before .before .before .before .loop-test .taken, c .before .before .before .before .before .before .before .before .before .before .before .before .before .before .before .before .before .before .before .before .before .before .before .before .before .before .good)
 
 loop-less : tie.Need-loop-less Inv-loop μ-loop
 loop-less c = search needs
 
 loop-again : tie.Need-loop-again Inv-loop μ-loop
 loop-again c =
-    let here = c .before .before .before .before .before .before .before .before .before in
-    let start = here .before .before .before .before .before in
-    let called = c .before .before .before .before .run-event in
-    let length-40 : 40 ≡ (here .loop .k * 40 + 40) - here .loop .k * 40 = omega arith in
-    next-run _ _ _ _ _ _ _ _ _ _ (here .loop .inv) (c .before .before .before .before .before .before .before .before .loop-test .taken) (omega (arith, start .pre .2)) _
-    (ap (λ n. take n (drop (here .loop .k * 40) (start .args .events .now))) length-40)
-    _ _ _ (called .kept .1 .1 .1 .0) (called .ensures .0) (called .ensures .1) (called .ensures .2)
+    let here = c .before .before .before .before .before .before .before .before .before .before .before .before .before .before .before .before .before .before in
+    let s = c .before .before .before .before .before .before .before .before .before .before .before .before .before .before .before .before .before .before .before .before .before .before .before .before .before .before in
+    let called = c .before .before .before .before .before .before .before .before .before .before .run-event in
+    let inv = here .loop .inv in
+    let length-40 : 40 ≡ (here .loop .k * 40 + 40) - here .loop .k * 40 = omega arith in (
+      next-run _ _ _ _ _ _ _ _ _ _ (inv .0) (c .before .before .before .before .before .before .before .before .before .before .before .before .before .before .before .before .before .loop-test .taken) (omega (arith, s .pre .5)) _
+          (ap (λ n. take n (drop (here .loop .k * 40) (s .args .events .now))) length-40)
+          _ _ _ (called .kept .1 .1 .1 .1 .1 .1 .0) (called .ensures .0) (called .ensures .1) (called .ensures .2),
+      called .kept .1 .1 .1 .0 ∙ inv .1,
+      called .kept .1 .1 .1 .1 .0 ∙ inv .2,
+      called .kept .1 .1 .1 .1 .1 .0 ∙ inv .3,
+    )
 
 same-length : tie.Need-same-length Inv-loop μ-loop
-same-length c = c .before .loop .inv .long
+same-length c = search needs
 
 same-length-2 : tie.Need-same-length-2 Inv-loop μ-loop
-same-length-2 c = c .before .loop .inv .wide
+same-length-2 c = search needs
+
+same-length-3 : tie.Need-same-length-3 Inv-loop μ-loop
+same-length-3 c = search needs
+
+same-length-4 : tie.Need-same-length-4 Inv-loop μ-loop
+same-length-4 c = search needs
+
+same-length-5 : tie.Need-same-length-5 Inv-loop μ-loop
+same-length-5 c = search needs
 
 returns : tie.Need-returns Inv-loop μ-loop
-returns c = all-run _ _ _ _ _ _ _ _ _ _ refl (c .before .loop .inv) (c .loop-test .left) (omega (arith, c .before .before .before .before .before .before .pre .2))
+returns c = all-run _ _ _ _ _ _ _ _ _ _ refl (c .before .loop .inv .0) (c .loop-test .left) (omega (arith, c .before .before .before .before .before .before .before .before .before .pre .5))
 
 pub run-events-spec : {M : Type 1} → statement M
 run-events-spec =
@@ -88,4 +106,7 @@ run-events-spec =
     loop-again
     same-length
     same-length-2
+    same-length-3
+    same-length-4
+    same-length-5
     returns)

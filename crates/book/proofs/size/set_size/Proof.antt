@@ -1,4 +1,4 @@
-use mathlib.Core.Path.{_≡_}
+use mathlib.Core.Path.{_≡_, refl}
 use mathlib.Core.List.{[]}
 use mathlib.Core.Option.{none}
 use borrow.Author.Needs.{needs}
@@ -6,16 +6,16 @@ use Rattle.money.specs.Causes.{firstOf}
 use Rattle.book.specs.Entry.{Size}
 use Rattle.book.specs.Size.{sizeCauses, sized}
 use Rattle.book.specs.Step.{eventCauses}
-use Rattle.book.specs.Flat.{tradesOf}
+use Rattle.book.specs.Flat.{Rows, bookOf, tradesOf}
 use Rattle.book.proofs.Refusing.{turned-down, carried-out, done}
 use Rattle.book.proofs.size.set_size.Statement.{statement}
 use Rattle.book.proofs.size.set_size.Tie as tie
 
-none-applies : (c : tie.Else1) → firstOf (sizeCauses (c .before .before .before .args .book) (tradesOf (c .before .before .before .args .table .now)) (c .before .before .before .args .size)) ≡ none
+none-applies : (c : tie.Else1) (rows : Rows) → firstOf (sizeCauses (bookOf (c .before .before .before .args .desk) rows) (tradesOf (c .before .before .before .args .table .now)) (c .before .before .before .args .size)) ≡ none
 unfolding eventCauses
-none-applies c =
+none-applies c rows =
     let a = c .before .before .before .args in
-    done [] (a .book) (tradesOf (a .table .now)) (Size (a .size)) _ (c .before .size-refusal .ensures) (c .if1 .left)
+    done [] (bookOf (a .desk) rows) (tradesOf (a .table .now)) (Size (a .size)) _ (c .before .size-refusal .ensures rows) (c .if1 .left)
 
 size-refusal-requires : tie.Need-size-refusal-requires
 size-refusal-requires c κs = search needs
@@ -24,14 +24,14 @@ answered-requires : tie.Need-answered-requires
 answered-requires c κs = search needs
 
 returns : tie.Need-returns
-returns c = turned-down _ _ _ (c .before .before .size-refusal .ensures) (c .before .if1 .taken) (c .answered .ensures)
+returns c rows = turned-down _ _ rows _ _ (c .before .before .size-refusal .ensures rows) (c .before .if1 .taken) (c .answered .ensures) refl
 
 answered-requires-2 : tie.Need-answered-requires-2
 answered-requires-2 c κs = search needs
 
 returns-2 : tie.Need-returns-2
 unfolding sized
-returns-2 c = carried-out _ _ _ (none-applies (c .before)) (c .answered2 .ensures)
+returns-2 c rows = carried-out _ _ rows _ _ (none-applies (c .before) rows) (c .answered2 .ensures) refl
 
 pub set-size-spec : {M : Type 1} → statement M
 set-size-spec =

@@ -2,8 +2,10 @@ use mathlib.Core.Path.{_≡_, refl, _∙_}
 use mathlib.Core.List.{[]}
 use mathlib.Core.Option.{none}
 use Prim.Native.Nat.{ℕ, _<_}
+use native.Mathlib.Omega.{arith}
 use borrow.Author.Needs.{needs}
 use borrow.Author.Tests.{leb-false}
+use lib.ListN.{length-set}
 use Rattle.money.specs.Causes.{firstOf}
 use Rattle.money.proofs.Refusals.{failed}
 use Rattle.book.specs.Limits.{applicationLimit}
@@ -11,19 +13,28 @@ use Rattle.book.specs.Book.{Book}
 use Rattle.book.specs.Entry.{Withdraw}
 use Rattle.book.specs.Withdraw.{withdrawCauses, withdrawn}
 use Rattle.book.specs.Step.{eventCauses}
+use Rattle.book.specs.Flat.{rowsOf, bookOf}
 use Rattle.book.proofs.Refusing.{turned-down, carried-out, done}
 use Rattle.book.proofs.withdraw.withdraw.Statement.{statement}
 use Rattle.book.proofs.withdraw.withdraw.Tie as tie
 
-none-applies : (c : tie.Else1) → firstOf (withdrawCauses (c .before .before .args .book) (c .before .before .args .kind) (c .before .before .args .units)) ≡ none
+abbrev start : tie.Else1 → tie.Start
+start c = c .before .before .before .before .before .before .before
+
+none-applies : (c : tie.Else1) → (let a = start c .args in firstOf (withdrawCauses (bookOf (a .desk) (rowsOf (a .held .now) (a .kinds .now) (a .units .now))) (a .kind) (a .amount)) ≡ none)
 unfolding eventCauses
 none-applies c =
-    let a = c .before .before .args in
-    done [] (a .book) [] (Withdraw (a .kind) (a .units)) _ (c .before .withdraw-refusal .ensures) (c .if1 .left)
+    let a = start c .args in
+    done [] (bookOf (a .desk) (rowsOf (a .held .now) (a .kinds .now) (a .units .now))) [] (Withdraw (a .kind) (a .amount)) _ (c .before .withdraw-refusal .ensures) (c .if1 .left)
 
-room : (book : Book) (kind units : ℕ) → firstOf (withdrawCauses book kind units) ≡ none → book .withdrawals .count < applicationLimit
+room-for-one : (book : Book) (kind units : ℕ) → firstOf (withdrawCauses book kind units) ≡ none → book .withdrawals .count < applicationLimit
 unfolding withdrawCauses
-room book kind units e = leb-false applicationLimit (book .withdrawals .count) (failed (withdrawCauses book kind units) e 17 .1 .1 .1 .1 .1 .0 refl)
+room-for-one book kind units e = leb-false applicationLimit (book .withdrawals .count) (failed (withdrawCauses book kind units) e 17 .1 .1 .1 .1 .1 .0 refl)
+
+room : (c : tie.Else1) → start c .args .desk .applications < 128
+room c =
+    let a = start c .args in
+    room-for-one (bookOf (a .desk) (rowsOf (a .held .now) (a .kinds .now) (a .units .now))) (a .kind) (a .amount) (none-applies c)
 
 withdraw-refusal-requires : tie.Need-withdraw-refusal-requires
 withdraw-refusal-requires c κs = search needs
@@ -31,18 +42,42 @@ withdraw-refusal-requires c κs = search needs
 answered-requires : tie.Need-answered-requires
 answered-requires c κs = search needs
 
-returns : tie.Need-returns
-returns c = turned-down _ _ _ (c .before .before .withdraw-refusal .ensures) (c .before .if1 .taken) (c .answered .ensures)
+same-length : tie.Need-same-length
+same-length c = search needs
 
-with-application-requires : tie.Need-with-application-requires
-with-application-requires c κs = room _ _ _ (none-applies (c .before))
+same-length-2 : tie.Need-same-length-2
+same-length-2 c = search needs
+
+returns : tie.Need-returns
+returns c = turned-down _ _ _ _ _ (c .before .before .withdraw-refusal .ensures) (c .before .if1 .taken) (c .answered .ensures) refl
+
+slice-write-kinds : tie.Need-slice-write-kinds
+slice-write-kinds c = omega (arith, room c, start c .pre .0 .1)
+
+mul-units : tie.Need-mul-units
+mul-units c = omega (arith, room c)
+
+slice-write-units : tie.Need-slice-write-units
+slice-write-units c = omega (arith, room c, start c .pre .0 .2)
+
+add-next : tie.Need-add-next
+add-next c = omega (arith, room c)
 
 answered-requires-2 : tie.Need-answered-requires-2
 answered-requires-2 c κs = search needs
 
+same-length-3 : tie.Need-same-length-3
+same-length-3 c = simp length-set
+
+same-length-4 : tie.Need-same-length-4
+same-length-4 c = simp length-set
+
 returns-2 : tie.Need-returns-2
 unfolding withdrawn
-returns-2 c = carried-out _ _ _ (none-applies (c .before .before .before)) (c .answered2 .ensures ∙ rw (c .before .with-application .ensures))
+returns-2 c =
+    let q = c .before in
+    let a = start q .args in
+    carried-out _ _ (rowsOf (a .held .now) (a .kinds .now) (a .units .now)) _ _ (none-applies q) (c .answered2 .ensures) refl
 
 pub withdraw-spec : {M : Type 1} → statement M
 withdraw-spec =
@@ -50,7 +85,14 @@ withdraw-spec =
     (tie.spec
     withdraw-refusal-requires
     answered-requires
+    same-length
+    same-length-2
     returns
-    with-application-requires
+    slice-write-kinds
+    mul-units
+    slice-write-units
+    add-next
     answered-requires-2
+    same-length-3
+    same-length-4
     returns-2)

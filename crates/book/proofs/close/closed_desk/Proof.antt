@@ -1,7 +1,8 @@
+use mathlib.Core.Path.{sym}
 use borrow.Author.Needs.{needs}
 use Rattle.book.specs.Close.{isShortClose, closedBook}
-use Rattle.book.proofs.close.closed_book.Statement.{statement}
-use Rattle.book.proofs.close.closed_book.Tie as tie
+use Rattle.book.proofs.close.closed_desk.Statement.{statement}
+use Rattle.book.proofs.close.closed_desk.Tie as tie
 
 value-of-requires : tie.Need-value-of-requires
 value-of-requires c κs = search needs
@@ -15,21 +16,17 @@ short-at-close-requires c κs = search needs
 closed-standing-requires : tie.Need-closed-standing-requires
 closed-standing-requires c κs = search needs
 
-no-applications-requires : tie.Need-no-applications-requires
-no-applications-requires c κs = search needs
-
 returns : tie.Need-returns
 unfolding closedBook isShortClose
-returns c = λ calendar table nets end left kept.
-    rw (c .no-applications .ensures, c .before .closed-standing .ensures, c .before .before .short-at-close .ensures, c .before .before .before .is-short .ensures, c .before .before .before .before .value-of .ensures, nets, end, left, kept)
+returns c = λ calendar rows table nets end left kept.
+    rw (c .closed-standing .ensures, c .before .short-at-close .ensures, c .before .before .is-short .ensures, c .before .before .before .value-of .ensures, nets, sym end, left, kept)
 
-pub closed-book-spec : {M : Type 1} → statement M
-closed-book-spec =
+pub closed-desk-spec : {M : Type 1} → statement M
+closed-desk-spec =
     tie.close
     (tie.spec
     value-of-requires
     is-short-requires
     short-at-close-requires
     closed-standing-requires
-    no-applications-requires
     returns)

@@ -1,7 +1,7 @@
 use borrow.Author.Needs.{needs}
 use Rattle.book.specs.Pay.{paidBook}
-use Rattle.book.proofs.pay.paid_book.Statement.{statement}
-use Rattle.book.proofs.pay.paid_book.Tie as tie
+use Rattle.book.proofs.pay.paid.Statement.{statement}
+use Rattle.book.proofs.pay.paid.Tie as tie
 
 settled-requires : tie.Need-settled-requires
 settled-requires c κs = search needs
@@ -14,10 +14,10 @@ paid-standing-requires c κs = search needs
 
 returns : tie.Need-returns
 unfolding paidBook
-returns c = rw (c .paid-standing .ensures, c .before .cash-moved .ensures, c .before .before .settled .ensures)
+returns c rows = rw (c .paid-standing .ensures, c .before .cash-moved .ensures, c .before .before .settled .ensures)
 
-pub paid-book-spec : {M : Type 1} → statement M
-paid-book-spec =
+pub paid-spec : {M : Type 1} → statement M
+paid-spec =
     tie.close
     (tie.spec
     settled-requires

@@ -1,0 +1,14 @@
+-- What fitness tells of a security in its row.
+-- For the events that change one. Assumes nothing.
+use mathlib.Core.Path.{_≡_, subst}
+use mathlib.Core.Bool.{true}
+use mathlib.Core.List.{List}
+use Prim.Native.Nat.{ℕ, _<_}
+use Rattle.book.specs.Book.{Security, Guarantee}
+use Rattle.book.specs.Fit.{securitiesFit}
+use Rattle.book.specs.Flat.{securityIn, securitiesOf, vaultOf}
+use Rattle.book.proofs.FitParts.{SecurityFits, securities-fit}
+use Rattle.book.proofs.HeldLaws.{security-at-row}
+
+pub row-fits : (held : List ℕ) (guarantee : Guarantee) → securitiesFit (vaultOf guarantee (securitiesOf held)) ≡ true → (kind : ℕ) → kind < 32 → SecurityFits (securityIn held kind)
+row-fits held guarantee e kind h = subst SecurityFits (security-at-row held guarantee kind h) (securities-fit (vaultOf guarantee (securitiesOf held)) e kind h)
