@@ -1,4 +1,4 @@
--- The evening: securities that arrive one after another, an application's test by its parts, what each application keeps, and headroom's tests.
+-- The evening: securities that arrive one after another, an application's test by its parts, one kind looked at and written back, what each application keeps, and headroom's tests.
 -- Assumes nothing.
 use mathlib.Core.Path.{_≡_, refl, sym, ap, _∙_}
 use mathlib.Core.Bool.{Bool, true, false, cond, _&&_}
@@ -220,7 +220,7 @@ same-test a b c d below above =
     by-test (λ t. t ≡ ltb c d) (ltb a b) (λ t. sym (lt-ltb c d (below (ltb-true a b t)))) (λ t. sym (le-ltb c d (above (ltb-false a b t))))
 
 -- less O, a number is below q if it is below O + q
-pub less-below : (m o q : ℕ) → ltZ (subℕ m o) (pos q) ≡ ltb m (o + q)
+less-below : (m o q : ℕ) → ltZ (subℕ m o) (pos q) ≡ ltb m (o + q)
 less-below m o q =
     by-test (λ t. ltZ (cond t (negsuc (o - suc m)) (pos (m - o))) (pos q) ≡ ltb m (o + q)) (ltb m o)
     (λ t. sym (lt-ltb m (o + q) (omega (arith, ltb-true m o t))))

@@ -1,5 +1,5 @@
 -- What a fit book tells the code: its trades stand in the flat table within their limits, and can be redeemed on its payment day.
--- For the events. Assumes nothing.
+-- For the events, the fitness test and the cover. Assumes nothing.
 use mathlib.Core.Path.{_≡_, refl, sym, ap, _∙_}
 use mathlib.Core.Bool.{true}
 use mathlib.Core.List.{List}
@@ -87,6 +87,3 @@ module _ (calendar : Calendar) (book : Book) (table : List ℕ) (fits : fit cale
         begun = begun-by-payment calendar (book .standing .day) (book .standing .phase) table (book .trades) (rw fit-in-use at day);
         term = payment-within calendar (book .standing .day) few;
       }
-
-  pub fit-redeemable-on : (today : ℕ) → length calendar ≤ 1200 → book .standing .day ≡ On today → Redeemable table (book .trades) (paymentDay calendar (On today))
-  fit-redeemable-on today few e = rw e at (fit-redeemable few)

@@ -1,10 +1,10 @@
 -- What fitness tells of a security in its row.
--- For the events that change one. Assumes nothing.
+-- For Pledge. Assumes nothing.
 use mathlib.Core.Path.{_≡_, subst}
 use mathlib.Core.Bool.{true}
 use mathlib.Core.List.{List}
 use Prim.Native.Nat.{ℕ, _<_}
-use Rattle.book.specs.Book.{Security, Guarantee}
+use Rattle.book.specs.Book.{Guarantee}
 use Rattle.book.specs.Fit.{securitiesFit}
 use Rattle.book.specs.Flat.{securityIn, securitiesOf, vaultOf}
 use Rattle.book.proofs.FitParts.{SecurityFits, securities-fit}

@@ -10,7 +10,7 @@ use native.Mathlib.Nat.{add-zero}
 use native.Mathlib.Omega.{arith}
 use native.Mathlib.Decide.{decLt, ℕ-discrete}
 use lib.ListN.{length, getD, set, length-append, length-set, List·getD-append}
-use lib.Seq.{sets, length-sets, getD-at, getD-set-same, getD-set-other, ext-getD}
+use lib.Seq.{sets, getD-at, getD-set-same, getD-set-other, ext-getD}
 use Rattle.book.specs.Book.{Security, Guarantee, noSecurity}
 use Rattle.book.specs.Vault.{securityAt}
 use Rattle.book.specs.Fit.{securityFit, securitiesFit}
@@ -21,16 +21,13 @@ use Rattle.book.proofs.StoreLaws.{getD-sets-inside, getD-sets-outside}
 
 -- ---- which security stands where
 
-pub no-securities : (held : List ℕ) → securitiesTo held 0 ≡ []
+no-securities : (held : List ℕ) → securitiesTo held 0 ≡ []
 unfolding securitiesTo
 no-securities held = refl
 
-pub next-security : (held : List ℕ) (n : ℕ) → securitiesTo held (suc n) ≡ securitiesTo held n ++ (securityIn held n ∷ [])
+next-security : (held : List ℕ) (n : ℕ) → securitiesTo held (suc n) ≡ securitiesTo held n ++ (securityIn held n ∷ [])
 unfolding securitiesTo
 next-security held n = refl
-
-pub one-more-security : (held : List ℕ) (n : ℕ) → securitiesTo held (n + 1) ≡ securitiesTo held n ++ (securityIn held n ∷ [])
-one-more-security held n = rw add-one (next-security held n)
 
 pub length-securities : (held : List ℕ) (n : ℕ) → length (securitiesTo held n) ≡ n
 length-securities held zero = ap length (no-securities held)
@@ -51,7 +48,7 @@ pub security-at-row : (held : List ℕ) (guarantee : Guarantee) (kind : ℕ) →
 security-at-row held guarantee kind h = security-below held 32 kind h
 
 -- rows with the same securities in each place are the same
-pub same-securities : (held : List ℕ) (securities : List Security) → length securities ≡ 32 → ((i : ℕ) → i < 32 → securityIn held i ≡ getD securities i noSecurity) → securitiesOf held ≡ securities
+same-securities : (held : List ℕ) (securities : List Security) → length securities ≡ 32 → ((i : ℕ) → i < 32 → securityIn held i ≡ getD securities i noSecurity) → securitiesOf held ≡ securities
 same-securities held securities e h =
     ext-getD noSecurity (securitiesOf held) securities (length-securities held 32 ∙ sym e)
     (λ i l.

@@ -32,7 +32,7 @@ pub mod RedemptionLaws
 pub mod PackingLaws
 pub mod SortLaws
 pub mod MergeLaws
--- laws for the code: the vault and the evening
+-- laws for the code: the core's book, the vault and the evening
 pub mod HeldLaws
 pub mod HeldFit
 pub mod RowLaws

@@ -4,12 +4,12 @@ use mathlib.Core.Path.{_≡_, refl}
 use mathlib.Core.List.{List, [], _∷_, map}
 use Prim.Native.Nat.{ℕ, _+_}
 use lib.IntN.{natAbs}
-use lib.ListN.{replicate}
+use lib.ListN.{replicate, drop, length}
 use Rattle.money.specs.Units.{fen, sheets, ticks}
 use Rattle.money.specs.Causes.{firstOf}
 use Rattle.money.specs.Days.{Calendar, trades, firstTrading, atOrAfter, nextAfter, earliest}
-use Rattle.money.specs.Money.{principal, income, redemption, redemptionAmount}
-use Rattle.money.specs.Collateral.{kindValue, kindWorth}
+use Rattle.money.specs.Money.{principal, income, redemption}
+use Rattle.money.specs.Collateral.{kindValue}
 use Rattle.book.specs.Folds.{sumBelow, allBelow, inTurn, every}
 use Rattle.book.specs.Book.{Status, Normal, Suspended, Terminated, FailedRun, NotFailed, FailedOnce, FailedTwice, ShortRun, NotShort, ShortOnce, ShortTwice, ShortThrice, freshBook}
 use Rattle.book.specs.Days.{following, paymentDay, followed}
@@ -29,8 +29,9 @@ use Rattle.book.specs.Early.{earlyCauses, earlyBook, earlyTable}
 use Rattle.book.specs.Pay.{payCauses, paidBook, failedMore}
 use Rattle.book.specs.Close.{shortMore, maturedTrades, maturedSheets, maturedAmount, closeCauses, allArrived, takenOut, covered, mayGo, applications, evening, closedTable, isShortClose, closedBook, closeAnswer}
 use Rattle.book.specs.Step.{eventCauses, causes, act, step}
-use Rattle.book.specs.Run.{run, lastBook, lastTable}
-use Rattle.book.proofs.Cases.{Case, _gives_, _then_, daily, initial, covers, failedOnce, after, tableAfter, answerTo, statusNumber}
+use Rattle.book.specs.Run.{Seen, run}
+use Rattle.book.specs.Demand3.{seenFrom}
+use Rattle.book.proofs.Cases.{_then_, noTrades, daily, initial, covers, failedOnce, statusNumber}
 
 -- ---- the status at Open, over every old status and both runs (arts. 69, 70)
 
@@ -59,7 +60,36 @@ status-of-all-36 = refl
 pub runs-grow-to-their-ends : (map failedMore allFailed ≡ FailedOnce ∷ FailedTwice ∷ FailedTwice ∷ []) × (map shortMore allShort ≡ ShortOnce ∷ ShortTwice ∷ ShortThrice ∷ ShortThrice ∷ [])
 runs-grow-to-their-ends = (refl, refl)
 
--- ---- cases
+-- ---- journals, told by rows: the answer's number, applications done and dropped, the size of headroom, own cash
+
+abbrev rowOf : Seen → List ℕ
+rowOf seen =
+    seen .left .answer .number
+    ∷ seen .left .answer .done
+    ∷ seen .left .answer .dropped
+    ∷ natAbs (headroom (seen .left .book) (seen .left .table))
+    ∷ seen .left .book .cash .own .0
+    ∷ []
+
+-- the rows of some entries after others; who opens this opens every rule, so that it computes
+unfoldable pub rowsAfter : Calendar → (earlier entries : List Entry) → List (List ℕ)
+unfolding freshBook run step causes eventCauses act firstOf fit every capacityFit securitiesFit allBelow cashFit allTrades sizeFit netsFit differ withdrawalsFit followed following paymentDay trades firstTrading atOrAfter nextAfter earliest sizeCauses sized fundInCauses fundedIn fundOutCauses fundedOut rateCauses rated openCauses openedBook openedTable statusAtOpen turnsTerminated pledgeCauses pledged payCauses paidBook closeCauses closedBook closedTable closeAnswer maturedTrades maturedSheets maturedAmount evening applications inTurn allArrived isShortClose total outstanding remaining value sumBelow kindValue headroom initialCauses initialBook initialTable onTable principal redemption income freezeCauses frozen withdrawCauses withdrawn applied earlyCauses earlyBook earlyTable tradeOf takeOff takenOut covered mayGo
+rowsAfter calendar earlier entries = map rowOf (drop (length earlier) (seenFrom calendar noTrades (earlier then entries)))
+
+abbrev early : (contract : ℕ) → Entry
+early contract = Known (Early (record { 0 = contract }) (sheets 10) (ticks 1825))
+
+-- frozen units do not count; kind 32 has no rate to set, kind 33 is no kind; a refused Close carries 0 for all; what does not decode is 2
+pub units-and-kinds : rowsAfter daily covers (Known (Freeze 0 50) ∷ Known (Rate 32 9000) ∷ Known (Rate 31 9000) ∷ Known (Pledge 33 1) ∷ Known Close ∷ Undecodable ∷ []) ≡
+    (0 ∷ 0 ∷ 0 ∷ 135 ∷ 5000000 ∷ [])
+    ∷ (3 ∷ 0 ∷ 0 ∷ 135 ∷ 5000000 ∷ [])
+    ∷ (0 ∷ 0 ∷ 0 ∷ 135 ∷ 5000000 ∷ [])
+    ∷ (3 ∷ 0 ∷ 0 ∷ 135 ∷ 5000000 ∷ [])
+    ∷ (4 ∷ 0 ∷ 0 ∷ 135 ∷ 5000000 ∷ [])
+    ∷ (2 ∷ 0 ∷ 0 ∷ 135 ∷ 5000000 ∷ [])
+    ∷ []
+unfolding rowsAfter
+units-and-kinds = refl
 
 -- thirteen words in which every day trades: 365 days ahead and more
 abbrev year : Calendar
@@ -67,6 +97,27 @@ year = replicate 13 4294967295
 
 abbrev dueIn : ℕ → Entry
 dueIn days = initial 10 7 3650 1000 (1 + days)
+
+-- 15 sheets are no multiple of 10, 10 are done; due 366 days ahead does not fit, nor does today, 365 does
+pub sheets-and-terms : rowsAfter year covers (initial 15 7 3650 1000 4 ∷ initial 10 8 3650 1000 4 ∷ dueIn 366 ∷ dueIn 0 ∷ dueIn 365 ∷ []) ≡
+    (7 ∷ 0 ∷ 0 ∷ 180 ∷ 5000000 ∷ [])
+    ∷ (0 ∷ 0 ∷ 0 ∷ 170 ∷ 5000000 ∷ [])
+    ∷ (9 ∷ 0 ∷ 0 ∷ 170 ∷ 5000000 ∷ [])
+    ∷ (9 ∷ 0 ∷ 0 ∷ 170 ∷ 5000000 ∷ [])
+    ∷ (0 ∷ 0 ∷ 0 ∷ 160 ∷ 5000000 ∷ [])
+    ∷ []
+unfolding rowsAfter
+sheets-and-terms = refl
+
+-- a suspended firm begins no trade, and may redeem early what is on its table
+pub suspended : rowsAfter daily failedOnce (Known Open ∷ initial 10 8 3650 1000 6 ∷ early 9 ∷ early 7 ∷ []) ≡
+    (0 ∷ 0 ∷ 0 ∷ 80 ∷ 5000000 ∷ [])
+    ∷ (6 ∷ 0 ∷ 0 ∷ 80 ∷ 5000000 ∷ [])
+    ∷ (10 ∷ 0 ∷ 0 ∷ 80 ∷ 5000000 ∷ [])
+    ∷ (0 ∷ 0 ∷ 0 ∷ 90 ∷ 5000000 ∷ [])
+    ∷ []
+unfolding rowsAfter
+suspended = refl
 
 -- 200 units of kind 0 and 10,000 fen of guarantee cash count from day 1 on
 abbrev withCash : List Entry
@@ -83,89 +134,33 @@ withCash =
     ∷ Known Open
     ∷ []
 
+-- on the due day it is too late to redeem early
+pub due : rowsAfter daily (withCash then (initial 100 7 3650 1000 2 ∷ Known Pay ∷ Known Close ∷ Known Open ∷ [])) (early 7 ∷ []) ≡
+    (9 ∷ 0 ∷ 0 ∷ 81 ∷ 4990000 ∷ [])
+    ∷ []
+unfolding rowsAfter
+due = refl
+
 -- 100 sheets stand, and three applications: the second asks for more than cover allows
 abbrev applied3 : List Entry
 applied3 = withCash then (initial 100 7 3650 1000 6 ∷ Known (Withdraw 0 50) ∷ Known (Withdraw 0 100) ∷ Known (Withdraw 32 10000) ∷ Known Pay ∷ [])
 
--- the same on a day whose payment failed
+-- withdrawals: done, dropped for want of cover, done; cash goes to own
+pub withdrawals : rowsAfter daily applied3 (Known Close ∷ []) ≡
+    (0 ∷ 2 ∷ 1 ∷ 35 ∷ 5000000 ∷ [])
+    ∷ []
+unfolding rowsAfter
+withdrawals = refl
+
+-- an application on a day whose payment failed
 abbrev appliedUnpaid : List Entry
 appliedUnpaid =
     withCash
     then (Known (FundOut Client (fen 3000000)) ∷ initial 100 7 3650 1000 6 ∷ Known Pay ∷ Known Close ∷ Known Open ∷ Known (Withdraw 0 50) ∷ Known Pay ∷ [])
 
-abbrev headroomAfter : List Entry → ℕ
-headroomAfter entries = natAbs (headroom (after daily entries) (tableAfter daily entries))
-
-abbrev ownAfter : List Entry → ℕ
-ownAfter entries = after daily entries .cash .own .0
-
-abbrev pub unitsAndKinds : List Case
-unitsAndKinds =
-    -- frozen units do not count
-    (headroomAfter (covers then (Known (Freeze 0 50) ∷ [])) gives 135)
-    -- kind 32 has no rate to set, kind 33 is no kind
-    ∷ (answerTo daily covers (Known (Rate 32 9000)) .number gives 3)
-    ∷ (answerTo daily covers (Known (Rate 31 9000)) .number gives 0)
-    ∷ (answerTo daily covers (Known (Pledge 33 1)) .number gives 3)
+-- on such a day every application is dropped
+pub unpaid : rowsAfter daily appliedUnpaid (Known Close ∷ []) ≡
+    (0 ∷ 0 ∷ 1 ∷ 81 ∷ 4990000 ∷ [])
     ∷ []
-
-pub units-and-kinds-shown : map (λ (c : Case). c .gives) unitsAndKinds ≡ map (λ (c : Case). c .says) unitsAndKinds
-unfolding redemptionAmount kindWorth freshBook lastBook lastTable step causes eventCauses act firstOf fit every capacityFit securitiesFit allBelow cashFit allTrades sizeFit netsFit differ withdrawalsFit followed following paymentDay trades firstTrading atOrAfter nextAfter earliest sizeCauses sized fundInCauses fundedIn fundOutCauses fundedOut rateCauses rated openCauses openedBook openedTable statusAtOpen turnsTerminated pledgeCauses pledged payCauses paidBook closeCauses closedBook closedTable closeAnswer maturedTrades maturedSheets maturedAmount evening applications inTurn allArrived isShortClose total outstanding remaining value sumBelow kindValue headroom initialCauses initialBook initialTable onTable principal redemption income freezeCauses frozen withdrawCauses withdrawn applied earlyCauses earlyBook earlyTable tradeOf takeOff takenOut covered mayGo
-units-and-kinds-shown = refl
-
-abbrev pub sheetsAndTerms : List Case
-sheetsAndTerms =
-    -- 10 sheets are done, 15 are no multiple of 10
-    (answerTo daily covers (initial 10 7 3650 1000 4) .number gives 0)
-    ∷ (answerTo daily covers (initial 15 7 3650 1000 4) .number gives 7)
-    -- due 365 days ahead fits, 366 does not, nor does today
-    ∷ (answerTo year covers (dueIn 365) .number gives 0)
-    ∷ (answerTo year covers (dueIn 366) .number gives 9)
-    ∷ (answerTo year covers (dueIn 0) .number gives 9)
-    ∷ []
-
-pub sheets-and-terms-shown : map (λ (c : Case). c .gives) sheetsAndTerms ≡ map (λ (c : Case). c .says) sheetsAndTerms
-unfolding redemptionAmount kindWorth freshBook lastBook lastTable step causes eventCauses act firstOf fit every capacityFit securitiesFit allBelow cashFit allTrades sizeFit netsFit differ withdrawalsFit followed following paymentDay trades firstTrading atOrAfter nextAfter earliest sizeCauses sized fundInCauses fundedIn fundOutCauses fundedOut rateCauses rated openCauses openedBook openedTable statusAtOpen turnsTerminated pledgeCauses pledged payCauses paidBook closeCauses closedBook closedTable closeAnswer maturedTrades maturedSheets maturedAmount evening applications inTurn allArrived isShortClose total outstanding remaining value sumBelow kindValue headroom initialCauses initialBook initialTable onTable principal redemption income freezeCauses frozen withdrawCauses withdrawn applied earlyCauses earlyBook earlyTable tradeOf takeOff takenOut covered mayGo
-sheets-and-terms-shown = refl
-
-abbrev pub suspendedAndDue : List Case
-suspendedAndDue =
-    -- a suspended firm begins no trade, and may redeem early; on the due day it is too late
-    (answerTo daily (failedOnce then (Known Open ∷ [])) (initial 10 8 3650 1000 6) .number gives 6)
-    ∷ (answerTo daily (failedOnce then (Known Open ∷ [])) (Known (Early (record { 0 = 7 }) (sheets 10) (ticks 1825))) .number gives 0)
-    ∷ (answerTo daily (failedOnce then (Known Open ∷ [])) (Known (Early (record { 0 = 9 }) (sheets 10) (ticks 1825))) .number gives 10)
-    ∷ (answerTo daily (withCash then (initial 100 7 3650 1000 2 ∷ Known Pay ∷ Known Close ∷ Known Open ∷ [])) (Known (Early (record { 0 = 7 }) (sheets 10) (ticks 1825))) .number gives 9)
-    ∷ []
-
-pub suspended-and-due-shown : map (λ (c : Case). c .gives) suspendedAndDue ≡ map (λ (c : Case). c .says) suspendedAndDue
-unfolding redemptionAmount kindWorth freshBook lastBook lastTable step causes eventCauses act firstOf fit every capacityFit securitiesFit allBelow cashFit allTrades sizeFit netsFit differ withdrawalsFit followed following paymentDay trades firstTrading atOrAfter nextAfter earliest sizeCauses sized fundInCauses fundedIn fundOutCauses fundedOut rateCauses rated openCauses openedBook openedTable statusAtOpen turnsTerminated pledgeCauses pledged payCauses paidBook closeCauses closedBook closedTable closeAnswer maturedTrades maturedSheets maturedAmount evening applications inTurn allArrived isShortClose total outstanding remaining value sumBelow kindValue headroom initialCauses initialBook initialTable onTable principal redemption income freezeCauses frozen withdrawCauses withdrawn applied earlyCauses earlyBook earlyTable tradeOf takeOff takenOut covered mayGo
-suspended-and-due-shown = refl
-
-abbrev pub withdrawals : List Case
-withdrawals =
-    -- withdrawals: done, dropped for want of cover, done; cash goes to own
-    (answerTo daily applied3 (Known Close) .done gives 2)
-    ∷ (answerTo daily applied3 (Known Close) .dropped gives 1)
-    ∷ (ownAfter (applied3 then (Known Close ∷ [])) gives 5000000)
-    ∷ (headroomAfter (applied3 then (Known Close ∷ [])) gives 35)
-    ∷ []
-
-pub withdrawals-shown : map (λ (c : Case). c .gives) withdrawals ≡ map (λ (c : Case). c .says) withdrawals
-unfolding redemptionAmount kindWorth freshBook lastBook lastTable step causes eventCauses act firstOf fit every capacityFit securitiesFit allBelow cashFit allTrades sizeFit netsFit differ withdrawalsFit followed following paymentDay trades firstTrading atOrAfter nextAfter earliest sizeCauses sized fundInCauses fundedIn fundOutCauses fundedOut rateCauses rated openCauses openedBook openedTable statusAtOpen turnsTerminated pledgeCauses pledged payCauses paidBook closeCauses closedBook closedTable closeAnswer maturedTrades maturedSheets maturedAmount evening applications inTurn allArrived isShortClose total outstanding remaining value sumBelow kindValue headroom initialCauses initialBook initialTable onTable principal redemption income freezeCauses frozen withdrawCauses withdrawn applied earlyCauses earlyBook earlyTable tradeOf takeOff takenOut covered mayGo
-withdrawals-shown = refl
-
-abbrev pub unpaidAndRefused : List Case
-unpaidAndRefused =
-    -- on a day whose payment failed every application is dropped
-    (answerTo daily appliedUnpaid (Known Close) .done gives 0)
-    ∷ (answerTo daily appliedUnpaid (Known Close) .dropped gives 1)
-    -- a refused Close carries 0 for all three
-    ∷ (answerTo daily covers (Known Close) .number gives 4)
-    ∷ (answerTo daily covers (Known Close) .dropped gives 0)
-    -- what does not decode is 2
-    ∷ (answerTo daily covers Undecodable .number gives 2)
-    ∷ []
-
-pub unpaid-and-refused-shown : map (λ (c : Case). c .gives) unpaidAndRefused ≡ map (λ (c : Case). c .says) unpaidAndRefused
-unfolding redemptionAmount kindWorth freshBook lastBook lastTable step causes eventCauses act firstOf fit every capacityFit securitiesFit allBelow cashFit allTrades sizeFit netsFit differ withdrawalsFit followed following paymentDay trades firstTrading atOrAfter nextAfter earliest sizeCauses sized fundInCauses fundedIn fundOutCauses fundedOut rateCauses rated openCauses openedBook openedTable statusAtOpen turnsTerminated pledgeCauses pledged payCauses paidBook closeCauses closedBook closedTable closeAnswer maturedTrades maturedSheets maturedAmount evening applications inTurn allArrived isShortClose total outstanding remaining value sumBelow kindValue headroom initialCauses initialBook initialTable onTable principal redemption income freezeCauses frozen withdrawCauses withdrawn applied earlyCauses earlyBook earlyTable tradeOf takeOff takenOut covered mayGo
-unpaid-and-refused-shown = refl
+unfolding rowsAfter
+unpaid = refl

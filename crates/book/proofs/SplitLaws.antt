@@ -1,11 +1,11 @@
 -- A book taken apart and put together is the book.
 -- For the calls that take a whole book. Assumes nothing.
-use mathlib.Core.Path.{_≡_, refl, ap, _∙_}
+use mathlib.Core.Path.{_≡_, ap, _∙_}
 use mathlib.Core.List.{List}
 use Prim.Native.Nat.{ℕ}
 use Rattle.book.specs.Book.{Security, Book}
 use Rattle.book.specs.declared.desk.Desk.{Desk}
-use Rattle.book.specs.Flat.{securitiesOf, Rows, rowsOf, bookOf, deskOf}
+use Rattle.book.specs.Flat.{securitiesOf, rowsOf, bookOf, deskOf}
 
 pub whole : (book : Book) (held : List ℕ) {desk : Desk} {kinds units : List ℕ} → desk ≡ deskOf book → securitiesOf held ≡ book .vault .securities → kinds ≡ book .withdrawals .kinds → units ≡ book .withdrawals .units → bookOf desk (rowsOf held kinds units) ≡ book
 whole book held {desk} {kinds} {units} d s k u =

@@ -1,5 +1,5 @@
 -- What a store into the flat table changes: one number of a trade, or its six numbers in a row, is one trade set.
--- For put_sheets and put_trade. Assumes nothing.
+-- For put_sheets and put_trade, and for HeldLaws and TableLaws. Assumes nothing.
 use mathlib.Core.Path.{_≡_, refl, sym, ap, _∙_}
 use mathlib.Core.Logic.{_⊎_, inl, inr, ⊎-elim}
 use mathlib.Core.List.{List, [], _∷_, _++_}

@@ -1,5 +1,5 @@
 -- The lent table against its flat copy: when the copy has the table's trades, how a table is written from it, and a table that is too long.
--- For the functions of table.rt. Assumes nothing.
+-- For the functions of table.rt and copies.rt. Assumes nothing.
 use mathlib.Core.Path.{_≡_, refl, sym, ap, _∙_}
 use mathlib.Core.Bool.{true}
 use mathlib.Core.List.{List, _++_}

@@ -88,10 +88,6 @@ withWithdrawals withdrawals book = record { nets = book .nets; cash = book .cash
 abbrev pub withTrades : ℕ → Book → Book
 withTrades trades book = record { nets = book .nets; cash = book .cash; vault = book .vault; size = book .size; standing = book .standing; withdrawals = book .withdrawals; trades = trades }
 
--- a standing with another phase
-abbrev pub inPhase : Phase → Standing → Standing
-inPhase phase standing = record { day = standing .day; phase = phase; status = standing .status; failed = standing .failed; short = standing .short }
-
 -- ---- a fresh book: "Closed and normal, all numbers 0 (the cash rate isn't kept in it), table and applications empty"
 
 abbrev pub noSecurity : Security

@@ -1,4 +1,4 @@
--- How the core lays its table out, six numbers a trade: what private contracts read it by. No rule of document 01 stands here.
+-- How the core lays out its table, six numbers a trade, and its book, a desk and rows: what private contracts read them by. No rule of document 01 stands here.
 -- Assumes nothing.
 use Prim.Native.Nat.{ℕ, zero, suc, _+_, _*_, _/_, _%_, _≤_}
 use mathlib.Core.Path.{_≡_}

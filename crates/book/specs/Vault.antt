@@ -1,6 +1,6 @@
 -- Collateral, its value V, and headroom. (01, Collateral and headroom; arts. 4, 41 to 43, 54)
 -- Assumes nothing.
-use Prim.Native.Nat.{ℕ, _-_, min}
+use Prim.Native.Nat.{ℕ, min}
 use mathlib.Core.Bool.{Bool, cond}
 use mathlib.Core.List.{List}
 use lib.Dec.{eqb}
@@ -29,9 +29,6 @@ frozenOf vault kind = cond (isCash kind) (vault .guarantee .frozen .0) (security
 
 abbrev pub withSecurity : ℕ → Security → Vault → Vault
 withSecurity kind security vault = record { guarantee = vault .guarantee; securities = set (vault .securities) kind security }
-
-abbrev pub withGuarantee : Guarantee → Vault → Vault
-withGuarantee guarantee vault = record { guarantee = guarantee; securities = vault .securities }
 
 -- ---- value and headroom
 

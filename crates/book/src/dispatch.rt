@@ -30,7 +30,7 @@ use crate::step;
 use crate::withdraw;
 
 // One event on a fit book, under a calendar of at most 1,200 words.
-pub fn event_on(
+fn event_on(
     calendar: &[u32],
     desk: Desk,
     held: &mut [u64],

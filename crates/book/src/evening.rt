@@ -76,7 +76,7 @@ fn as_guarantee(security: Security) -> Guarantee
 }
 
 // Whether an application is done, and V afterwards.
-pub struct Verdict {
+struct Verdict {
     pub goes: bool,
     pub value: u64,
 }

@@ -21,11 +21,12 @@ pub mod answer;
 // A book and its lent table of trades: one event, a run of events, headroom and O.
 pub mod table;
 
-// The core's table: six numbers a trade.
+// The core: its table and its book, and what the events share.
 mod copies;
 mod cover;
 mod days;
 mod desk;
+mod dispatch;
 mod evening;
 mod fit;
 mod flat;
@@ -38,14 +39,12 @@ mod run;
 mod sort;
 mod split;
 mod standing;
+mod step;
 mod trades;
 mod vault;
 
-// The end of the day.
-mod close;
-
 // The events, a file each.
-mod dispatch;
+mod close;
 mod early;
 mod freeze;
 mod funds;
@@ -55,5 +54,4 @@ mod pay;
 mod pledge;
 mod rate;
 mod size;
-mod step;
 mod withdraw;

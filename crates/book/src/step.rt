@@ -1,4 +1,4 @@
-// What an event leaves beside the table.
+// A number alone as the answer on a whole book: for what is refused before the book is taken apart.
 ghost use mathlib.Core.Path.{_≡_};
 ghost use Rattle.book.specs.Book.{answer};
 use crate::answer::Answer;

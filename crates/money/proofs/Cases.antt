@@ -4,7 +4,7 @@ use mathlib.Core.Path.{_≡_, refl}
 use mathlib.Core.List.{List, [], _∷_, map}
 use Prim.Native.Nat.{ℕ, _+_}
 use lib.ListN.{replicate}
-use Rattle.money.specs.Units.{fen, sheets, ticks}
+use Rattle.money.specs.Units.{sheets, ticks}
 use Rattle.money.specs.Causes.{firstOf}
 use Rattle.money.specs.Days.{trades, firstTrading, atOrAfter, nextAfter, earliest, searchResult}
 use Rattle.money.specs.Money.{principal, income, redemption, initialAmount, redemptionAmount}

@@ -1,4 +1,4 @@
-use mathlib.Core.Path.{_≡_, _∙_}
+use mathlib.Core.Path.{_∙_}
 use borrow.Author.Needs.{needs}
 use Rattle.book.proofs.freeze.put_frozen.Statement.{statement}
 use Rattle.book.proofs.freeze.put_frozen.Tie as tie

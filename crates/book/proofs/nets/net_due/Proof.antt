@@ -1,5 +1,4 @@
 use mathlib.Core.Path.{_≡_}
-use borrow.Author.Needs.{needs}
 use mir.Val.{toZ, ofZ}
 use mir.Syntax.{w64}
 use mir.ValLaws.{toZ-ofZ}

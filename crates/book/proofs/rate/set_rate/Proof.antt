@@ -1,5 +1,5 @@
-use mathlib.Core.Path.{_≡_, refl, sym, _∙_, ap}
-use mathlib.Core.List.{List, []}
+use mathlib.Core.Path.{_≡_, refl}
+use mathlib.Core.List.{[]}
 use mathlib.Core.Option.{none}
 use Prim.Native.Nat.{ℕ, _<_}
 use borrow.Author.Needs.{needs}
@@ -7,7 +7,7 @@ use borrow.Author.Tests.{leb-false}
 use Rattle.money.specs.Causes.{firstOf}
 use Rattle.money.proofs.Refusals.{failed}
 use Rattle.book.specs.Entry.{Rate}
-use Rattle.book.specs.Rate.{rateCauses, rated, withRate}
+use Rattle.book.specs.Rate.{rateCauses, rated}
 use Rattle.book.specs.Step.{eventCauses}
 use Rattle.book.specs.Flat.{rowsOf, bookOf}
 use Rattle.book.proofs.HeldLaws.{security-at-row}

@@ -45,7 +45,7 @@ use Rattle.book.specs.Entry.{Entry}
 use Rattle.book.specs.declared.answer.Applied.{Applied}
 use Rattle.book.specs.Step.{Outcome, step}
 use Rattle.book.specs.Flat.{tradesTo, appliedOf}
-use Rattle.book.proofs.WalkAgain.{slice-at, Slice, Shared, lends, comes-home, shares-out, shared-home}
+use Rattle.book.proofs.WalkAgain.{slice-at, Slice, lends, comes-home, shares-out, shared-home}
 use Rattle.book.proofs.WalkCopies.{In, to-in, goes-in, GetsIn, gets-in, Out, to-out, goes-out, GetsOut, gets-out}
 use Rattle.book.proofs.trade.Trade as T
 use Rattle.book.proofs.book.Book as Bk

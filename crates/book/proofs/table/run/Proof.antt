@@ -1,6 +1,6 @@
 -- `run` meets its contract, by a walk of its MIR. A table that is too long is answered at once; else the numbers are a local array, which is lent to `run_by` with the table and the lines.
 -- Assumes nothing.
-use mathlib.Core.Path.{_≡_, refl, sym, _∙_, ap, subst}
+use mathlib.Core.Path.{_≡_, refl, _∙_, ap, subst}
 use Prim.Native.Nat.{ℕ, _*_, _≤_}
 use native.Mathlib.Omega.{arith}
 use mathlib.Core.List.{List, [], _∷_}
