@@ -13,7 +13,7 @@ use Rattle.book.specs.Trades.{Trade}
 use Rattle.book.specs.Vault.{value, outstandingOf, headroom}
 use Rattle.book.specs.Fit.{fit}
 use Rattle.book.specs.Step.{unfit}
-use Rattle.book.specs.Cover.{covered, uncounted, coverOf}
+use Rattle.book.specs.Cover.{counted, uncounted, coverOf}
 use Rattle.book.proofs.FitParts.{fit-parts}
 
 small-difference : (a b : ℕ) → a ≤ 10000000000 → b ≤ 10000000000 → natAbs (subℕ a b) ≤ 10000000000
@@ -28,7 +28,7 @@ module _ (calendar : Calendar) (book : Book) (table : List Trade) where
   unfolding coverOf
   unfit-cover e = rw e
 
-  pub fit-cover : unfit calendar book table ≡ false → coverOf calendar book table ≡ covered book table
+  pub fit-cover : unfit calendar book table ≡ false → coverOf calendar book table ≡ counted book table
   unfolding coverOf
   fit-cover e = rw e
 

@@ -13,7 +13,7 @@ use lib.Seq.{sets}
 use lib.Signed.{ltZ}
 use Rattle.book.specs.Trades.{Trade}
 use Rattle.book.specs.Step.{Outcome}
-use Rattle.book.specs.Cover.{covered}
+use Rattle.book.specs.Cover.{counted}
 use Rattle.book.specs.Listing.{isNegative, lineOf}
 use Rattle.book.specs.Flat.{appliedOf}
 use Rattle.book.specs.declared.answer.Applied.{Applied}
@@ -45,7 +45,7 @@ seven-in-a-row l at a b c d e f g =
 -- ---- what a line tells
 
 -- its line, from what the code has of it
-pub line-told : (left : Outcome) (applied : Applied) (table : List Trade) {cover : Cover} → applied ≡ appliedOf left → table ≡ left .table → cover ≡ covered (applied .book) table
+pub line-told : (left : Outcome) (applied : Applied) (table : List Trade) {cover : Cover} → applied ≡ appliedOf left → table ≡ left .table → cover ≡ counted (applied .book) table
     → (applied .answer .number ∷ isNegative (cover .headroom) ∷ natAbs (cover .headroom) ∷ cover .outstanding .0 ∷ applied .book .cash .own .0 ∷ applied .book .cash .client .0 ∷ (applied .book .vault .guarantee .effective .0 + applied .book .vault .guarantee .arriving .0) ∷ []) ≡ lineOf left
 unfolding lineOf
 line-told left applied table e t c = rw (c, e, t)

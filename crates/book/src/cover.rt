@@ -4,7 +4,7 @@ ghost use mathlib.Core.List.{List};
 ghost use Prim.Native.Nat.{ℕ, _≤_, min};
 ghost use lib.ListN.{length};
 ghost use Rattle.book.specs.Vault.{headroomOf};
-ghost use Rattle.book.specs.Cover.{covered, uncounted, coverOf};
+ghost use Rattle.book.specs.Cover.{counted, uncounted, coverOf};
 ghost use Rattle.book.specs.Flat.{rowsOf, bookOf, FitsHeld, tradesOf};
 use crate::answer::Cover;
 use crate::book::Book;
@@ -36,7 +36,7 @@ fn headroom_from(size: u64, value: u64, outstanding: u64) -> i64
 // Of a fit book.
 pub fn cover_of(calendar: &[u32], desk: Desk, held: &[u64], table: &[u64]) -> Cover
     requires { ⌜ (length (now held) ≡ 128) × (FitsHeld (now calendar) desk (now held) (tradesOf (now table))) ⌝ }
-    ensures { λ r. ⌜ ((kinds units : List ℕ) → r ≡ covered (bookOf desk (rowsOf (now (held .entry)) kinds units)) (tradesOf (now (table .entry)))) ⌝ }
+    ensures { λ r. ⌜ ((kinds units : List ℕ) → r ≡ counted (bookOf desk (rowsOf (now (held .entry)) kinds units)) (tradesOf (now (table .entry)))) ⌝ }
 {
     let guarantee = desk.guarantee;
     let outstanding = trades::outstanding_of(table, desk.trades);

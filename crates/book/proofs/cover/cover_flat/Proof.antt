@@ -3,7 +3,7 @@ use borrow.Author.Needs.{needs}
 use borrow.Author.Tests.{not-true, not-false}
 use Rattle.book.specs.Book.{Book}
 use Rattle.book.specs.Fit.{fit}
-use Rattle.book.specs.Cover.{covered}
+use Rattle.book.specs.Cover.{counted}
 use Rattle.book.specs.Flat.{rowsOf, bookOf, tradesOf}
 use Rattle.book.proofs.StepLaws.{too-many-words, not-fit, not-unfit}
 use Rattle.book.proofs.CoverLaws.{unfit-cover, fit-cover}
@@ -69,7 +69,7 @@ returns-3 c =
     let a = c .before .before .before .before .before .before .before .before .before .before .before .before .before .before .before .before .args in
     let fits = sym (tested test) ∙ not-false _ (c .before .before .if2 .left) in
     c .cover-of .ensures (c .before .before .before .before .before .before .before .before .kinds-of .result) (c .before .before .before .before .before .before .before .units-of .result)
-    ∙ ap (λ (book : Book). covered book (tradesOf (a .table .now))) (apart test)
+    ∙ ap (λ (book : Book). counted book (tradesOf (a .table .now))) (apart test)
     ∙ sym (fit-cover _ _ _ (not-unfit _ _ _ fits (c .before .before .before .before .before .before .before .before .before .before .before .before .before .if1 .left)))
 
 pub cover-flat-spec : {M : Type 1} → statement M
