@@ -58,6 +58,7 @@ pub mod StepLaws
 pub mod Column
 -- laws for the run of encoded events
 pub mod CoverLaws
+pub mod FigureLaws
 pub mod LineLaws
 pub mod RunLaws
 pub mod ListingLaws

@@ -44,7 +44,7 @@ fresh-is-fit calendar table h =
 -- ---- a step
 
 -- where no cause applies, none of the others does
-others-clear : (c : Cause) (cs : List Cause) → firstOf (c ∷ cs) ≡ none → firstOf cs ≡ none
+pub others-clear : (c : Cause) (cs : List Cause) → firstOf (c ∷ cs) ≡ none → firstOf cs ≡ none
 unfolding firstOf
 others-clear c cs e = go (c .applies) e
   where

@@ -26,3 +26,4 @@ pub mod Demand3
 pub mod Listing
 pub mod Sort
 pub mod Flat
+pub mod Figures

@@ -1,19 +1,17 @@
 // Headroom and O of a book.
 ghost use mathlib.Core.Path.{_≡_};
-ghost use mathlib.Core.List.{List};
-ghost use Prim.Native.Nat.{ℕ, _≤_, min};
-ghost use lib.ListN.{length};
+ghost use Prim.Native.Nat.{_≤_, min};
+ghost use Rattle.money.specs.Units.{sheets};
 ghost use Rattle.book.specs.Vault.{headroomOf};
-ghost use Rattle.book.specs.Cover.{counted, uncounted, coverOf};
-ghost use Rattle.book.specs.Flat.{rowsOf, bookOf, FitsHeld, tradesOf};
+ghost use Rattle.book.specs.Cover.{uncounted, coverOf};
+ghost use Rattle.book.specs.Flat.{tradesOf};
 use crate::answer::Cover;
 use crate::book::Book;
-use crate::desk::Desk;
+use crate::figures;
+use crate::figures::Figures;
 use crate::fit;
 use crate::nets;
 use crate::split;
-use crate::trades;
-use crate::vault;
 use money::units::Sheets;
 
 fn smaller(a: u64, b: u64) -> u64
@@ -33,18 +31,15 @@ fn headroom_from(size: u64, value: u64, outstanding: u64) -> i64
     nets::difference(smaller(size, value), outstanding)
 }
 
-// Of a fit book.
-pub fn cover_of(calendar: &[u32], desk: Desk, held: &[u64], table: &[u64]) -> Cover
-    requires { ⌜ (length (now held) ≡ 128) × (FitsHeld (now calendar) desk (now held) (tradesOf (now table))) ⌝ }
-    ensures { λ r. ⌜ ((kinds units : List ℕ) → r ≡ counted (bookOf desk (rowsOf (now (held .entry)) kinds units)) (tradesOf (now (table .entry)))) ⌝ }
+// From O and V.
+pub fn cover_from(size: u64, figures: Figures) -> Cover
+    requires { ⌜ (size ≤ 10000000000) × (figures .outstanding ≤ 10000000000) ⌝ }
+    ensures { λ r. ⌜ r ≡ record { number = 0; headroom = headroomOf size (figures .value) (figures .outstanding); outstanding = sheets (figures .outstanding) } ⌝ }
 {
-    let guarantee = desk.guarantee;
-    let outstanding = trades::outstanding_of(table, desk.trades);
-    let value = vault::value_of(held, guarantee);
     Cover {
         number: 0,
-        headroom: headroom_from(desk.size.0, value, outstanding),
-        outstanding: Sheets(outstanding),
+        headroom: headroom_from(size, figures.value, figures.outstanding),
+        outstanding: Sheets(figures.outstanding),
     }
 }
 
@@ -74,5 +69,6 @@ pub fn cover_flat(calendar: &[u32], book: Book, table: &[u64]) -> Cover
     if !fit::is_fit(calendar, desk, &held, &kinds, &units, table) {
         return refused();
     }
-    cover_of(calendar, desk, &held, table)
+    let figures = figures::figures_of(calendar, desk, &held, table);
+    cover_from(desk.size.0, figures)
 }

@@ -28,6 +28,7 @@ mod days;
 mod desk;
 mod dispatch;
 mod evening;
+mod figures;
 mod fit;
 mod flat;
 mod held;

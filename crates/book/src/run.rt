@@ -10,12 +10,15 @@ ghost use Rattle.book.specs.Entry.{decoded};
 ghost use Rattle.book.specs.Step.{step};
 ghost use Rattle.book.specs.Listing.{lineOf, lengthCauses, runDone, runOutcome};
 ghost use Rattle.book.specs.Flat.{rowsOf, bookOf, tradesOf};
+ghost use Rattle.book.specs.Figures.{figuresAt};
 use crate::answer::Ran;
 use crate::book::Book;
 use crate::cover;
 use crate::decode;
 use crate::desk::Desk;
 use crate::dispatch;
+use crate::figures;
+use crate::figures::Figures;
 use crate::fit;
 use crate::line;
 use crate::split;
@@ -36,6 +39,12 @@ pub fn lengths_refusal(bytes: usize, room: usize) -> u8
     0
 }
 
+// What an event of a run leaves: the desk, and O and V for the next.
+struct Turn {
+    desk: Desk,
+    figures: Figures,
+}
+
 // One event's bytes on a book, and the line of what it leaves.
 fn run_event(
     calendar: &[u32],
@@ -45,26 +54,32 @@ fn run_event(
     kinds: &mut [u8],
     units: &mut [u64],
     table: &mut [u64],
+    figures: Figures,
     lines: &mut [u64],
     at: usize,
-) -> Desk
-    requires { ⌜ (length (now held) ≡ 128) × (length (now kinds) ≡ 128) × (length (now units) ≡ 128) × (length (now calendar) ≤ 1200) × (fit (now calendar) (bookOf desk (rowsOf (now held) (now kinds) (now units))) (tradesOf (now table)) ≡ true) × (at + 7 ≤ length (now lines)) ⌝ }
-    ensures { λ r. ⌜ (bookOf r (rowsOf (now (held .exit)) (now (kinds .exit)) (now (units .exit))) ≡ step (now (calendar .entry)) (bookOf desk (rowsOf (now (held .entry)) (now (kinds .entry)) (now (units .entry)))) (tradesOf (now (table .entry))) (decoded (now (bytes .entry))) .book) × (tradesOf (now (table .exit)) ≡ step (now (calendar .entry)) (bookOf desk (rowsOf (now (held .entry)) (now (kinds .entry)) (now (units .entry)))) (tradesOf (now (table .entry))) (decoded (now (bytes .entry))) .table) × (now (lines .exit) ≡ sets (now (lines .entry)) at (lineOf (step (now (calendar .entry)) (bookOf desk (rowsOf (now (held .entry)) (now (kinds .entry)) (now (units .entry)))) (tradesOf (now (table .entry))) (decoded (now (bytes .entry)))))) ⌝ }
+) -> Turn
+    requires { ⌜ (length (now held) ≡ 128) × (length (now kinds) ≡ 128) × (length (now units) ≡ 128) × (length (now calendar) ≤ 1200) × (fit (now calendar) (bookOf desk (rowsOf (now held) (now kinds) (now units))) (tradesOf (now table)) ≡ true) × (figures ≡ figuresAt desk (now held) (tradesOf (now table))) × (at + 7 ≤ length (now lines)) ⌝ }
+    ensures { λ r. ⌜ (bookOf (r .desk) (rowsOf (now (held .exit)) (now (kinds .exit)) (now (units .exit))) ≡ step (now (calendar .entry)) (bookOf desk (rowsOf (now (held .entry)) (now (kinds .entry)) (now (units .entry)))) (tradesOf (now (table .entry))) (decoded (now (bytes .entry))) .book) × (tradesOf (now (table .exit)) ≡ step (now (calendar .entry)) (bookOf desk (rowsOf (now (held .entry)) (now (kinds .entry)) (now (units .entry)))) (tradesOf (now (table .entry))) (decoded (now (bytes .entry))) .table) × (now (lines .exit) ≡ sets (now (lines .entry)) at (lineOf (step (now (calendar .entry)) (bookOf desk (rowsOf (now (held .entry)) (now (kinds .entry)) (now (units .entry)))) (tradesOf (now (table .entry))) (decoded (now (bytes .entry)))))) × (r .figures ≡ figuresAt (r .desk) (now (held .exit)) (tradesOf (now (table .exit)))) ⌝ }
 {
-    let done = dispatch::entry_on(
-        calendar,
-        desk,
-        held,
-        kinds,
-        units,
-        table,
-        decode::decode(bytes),
-    );
+    let entry = decode::decode(bytes);
+    let done = dispatch::entry_on(calendar, desk, held, kinds, units, table, entry);
     let answer = done.answer;
     let after = done.desk;
-    let cover = cover::cover_of(calendar, after, &*held, &*table);
+    let next = figures::figures_after(
+        calendar,
+        figures,
+        entry,
+        answer.number,
+        after,
+        &*held,
+        &*table,
+    );
+    let cover = cover::cover_from(after.size.0, next);
     line::write_line(lines, at, answer.number, cover, after.cash, after.guarantee);
-    after
+    Turn {
+        desk: after,
+        figures: next,
+    }
 }
 
 // The events in order on a fit book.
@@ -82,24 +97,26 @@ fn run_events(
     ensures { λ r. ⌜ (bookOf r (rowsOf (now (held .exit)) (now (kinds .exit)) (now (units .exit))) ≡ runDone (now (calendar .entry)) (bookOf desk (rowsOf (now (held .entry)) (now (kinds .entry)) (now (units .entry)))) (tradesOf (now (table .entry))) (now (events .entry)) (now (lines .entry)) .ran .book) × (tradesOf (now (table .exit)) ≡ runDone (now (calendar .entry)) (bookOf desk (rowsOf (now (held .entry)) (now (kinds .entry)) (now (units .entry)))) (tradesOf (now (table .entry))) (now (events .entry)) (now (lines .entry)) .table) × (now (lines .exit) ≡ runDone (now (calendar .entry)) (bookOf desk (rowsOf (now (held .entry)) (now (kinds .entry)) (now (units .entry)))) (tradesOf (now (table .entry))) (now (events .entry)) (now (lines .entry)) .lines) ⌝ }
 {
     let count = events.len() / 40;
-    let mut after = desk;
+    let figures = figures::figures_of(calendar, desk, &*held, &*table);
+    let mut turn = Turn { desk, figures };
     let mut k = 0;
     while k < count {
         let bytes = &events[k * 40..k * 40 + 40];
-        after = run_event(
+        turn = run_event(
             calendar,
             bytes,
-            after,
+            turn.desk,
             held,
             kinds,
             units,
             table,
+            turn.figures,
             lines,
             k * 7,
         );
         k += 1;
     }
-    after
+    turn.desk
 }
 
 pub fn refused(number: u8, book: Book) -> Ran

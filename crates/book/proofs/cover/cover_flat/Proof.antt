@@ -1,4 +1,5 @@
 use mathlib.Core.Path.{_≡_, sym, _∙_, ap}
+use native.Mathlib.Omega.{arith}
 use borrow.Author.Needs.{needs}
 use borrow.Author.Tests.{not-true, not-false}
 use Rattle.book.specs.Book.{Book}
@@ -7,6 +8,8 @@ use Rattle.book.specs.Cover.{counted}
 use Rattle.book.specs.Flat.{rowsOf, bookOf, tradesOf}
 use Rattle.book.proofs.StepLaws.{too-many-words, not-fit, not-unfit}
 use Rattle.book.proofs.CoverLaws.{unfit-cover, fit-cover}
+use Rattle.book.proofs.FitParts.{fit-parts}
+use Rattle.book.proofs.FigureLaws.{counted-from}
 use Rattle.book.proofs.SplitLaws.{whole}
 use Rattle.book.proofs.cover.cover_flat.Statement.{statement}
 use Rattle.book.proofs.cover.cover_flat.Tie as tie
@@ -56,21 +59,27 @@ refused-requires-2 c κs = search needs
 returns-2 : tie.Need-returns-2
 returns-2 c = c .refused2 .ensures ∙ sym (unfit-cover _ _ _ (not-fit _ _ _ (sym (tested (c .before .before)) ∙ not-true _ (c .before .if2 .taken))))
 
-slice-aggregate-cover-of : tie.Need-slice-aggregate-cover-of
-slice-aggregate-cover-of c = search needs
+slice-aggregate-figures-of : tie.Need-slice-aggregate-figures-of
+slice-aggregate-figures-of c = search needs
 
-cover-of-requires : tie.Need-cover-of-requires
-cover-of-requires c κs =
+figures-of-requires : tie.Need-figures-of-requires
+figures-of-requires c κs =
     (search needs, record { kinds = c .before .before .before .before .before .before .before .kinds-of .result; units = c .before .before .before .before .before .before .units-of .result; fits = sym (c .before .before .is-fit .ensures) ∙ not-false _ (c .before .if2 .left) })
+
+cover-from-requires : tie.Need-cover-from-requires
+cover-from-requires c κs =
+    let size = fit-parts _ _ _ (sym (c .before .before .before .is-fit .ensures) ∙ not-false _ (c .before .before .if2 .left)) .size in
+    (size .within, rw (c .figures-of .ensures) (omega (arith, size .within, size .covers)))
 
 returns-3 : tie.Need-returns-3
 returns-3 c =
-    let test = c .before .before .before in
-    let a = c .before .before .before .before .before .before .before .before .before .before .before .before .before .before .before .before .args in
-    let fits = sym (tested test) ∙ not-false _ (c .before .before .if2 .left) in
-    c .cover-of .ensures (c .before .before .before .before .before .before .before .before .kinds-of .result) (c .before .before .before .before .before .before .before .units-of .result)
+    let test = c .before .before .before .before in
+    let a = c .before .before .before .before .before .before .before .before .before .before .before .before .before .before .before .before .before .args in
+    let fits = sym (tested test) ∙ not-false _ (c .before .before .before .if2 .left) in
+    c .cover-from .ensures
+    ∙ counted-from (bookOf (c .before .before .before .before .before .before .before .before .before .before .before .before .before .desk-of .result) (rowsOf (c .before .before .before .before .before .before .before .before .before .before .held-of .result) (c .before .before .before .before .before .before .before .before .before .kinds-of .result) (c .before .before .before .before .before .before .before .before .units-of .result))) _ _ (c .before .figures-of .ensures)
     ∙ ap (λ (book : Book). counted book (tradesOf (a .table .now))) (apart test)
-    ∙ sym (fit-cover _ _ _ (not-unfit _ _ _ fits (c .before .before .before .before .before .before .before .before .before .before .before .before .before .if1 .left)))
+    ∙ sym (fit-cover _ _ _ (not-unfit _ _ _ fits (c .before .before .before .before .before .before .before .before .before .before .before .before .before .before .if1 .left)))
 
 pub cover-flat-spec : {M : Type 1} → statement M
 cover-flat-spec =
@@ -88,6 +97,7 @@ cover-flat-spec =
     is-fit-requires
     refused-requires-2
     returns-2
-    slice-aggregate-cover-of
-    cover-of-requires
+    slice-aggregate-figures-of
+    figures-of-requires
+    cover-from-requires
     returns-3)

@@ -7,9 +7,11 @@ use lib.Seq.{sets}
 use Rattle.book.specs.Fit.{fit}
 use Rattle.book.specs.Entry.{decoded}
 use Rattle.book.specs.Step.{Outcome, step}
+use Rattle.book.specs.Cover.{counted}
 use Rattle.book.specs.Flat.{Rows, rowsOf, bookOf, appliedAt, tradesOf, appliedOf}
 use Rattle.book.proofs.FitParts.{fit-parts}
 use Rattle.book.proofs.CoverLaws.{headroom-size}
+use Rattle.book.proofs.FigureLaws.{moved-after, counted-from}
 use Rattle.book.proofs.LineLaws.{line-told}
 use Rattle.book.proofs.RunLaws.{fit-after}
 use Rattle.book.proofs.run.run_event.Statement.{statement}
@@ -27,10 +29,10 @@ module _ (c : tie.After-entry-on) where
   rows = rowsOf (c .entry-on .last .1 .1 .0) (c .entry-on .last .1 .1 .1 .0) (c .entry-on .last .1 .1 .1 .1 .0)
 
   applied : appliedAt (c .entry-on .result) rows ≡ appliedOf left
-  applied = rw (c .before .decode .ensures) at (c .entry-on .ensures .0)
+  applied = rw (c .before .before .before .before .before .decode .ensures) at (c .entry-on .ensures .0)
 
   tabled : tradesOf (c .entry-on .last .1 .1 .1 .1 .1 .0) ≡ left .table
-  tabled = rw (c .before .decode .ensures) at (c .entry-on .ensures .1)
+  tabled = rw (c .before .before .before .before .before .decode .ensures) at (c .entry-on .ensures .1)
 
   still-fit : fit (start .args .calendar .now) (bookOf (c .entry-on .result .desk) rows) (tradesOf (c .entry-on .last .1 .1 .1 .1 .1 .0)) ≡ true
   still-fit = fit-after _ _ _ _ (start .pre .4) (appliedAt (c .entry-on .result) rows) _ (c .entry-on .ensures .0) (c .entry-on .ensures .1)
@@ -44,16 +46,27 @@ decode-requires c κs = search needs
 entry-on-requires : tie.Need-entry-on-requires
 entry-on-requires c κs = search needs
 
-cover-of-requires : tie.Need-cover-of-requires
-cover-of-requires c κs =
-    let called = c .before .before .before .before .before .before .before .before .before .before .before .before in
-    (still-long called, record { kinds = called .entry-on .last .1 .1 .1 .0; units = called .entry-on .last .1 .1 .1 .1 .0; fits = still-fit called })
+figures-after-requires : tie.Need-figures-after-requires
+figures-after-requires c κs =
+    let called = c .before .before .before .before .before .before .before .before .before .before .before .before in (
+      still-long called,
+      record { kinds = called .entry-on .last .1 .1 .1 .0; units = called .entry-on .last .1 .1 .1 .1 .0; fits = still-fit called },
+      moved-after _ _ _ _ (start called .pre .4) _ (start called .pre .5) (appliedAt (called .entry-on .result) (rows called)) _ (called .entry-on .ensures .0) (called .entry-on .ensures .1),
+    )
+
+cover-from-requires : tie.Need-cover-from-requires
+cover-from-requires c κs =
+    let size = fit-parts _ _ _ (still-fit (c .before .before .before .before .before .before .before .before .before .before .before .before .before)) .size in
+    (size .within, rw (c .figures-after .ensures) (omega (arith, size .within, size .covers)))
+
+-- the cover of what is left
+covered : (c : tie.After-cover-from) → (let called = c .before .before .before .before .before .before .before .before .before .before .before .before .before .before in c .cover-from .result ≡ counted (bookOf (called .entry-on .result .desk) (rows called)) (tradesOf (called .entry-on .last .1 .1 .1 .1 .1 .0)))
+covered c = c .cover-from .ensures ∙ counted-from (bookOf (c .before .before .before .before .before .before .before .before .before .before .before .before .before .before .entry-on .result .desk) (rows (c .before .before .before .before .before .before .before .before .before .before .before .before .before .before))) _ _ (c .before .figures-after .ensures)
 
 write-line-requires : tie.Need-write-line-requires
 write-line-requires c κs =
-    let called = c .before .before .before .before .before .before .before .before .before .before .before .before .before .before in
-    let cover = c .before .cover-of .ensures (called .entry-on .last .1 .1 .1 .0) (called .entry-on .last .1 .1 .1 .1 .0) in
-    (start called .pre .5, rw cover (headroom-size _ _ _ (still-fit called)), omega (arith, fit-parts _ _ _ (still-fit called) .cash .sum))
+    let called = c .before .before .before .before .before .before .before .before .before .before .before .before .before .before .before in
+    (start called .pre .6, rw (covered (c .before)) (headroom-size _ _ _ (still-fit called)), omega (arith, fit-parts _ _ _ (still-fit called) .cash .sum))
 
 same-length : tie.Need-same-length
 same-length c = search needs
@@ -72,12 +85,11 @@ same-length-5 c = search needs
 
 returns : tie.Need-returns
 returns c =
-    let called = c .before .before .before .before .before .before .before .before .before .before .before .before .before .before .before .before .before in
+    let called = c .before .before .before .before .before .before .before .before .before .before .before .before .before .before .before .before .before .before in
     let a = start called .args in
-    let cover = c .before .before .before .before .cover-of .ensures (called .entry-on .last .1 .1 .1 .0) (called .entry-on .last .1 .1 .1 .1 .0) in
     let e = applied called in
     let t = tabled called in
-    (ap (λ x. x .book) e, t, c .before .before .write-line .ensures ∙ ap (λ line. sets (a .lines .now) (a .at) line) (line-told _ _ _ e t cover))
+    (ap (λ x. x .book) e, t, c .before .before .write-line .ensures ∙ ap (λ line. sets (a .lines .now) (a .at) line) (line-told _ _ _ e t (covered (c .before .before .before .before))), c .before .before .before .before .before .figures-after .ensures)
 
 pub run-event-spec : {M : Type 1} → statement M
 run-event-spec =
@@ -85,7 +97,8 @@ run-event-spec =
     (tie.spec
     decode-requires
     entry-on-requires
-    cover-of-requires
+    figures-after-requires
+    cover-from-requires
     write-line-requires
     same-length
     same-length-2

@@ -1,0 +1,40 @@
+-- O and V together, and what an event tells of how it moves them: for private contracts. It states no rule.
+-- Assumes nothing.
+use Prim.Native.Nat.{ℕ, _+_}
+use mathlib.Core.Path.{_≡_}
+use mathlib.Core.List.{List}
+use Rattle.book.specs.Trades.{Trade, inUse, outstanding}
+use Rattle.book.specs.Vault.{value, outstandingOf}
+use Rattle.book.specs.Book.{Book}
+use Rattle.book.specs.Entry.{Event, Open, FundIn, FundOut, Size, Rate, Pledge, Freeze, Withdraw, Initial, Early, Pay, Close, Entry, Known, Undecodable}
+use Rattle.book.specs.Flat.{vaultOf, securitiesOf}
+use Rattle.book.specs.declared.desk.Desk.{Desk}
+pub use Rattle.book.specs.declared.figures.Figures.{Figures}
+
+-- of a book over its table
+abbrev pub figuresOf : Book → List Trade → Figures
+figuresOf book table = record { outstanding = outstandingOf book table; value = value (book .vault) }
+
+-- of a desk with its row of securities
+abbrev pub figuresAt : Desk → (held : List ℕ) → List Trade → Figures
+figuresAt desk held table = record { outstanding = outstanding (inUse (desk .trades) table); value = value (vaultOf (desk .guarantee) (securitiesOf held)) }
+
+-- what is known of them after an event that is done
+abbrev pub Moved : Event → (before after : Figures) → Type 0
+Moved Open before after = after .value ≡ before .value
+Moved (FundIn account amount) before after = after ≡ before
+Moved (FundOut account amount) before after = after ≡ before
+Moved (Size size) before after = after ≡ before
+Moved (Rate kind rate) before after = after .outstanding ≡ before .outstanding
+Moved (Pledge kind units) before after = after .outstanding ≡ before .outstanding
+Moved (Freeze kind units) before after = after .outstanding ≡ before .outstanding
+Moved (Withdraw kind units) before after = after ≡ before
+Moved (Initial terms) before after = (after .outstanding ≡ before .outstanding + terms .sheets .0) × (after .value ≡ before .value)
+Moved (Early contract count price) before after = (before .outstanding ≡ after .outstanding + count .0) × (after .value ≡ before .value)
+Moved Pay before after = after ≡ before
+Moved Close before after = Unit {0}
+
+-- after any entry, by its number
+abbrev pub MovedBy : Entry → (number : ℕ) → (before after : Figures) → Type 0
+MovedBy (Known event) number before after = ((number ≡ 0 → ⊥) → after ≡ before) × (number ≡ 0 → Moved event before after)
+MovedBy Undecodable number before after = after ≡ before
