@@ -63,6 +63,7 @@ pub mod LineLaws
 pub mod RunLaws
 pub mod ListingLaws
 -- walks by hand of the functions over a lent table
+pub mod FrontLaws
 pub mod TableLaws
 pub mod WalkAgain
 pub mod WalkArray
