@@ -47,6 +47,7 @@ pub mod NetLaws
 pub mod PayLaws
 pub mod DayLaws
 pub mod Refusing
+pub mod GatherLaws
 pub mod FitFacts
 pub mod Fitting
 pub mod ContractLaws

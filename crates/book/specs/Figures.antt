@@ -1,15 +1,18 @@
--- O and V together, and what an event tells of how it moves them: for private contracts. It states no rule.
+-- O and V together, what an event tells of how it moves them, and what one walk gathers: for private contracts. It states no rule.
 -- Assumes nothing.
-use Prim.Native.Nat.{ℕ, _+_}
+use Prim.Native.Nat.{ℕ, _+_, max}
+use mathlib.Core.Bool.{true, false, cond}
 use mathlib.Core.Path.{_≡_}
-use mathlib.Core.List.{List}
+use mathlib.Core.List.{List, [], _∷_}
 use Rattle.book.specs.Trades.{Trade, inUse, outstanding}
 use Rattle.book.specs.Vault.{value, outstandingOf}
 use Rattle.book.specs.Book.{Book}
+use Rattle.book.specs.Fit.{tradeFit, allTrades}
 use Rattle.book.specs.Entry.{Event, Open, FundIn, FundOut, Size, Rate, Pledge, Freeze, Withdraw, Initial, Early, Pay, Close, Entry, Known, Undecodable}
 use Rattle.book.specs.Flat.{vaultOf, securitiesOf}
 use Rattle.book.specs.declared.desk.Desk.{Desk}
 pub use Rattle.book.specs.declared.figures.Figures.{Figures}
+pub use Rattle.book.specs.declared.trades.Gathered.{Gathered}
 
 -- of a book over its table
 abbrev pub figuresOf : Book → List Trade → Figures
@@ -38,3 +41,14 @@ Moved Close before after = Unit {0}
 abbrev pub MovedBy : Entry → (number : ℕ) → (before after : Figures) → Type 0
 MovedBy (Known event) number before after = ((number ≡ 0 → ⊥) → after ≡ before) × (number ≡ 0 → Moved event before after)
 MovedBy Undecodable number before after = after ≡ before
+
+-- ---- what one walk over trades gathers
+
+unfoldable pub latestFirst : List Trade → ℕ
+latestFirst [] = 0
+latestFirst (trade ∷ trades) = max (trade .first) (latestFirst trades)
+
+abbrev pub gatheredOf : List Trade → Gathered
+gatheredOf trades =
+    cond (allTrades tradeFit trades) (record { fit = true; outstanding = outstanding trades; latest = latestFirst trades })
+    (record { fit = false; outstanding = 0; latest = 0 })

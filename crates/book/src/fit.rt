@@ -1,13 +1,13 @@
 // When a book is fit: its tests in the order of document 01.
 ghost use mathlib.Core.Path.{_≡_};
-ghost use mathlib.Core.List.{[], _∷_};
-ghost use Prim.Native.Nat.{_*_, _≤_};
+ghost use mathlib.Core.List.{List, [], _∷_};
+ghost use Prim.Native.Nat.{_≤_};
 ghost use lib.ListN.{length};
-ghost use Rattle.book.specs.Book.{On};
 ghost use Rattle.book.specs.Folds.{every};
-ghost use Rattle.book.specs.Trades.{outstanding, differ};
+ghost use Rattle.book.specs.Trades.{Trade, differ};
 ghost use Rattle.book.specs.Fit.{capacityFit, sizeFit, netsFit, withdrawalsFit, unopenedFit, openedFit, dayFit, fit};
 ghost use Rattle.book.specs.Flat.{rowsOf, bookOf, tradesTo, tradesOf, Kept};
+ghost use Rattle.book.specs.Figures.{latestFirst};
 use crate::book::Day;
 use crate::book::Nets;
 use crate::book::Standing;
@@ -29,14 +29,13 @@ fn capacity_fit(count: usize, table: &[u64]) -> bool
 }
 
 // S is within its limit, and the sheets left within S.
-fn size_fit(size: u64, table: &[u64], count: usize) -> bool
-    requires { ⌜ Kept (now table) count ⌝ }
-    ensures { λ r. ⌜ r ≡ sizeFit size (outstanding (tradesTo (now (table .entry)) count)) ⌝ }
+fn size_fit(size: u64, outstanding: u64) -> bool
+    ensures { λ r. ⌜ r ≡ sizeFit size outstanding ⌝ }
 {
     if size > 10_000_000_000 {
         return false;
     }
-    trades::outstanding_of(table, count) <= size
+    outstanding <= size
 }
 
 fn nets_fit(nets: Nets) -> bool
@@ -58,10 +57,10 @@ fn unopened_fit(standing: Standing, count: usize) -> bool
     count == 0
 }
 
-// The day trades, another follows, and no first payment day is past today's payment day.
-fn opened_fit(calendar: &[u32], today: u32, table: &[u64], count: usize) -> bool
-    requires { ⌜ (length (now calendar) ≤ 1200) × (count * 6 ≤ length (now table)) ⌝ }
-    ensures { λ r. ⌜ r ≡ openedFit (now (calendar .entry)) today (tradesTo (now (table .entry)) count) ⌝ }
+// The day trades, another follows, and no first payment day is past today's payment day: the latest is not.
+fn opened_fit(calendar: &[u32], today: u32, latest: u32) -> bool
+    requires { ⌜ length (now calendar) ≤ 1200 ⌝ }
+    ensures { λ r. ⌜ ((trades : List Trade) → latest ≡ latestFirst trades → r ≡ openedFit (now (calendar .entry)) today trades) ⌝ }
 {
     if !money::days::trades_on(calendar, today) {
         return false;
@@ -69,24 +68,30 @@ fn opened_fit(calendar: &[u32], today: u32, table: &[u64], count: usize) -> bool
     if !days::has_next(calendar, today) {
         return false;
     }
-    let payment = days::payment_day(calendar, Day::On(today));
-    trades::firsts_fit(table, count, payment)
+    latest <= days::payment_day(calendar, Day::On(today))
 }
 
-fn day_fit(calendar: &[u32], standing: Standing, table: &[u64], count: usize) -> bool
-    requires { ⌜ (length (now calendar) ≤ 1200) × (count * 6 ≤ length (now table)) ⌝ }
-    ensures { λ r. ⌜ r ≡ dayFit (now (calendar .entry)) (standing .day) (standing .phase) (tradesTo (now (table .entry)) count) count ⌝ }
+fn day_fit(calendar: &[u32], standing: Standing, count: usize, latest: u32) -> bool
+    requires { ⌜ length (now calendar) ≤ 1200 ⌝ }
+    ensures { λ r. ⌜ ((trades : List Trade) → latest ≡ latestFirst trades → r ≡ dayFit (now (calendar .entry)) (standing .day) (standing .phase) trades count) ⌝ }
 {
     let day = standing.day;
     match day {
         Day::Never => unopened_fit(standing, count),
-        Day::On(today) => opened_fit(calendar, today, table, count),
+        Day::On(today) => opened_fit(calendar, today, latest),
     }
 }
 
 // The tests after those of the vault, the cash and the sheets.
-fn others_fit(calendar: &[u32], desk: Desk, kinds: &[u8], units: &[u64], table: &[u64]) -> bool
-    requires { ⌜ (length (now calendar) ≤ 1200) × (length (now kinds) ≡ 128) × (length (now units) ≡ 128) × (Kept (now table) (desk .trades)) ⌝ }
+fn others_fit(
+    calendar: &[u32],
+    desk: Desk,
+    kinds: &[u8],
+    units: &[u64],
+    table: &[u64],
+    latest: u32,
+) -> bool
+    requires { ⌜ (length (now calendar) ≤ 1200) × (length (now kinds) ≡ 128) × (length (now units) ≡ 128) × (Kept (now table) (desk .trades)) × (latest ≡ latestFirst (tradesTo (now table) (desk .trades))) ⌝ }
     ensures { λ r. ⌜ r ≡ every (netsFit (desk .nets) ∷ differ (tradesTo (now (table .entry)) (desk .trades)) ∷ withdrawalsFit (record { kinds = now (kinds .entry); units = now (units .entry); count = desk .applications }) ∷ dayFit (now (calendar .entry)) (desk .standing .day) (desk .standing .phase) (tradesTo (now (table .entry)) (desk .trades)) (desk .trades) ∷ []) ⌝ }
 {
     let nets = desk.nets;
@@ -101,7 +106,7 @@ fn others_fit(calendar: &[u32], desk: Desk, kinds: &[u8], units: &[u64], table: 
         return false;
     }
     let standing = desk.standing;
-    day_fit(calendar, standing, table, count)
+    day_fit(calendar, standing, count, latest)
 }
 
 pub fn is_fit(
@@ -127,11 +132,13 @@ pub fn is_fit(
     if !vault::cash_fit(cash, guarantee) {
         return false;
     }
-    if !trades::trades_fit(table, count) {
+    let gathered = trades::gather(table, count);
+    let within = gathered.fit;
+    if !within {
         return false;
     }
-    if !size_fit(desk.size.0, table, count) {
+    if !size_fit(desk.size.0, gathered.outstanding) {
         return false;
     }
-    others_fit(calendar, desk, kinds, units, table)
+    others_fit(calendar, desk, kinds, units, table, gathered.latest)
 }

@@ -1,11 +1,11 @@
 // What is counted and tested over the trades in use.
 ghost use mathlib.Core.Path.{_≡_};
-ghost use Prim.Native.Nat.{_+_, _*_, _≤_, _<_};
-ghost use lib.Dec.{leb};
+ghost use Prim.Native.Nat.{_+_, _*_, _≤_, _<_, max};
 ghost use lib.ListN.{length};
 ghost use Rattle.book.specs.Trades.{outstanding, differ};
-ghost use Rattle.book.specs.Fit.{tradeFit, allTrades};
+ghost use Rattle.book.specs.Fit.{tradeFit};
 ghost use Rattle.book.specs.Flat.{tradeAt, tradesTo, placeOf, contractNumbers, Kept};
+ghost use Rattle.book.specs.Figures.{gatheredOf};
 use crate::flat;
 use crate::sort;
 use crate::trade::Contract;
@@ -123,31 +123,44 @@ fn trade_fits(table: &[u64], place: usize) -> bool
     fallback.0 <= 100_000
 }
 
-pub fn trades_fit(table: &[u64], count: usize) -> bool
-    requires { ⌜ count * 6 ≤ length (now table) ⌝ }
-    ensures { λ r. ⌜ r ≡ allTrades tradeFit (tradesTo (now (table .entry)) count) ⌝ }
+fn later(a: u32, b: u32) -> u32
+    ensures { λ r. ⌜ r ≡ max a b ⌝ }
 {
+    if a < b {
+        return b;
+    }
+    a
+}
+
+// What one walk tells: whether each trade is within its limits, and if so O and the latest first payment day.
+pub struct Gathered {
+    pub fit: bool,
+    pub outstanding: u64,
+    pub latest: u32,
+}
+
+pub fn gather(table: &[u64], count: usize) -> Gathered
+    requires { ⌜ (count * 6 ≤ length (now table)) × (count ≤ 4096) ⌝ }
+    ensures { λ r. ⌜ r ≡ gatheredOf (tradesTo (now (table .entry)) count) ⌝ }
+{
+    let mut outstanding = 0;
+    let mut latest = 0;
     let mut i = 0;
     while i < count {
         if !trade_fits(table, i) {
-            return false;
+            return Gathered {
+                fit: false,
+                outstanding: 0,
+                latest: 0,
+            };
         }
+        outstanding += flat::sheets_at(table, i);
+        latest = later(latest, flat::first_at(table, i));
         i += 1;
     }
-    true
-}
-
-// No first payment day is past the payment day.
-pub fn firsts_fit(table: &[u64], count: usize, payment: u32) -> bool
-    requires { ⌜ count * 6 ≤ length (now table) ⌝ }
-    ensures { λ r. ⌜ r ≡ allTrades (λ trade. leb (trade .first) payment) (tradesTo (now (table .entry)) count) ⌝ }
-{
-    let mut i = 0;
-    while i < count {
-        if flat::first_at(table, i) > payment {
-            return false;
-        }
-        i += 1;
+    Gathered {
+        fit: true,
+        outstanding,
+        latest,
     }
-    true
 }

@@ -15,10 +15,10 @@ opened-fit-requires : tie.Need-opened-fit-requires
 opened-fit-requires c κs = search needs
 
 returns : tie.Need-returns
-returns c = rw (c .before .enum-told .given .1) (c .unopened-fit .ensures)
+returns c trades e = rw (c .before .enum-told .given .1) (c .unopened-fit .ensures)
 
 returns-2 : tie.Need-returns-2
-returns-2 c = rw (c .before .before .day .given .1) (c .opened-fit .ensures)
+returns-2 c trades e = rw (c .before .before .day .given .1) (c .opened-fit .ensures trades e)
 
 pub day-fit-spec : {M : Type 1} → statement M
 day-fit-spec = tie.close (tie.spec enum-told unopened-fit-requires enum-known-day opened-fit-requires returns returns-2)

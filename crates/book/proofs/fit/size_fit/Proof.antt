@@ -1,4 +1,3 @@
-use borrow.Author.Needs.{needs}
 use borrow.Author.Tests.{le-leb, lt-leb}
 use Rattle.book.specs.Fit.{sizeFit}
 use Rattle.book.proofs.fit.size_fit.Statement.{statement}
@@ -8,12 +7,9 @@ returns : tie.Need-returns
 unfolding sizeFit
 returns c = rw (lt-leb _ _ (c .if1 .taken))
 
-outstanding-of-requires : tie.Need-outstanding-of-requires
-outstanding-of-requires c κs = search needs
-
 returns-2 : tie.Need-returns-2
 unfolding sizeFit
-returns-2 c = rw (c .outstanding-of .ensures, le-leb _ _ (c .before .if1 .left))
+returns-2 c = rw (le-leb _ _ (c .if1 .left))
 
 pub size-fit-spec : {M : Type 1} → statement M
-size-fit-spec = tie.close (tie.spec returns outstanding-of-requires returns-2)
+size-fit-spec = tie.close (tie.spec returns returns-2)
