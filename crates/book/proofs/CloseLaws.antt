@@ -15,23 +15,24 @@ use Rattle.money.specs.Units.{sheets}
 use Rattle.money.specs.Causes.{firstOf}
 use Rattle.money.specs.Days.{Calendar}
 use Rattle.money.proofs.Refusals.{hit, skip, clear}
-use Rattle.book.specs.Limits.{netLimit}
-use Rattle.book.specs.Book.{Security, Book, answer}
+use Rattle.rules.specs.Limits.{netLimit}
+use Rattle.rules.specs.Book.{answer}
+use Rattle.rules.specs.Days.{paymentDay}
+use Rattle.rules.specs.Trades.{total, outstanding, maturing, maturityAmount, matured, remaining, packed, over}
+use Rattle.rules.specs.Fit.{netFit, securitiesFit, cashFit, fit}
+use Rattle.rules.specs.Close.{Evening, mayClose, today, maturedTrades, maturedSheets, maturedAmount, netWithMatured, clearedAtClose, closeCauses, allArrived, served, evening, closedTable, closedBook, closeAnswer}
+use Rattle.rules.proofs.FitParts.{securities-fit, cash-fits}
+use Rattle.rules.proofs.TableFit.{matured-lessens, fewer-fit}
+use Rattle.rules.proofs.EveningFit.{all-arrived-fit}
+use Rattle.book.specs.Types.{Security, Book, Trade}
 use Rattle.book.specs.declared.desk.Desk.{Desk}
 use Rattle.book.specs.declared.desk.Done.{Done}
 use Rattle.book.specs.declared.evening.Evened.{Evened}
 use Rattle.book.specs.declared.redemption.Plan.{Plan}
-use Rattle.book.specs.Days.{paymentDay}
-use Rattle.book.specs.Trades.{Trade, total, outstanding, maturing, maturityAmount, matured, remaining, packed, over}
-use Rattle.book.specs.Fit.{netFit, securitiesFit, cashFit, fit}
-use Rattle.book.specs.Close.{Evening, mayClose, today, maturedTrades, maturedSheets, maturedAmount, netWithMatured, clearedAtClose, closeCauses, allArrived, served, evening, closedTable, closedBook, closeAnswer}
 use Rattle.book.specs.Flat.{Rows, tradesTo, tradesOf, bookOf, eveningAt, appliedAt, closedBy, tableBy, Kept}
-use Rattle.book.proofs.FitParts.{securities-fit, cash-fits}
 use Rattle.book.proofs.FitFacts.{fit-in-use}
 use Rattle.book.proofs.FlatLaws.{length-trades, take-trades}
-use Rattle.book.proofs.TableFit.{matured-lessens, fewer-fit}
 use Rattle.book.proofs.VaultLaws.{Sound}
-use Rattle.book.proofs.EveningFit.{all-arrived-fit}
 use Rattle.book.proofs.EveningLaws.{Kept as KeptEvening, applications-sound}
 
 -- ---- the causes, by the code's tests in their order

@@ -8,7 +8,8 @@ use native.Mathlib.Omega.{arith}
 use borrow.Author.Tests.{lt-ltb, le-ltb}
 use lib.Dec.{ltb}
 use lib.ListN.{length, take, set, take-append-drop}
-use Rattle.book.specs.Trades.{Contract, Trade, withSheets, onTable, tradeOf, takeOff, over}
+use Rattle.rules.specs.Trades.{withSheets, onTable, tradeOf, takeOff, over}
+use Rattle.book.specs.Types.{Contract, Trade}
 use Rattle.book.specs.Flat.{tradeAt, tradesTo, tradesOf, placeOf}
 use Rattle.book.proofs.FlatLaws.{length-trades, take-trades, trade-below}
 use Rattle.book.proofs.PlaceLaws.{on-table-by-place, trade-at-place, take-off-at-place}

@@ -8,13 +8,12 @@ use native.Mathlib.Omega.{arith}
 use lib.Dec.{ltb}
 use lib.IntN.{pos, negsuc, subℕ, natAbs}
 use Rattle.money.specs.Days.{Calendar}
-use Rattle.book.specs.Book.{Book}
-use Rattle.book.specs.Trades.{Trade}
-use Rattle.book.specs.Vault.{value, outstandingOf, headroom}
-use Rattle.book.specs.Fit.{fit}
-use Rattle.book.specs.Step.{unfit}
-use Rattle.book.specs.Cover.{counted, uncounted, coverOf}
-use Rattle.book.proofs.FitParts.{fit-parts}
+use Rattle.rules.specs.Vault.{value, outstandingOf, headroom}
+use Rattle.rules.specs.Fit.{fit}
+use Rattle.rules.specs.Step.{unfit}
+use Rattle.rules.specs.Cover.{counted, uncounted, coverOf}
+use Rattle.rules.proofs.FitParts.{fit-parts}
+use Rattle.book.specs.Types.{Book, Trade}
 
 small-difference : (a b : ℕ) → a ≤ 10000000000 → b ≤ 10000000000 → natAbs (subℕ a b) ≤ 10000000000
 small-difference a b h k = by-order (ltb a b)

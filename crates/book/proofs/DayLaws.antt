@@ -11,7 +11,7 @@ use lib.Dec.{eqb}
 use lib.ListN.{length}
 use Rattle.money.specs.Days.{Calendar, missing, searchResult}
 use Rattle.money.proofs.Answers.{found-at-0, none-elsewhere}
-use Rattle.book.specs.Days.{followed}
+use Rattle.rules.specs.Days.{followed}
 
 -- a day found is not missing, and none is
 there : (o : Option ℕ) (day : ℕ) → o ≡ some day → true ≡ not (missing o)

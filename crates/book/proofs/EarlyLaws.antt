@@ -18,18 +18,18 @@ use Rattle.money.specs.Limits.{tradeLimit, priceLimit}
 use Rattle.money.specs.Causes.{Cause, _⇒_, firstOf, numberOf}
 use Rattle.money.specs.Days.{Calendar}
 use Rattle.money.proofs.Bounds.{redemption-bound}
-use Rattle.book.specs.Limits.{netLimit}
-use Rattle.book.specs.Book.{Book, isTrading, isTerminated}
-use Rattle.book.specs.Days.{paymentDay}
-use Rattle.book.specs.Trades.{Contract, Trade, inUse, onTable}
-use Rattle.book.specs.Fit.{fit}
+use Rattle.rules.specs.Limits.{netLimit}
+use Rattle.rules.specs.Book.{isTrading, isTerminated}
+use Rattle.rules.specs.Days.{paymentDay}
+use Rattle.rules.specs.Trades.{inUse, onTable}
+use Rattle.rules.specs.Fit.{fit}
+use Rattle.rules.specs.Step.{eventCauses}
+use Rattle.rules.specs.Early.{named, earlyAmount, netWithEarly, pastDue, earlyCauses}
+use Rattle.rules.proofs.Accepted.{Clear, all-clear}
+use Rattle.book.specs.Types.{Book, Contract, Trade, Early}
 use Rattle.book.specs.Flat.{tradeAt, tradesTo, tradesOf, placeOf, Kept}
-use Rattle.book.specs.Entry.{Early}
-use Rattle.book.specs.Step.{eventCauses}
-use Rattle.book.specs.Early.{named, earlyAmount, netWithEarly, pastDue, earlyCauses}
 use Rattle.book.proofs.RedemptionLaws.{kept-within}
 use Rattle.book.proofs.Column.{passes}
-use Rattle.book.proofs.Accepted.{Clear, all-clear}
 use Rattle.book.proofs.Refusing.{done}
 use Rattle.book.proofs.FitFacts.{payment-within, fit-keeps}
 use Rattle.book.proofs.ContractLaws.{missing, trade-here}

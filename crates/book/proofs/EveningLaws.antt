@@ -15,12 +15,13 @@ use lib.Signed.{ltZ}
 use Rattle.money.specs.Units.{fen}
 use Rattle.money.specs.Limits.{cashLimit}
 use Rattle.money.specs.Collateral.{rateOf, unitLimitOf, kindValue}
-use Rattle.book.specs.Folds.{inTurn}
-use Rattle.book.specs.Book.{Security, Guarantee, Vault, Withdrawals, noSecurity}
-use Rattle.book.specs.Vault.{securityAt, isCash, effectiveOf, frozenOf, value, headroomOf}
-use Rattle.book.specs.Close.{Evening, fewer, fewerCash, takenOut, covered, mayGo, doneOne, settleOne, settled, applications}
-use Rattle.book.proofs.FoldLaws.{by-test, both, in-turn-keeps, at-set}
-use Rattle.book.proofs.FitParts.{SecurityFits, SecuritiesFit, fit-securities}
+use Rattle.rules.specs.Folds.{inTurn}
+use Rattle.rules.specs.Book.{noSecurity}
+use Rattle.rules.specs.Vault.{securityAt, isCash, effectiveOf, frozenOf, value, headroomOf}
+use Rattle.rules.specs.Close.{Evening, fewer, fewerCash, takenOut, covered, mayGo, doneOne, settleOne, settled, applications}
+use Rattle.rules.proofs.FoldLaws.{by-test, both, in-turn-keeps, at-set}
+use Rattle.rules.proofs.FitParts.{SecurityFits, SecuritiesFit, fit-securities}
+use Rattle.book.specs.Types.{Security, Guarantee, Vault, Withdrawals}
 use Rattle.book.proofs.VaultLaws.{Sound, kind-fits, value-at-part, value-bound-of, value-changed}
 
 -- ---- a list of which the first places are mapped

@@ -14,32 +14,30 @@ use Rattle.money.specs.declared.units.Ticks.{Ticks}
 use Rattle.money.specs.Units.{sheets}
 use Rattle.money.specs.Causes.{firstOf}
 use Rattle.money.specs.Days.{Calendar}
-use Rattle.book.specs.Book.{Book}
-use Rattle.book.specs.Trades.{Contract, Trade, Terms, inUse, outstanding, onTable, takeOff}
-use Rattle.book.specs.Vault.{headroomOf, outstandingOf, headroom}
-use Rattle.book.specs.Fit.{fit}
-use Rattle.book.specs.Entry.{Event, Open, FundIn, FundOut, Size, Rate, Pledge, Freeze, Withdraw, Initial, Early, Pay, Close, Entry, Known, Undecodable}
-use Rattle.book.specs.Open.{openedBook}
-use Rattle.book.specs.Funds.{fundedIn, fundedOut}
-use Rattle.book.specs.Size.{sized}
-use Rattle.book.specs.Rate.{rated}
-use Rattle.book.specs.Pledge.{pledged}
-use Rattle.book.specs.Freeze.{frozen}
-use Rattle.book.specs.Withdraw.{withdrawn}
-use Rattle.book.specs.Initial.{initialCauses, begun, initialBook, initialTable}
-use Rattle.book.specs.Early.{named, earlyCauses, earlyBook, earlyTable}
-use Rattle.book.specs.Pay.{fails, paidBook, payNumber}
-use Rattle.book.specs.Close.{closeAnswer}
-use Rattle.book.specs.Step.{eventCauses, entryCauses, causes, act, actOn, refuseOr, step, accepted}
-use Rattle.book.specs.Cover.{counted}
+use Rattle.rules.specs.Trades.{inUse, outstanding, onTable, takeOff}
+use Rattle.rules.specs.Vault.{headroomOf, outstandingOf, headroom}
+use Rattle.rules.specs.Fit.{fit}
+use Rattle.rules.specs.Open.{openedBook}
+use Rattle.rules.specs.Funds.{fundedIn, fundedOut}
+use Rattle.rules.specs.Size.{sized}
+use Rattle.rules.specs.Rate.{rated}
+use Rattle.rules.specs.Pledge.{pledged}
+use Rattle.rules.specs.Freeze.{frozen}
+use Rattle.rules.specs.Withdraw.{withdrawn}
+use Rattle.rules.specs.Initial.{initialCauses, begun, initialBook, initialTable}
+use Rattle.rules.specs.Early.{named, earlyCauses, earlyBook, earlyTable}
+use Rattle.rules.specs.Pay.{fails, paidBook, payNumber}
+use Rattle.rules.specs.Close.{closeAnswer}
+use Rattle.rules.specs.Step.{eventCauses, entryCauses, causes, act, actOn, refuseOr, step, accepted}
+use Rattle.rules.specs.Cover.{counted}
+use Rattle.rules.proofs.TradeLaws.{outstanding-append, outstanding-one, outstanding-takeOff, length-takeOff, take-over, take-begun}
+use Rattle.rules.proofs.Accepted.{all-clear}
+use Rattle.rules.proofs.Answers.{turned-down}
+use Rattle.rules.proofs.FitParts.{fit-parts}
+use Rattle.rules.proofs.StaysFit.{others-clear}
+use Rattle.book.specs.Types.{Book, Contract, Trade, Terms, Event, Open, FundIn, FundOut, Size, Rate, Pledge, Freeze, Withdraw, Initial, Early, Pay, Close, Entry, Known, Undecodable, Applied}
 use Rattle.book.specs.Flat.{appliedOf}
-use Rattle.book.specs.declared.answer.Applied.{Applied}
 use Rattle.book.specs.Figures.{Figures, figuresOf, Moved, MovedBy}
-use Rattle.book.proofs.TradeLaws.{outstanding-append, outstanding-one, outstanding-takeOff, length-takeOff, take-over, take-begun}
-use Rattle.book.proofs.Accepted.{all-clear}
-use Rattle.book.proofs.Answers.{turned-down}
-use Rattle.book.proofs.FitParts.{fit-parts}
-use Rattle.book.proofs.StaysFit.{others-clear}
 
 -- what a number that is not 0 tells of any entry
 pub unmoved : (entry : Entry) (number : ℕ) (before after : Figures) → MovedBy entry number before after → (number ≡ 0 → ⊥) → after ≡ before

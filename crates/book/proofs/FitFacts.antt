@@ -13,13 +13,14 @@ use lib.ListN.{length, take}
 use Rattle.money.specs.Limits.{termLimit}
 use Rattle.money.specs.Days.{Calendar, dayOr0}
 use Rattle.money.proofs.Least.{next-is-least, earliest-is-least}
-use Rattle.book.specs.Limits.{netLimit}
-use Rattle.book.specs.Book.{Book, Day, Never, On, Phase, isClosed}
-use Rattle.book.specs.Days.{following, paymentDay}
-use Rattle.book.specs.Fit.{capacityFit, tradeFit, allTrades, netFit, dayFit, fit}
+use Rattle.rules.specs.Limits.{netLimit}
+use Rattle.rules.specs.Book.{isClosed}
+use Rattle.rules.specs.Days.{following, paymentDay}
+use Rattle.rules.specs.Fit.{capacityFit, tradeFit, allTrades, netFit, dayFit, fit}
+use Rattle.rules.proofs.FoldLaws.{both, every-holds}
+use Rattle.rules.proofs.FitParts.{CapacityFits, capacity-fits, fit-parts}
+use Rattle.book.specs.Types.{Book, Day, Never, On, Phase}
 use Rattle.book.specs.Flat.{tradesTo, capacity, tradesOf, Kept, Redeemable}
-use Rattle.book.proofs.FoldLaws.{both, every-holds}
-use Rattle.book.proofs.FitParts.{CapacityFits, capacity-fits, fit-parts}
 use Rattle.book.proofs.FlatLaws.{length-trades, take-trades, all-none}
 
 -- ---- the payment day lies within the calendar

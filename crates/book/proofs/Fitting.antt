@@ -7,13 +7,13 @@ use Prim.Native.Nat.{ℕ}
 use borrow.Author.Tests.{not-true, not-false}
 use lib.ListN.{take}
 use Rattle.money.specs.Days.{Calendar}
-use Rattle.book.specs.Folds.{every}
-use Rattle.book.specs.Book.{Book}
-use Rattle.book.specs.Trades.{Trade, outstanding, differ}
-use Rattle.book.specs.Fit.{capacityFit, securitiesFit, cashFit, tradeFit, allTrades, sizeFit, netsFit, withdrawalsFit, dayFit, fit}
+use Rattle.rules.specs.Folds.{every}
+use Rattle.rules.specs.Trades.{outstanding, differ}
+use Rattle.rules.specs.Fit.{capacityFit, securitiesFit, cashFit, tradeFit, allTrades, sizeFit, netsFit, withdrawalsFit, dayFit, fit}
+use Rattle.rules.proofs.FitParts.{capacity-fits}
+use Rattle.book.specs.Types.{Book, Trade}
 use Rattle.book.specs.Flat.{tradesTo, tradesOf}
 use Rattle.book.proofs.SumLaws.{test-fails, test-holds}
-use Rattle.book.proofs.FitParts.{capacity-fits}
 use Rattle.book.proofs.FitFacts.{in-use-of}
 
 -- the last test decides

@@ -10,12 +10,13 @@ use native.Mathlib.Omega.{arith}
 use native.Mathlib.Decide.{decLt}
 use lib.ListN.{length, getD, take, drop, length-append, List·getD-append}
 use lib.Seq.{split-at, getD-at, getD-take, getD-drop, ext-getD, length-take-le}
-use Rattle.book.specs.Trades.{Trade, noTrade, total}
-use Rattle.book.specs.Fit.{allTrades}
+use Rattle.rules.specs.Trades.{noTrade, total}
+use Rattle.rules.specs.Fit.{allTrades}
+use Rattle.rules.proofs.FoldLaws.{by-test, both}
+use Rattle.rules.proofs.TradeLaws.{total-append}
+use Rattle.rules.proofs.TableFit.{all-append}
+use Rattle.book.specs.Types.{Trade}
 use Rattle.book.specs.Flat.{tradeAt, tradesTo, capacity, tradesOf}
-use Rattle.book.proofs.FoldLaws.{by-test, both}
-use Rattle.book.proofs.TradeLaws.{total-append}
-use Rattle.book.proofs.TableFit.{all-append}
 
 -- ---- which trade stands where
 

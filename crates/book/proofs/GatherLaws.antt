@@ -7,8 +7,9 @@ use Prim.Native.Nat.{ℕ, _+_, max}
 use native.Mathlib.Omega.{arith}
 use borrow.Author.Tests.{le-leb, lt-leb, leb-true, leb-false}
 use lib.Dec.{leb}
-use Rattle.book.specs.Trades.{Trade, outstanding}
-use Rattle.book.specs.Fit.{tradeFit, allTrades}
+use Rattle.rules.specs.Trades.{outstanding}
+use Rattle.rules.specs.Fit.{tradeFit, allTrades}
+use Rattle.book.specs.Types.{Trade}
 use Rattle.book.specs.Flat.{tradeAt, tradesTo}
 use Rattle.book.specs.Figures.{latestFirst, Gathered, gatheredOf}
 use Rattle.book.proofs.FlatLaws.{no-trades, one-more}

@@ -4,10 +4,10 @@ use mathlib.Core.Path.{_≡_, subst}
 use mathlib.Core.Bool.{true}
 use mathlib.Core.List.{List}
 use Prim.Native.Nat.{ℕ, _<_}
-use Rattle.book.specs.Book.{Guarantee}
-use Rattle.book.specs.Fit.{securitiesFit}
+use Rattle.rules.specs.Fit.{securitiesFit}
+use Rattle.rules.proofs.FitParts.{SecurityFits, securities-fit}
+use Rattle.book.specs.Types.{Guarantee}
 use Rattle.book.specs.Flat.{securityIn, securitiesOf, vaultOf}
-use Rattle.book.proofs.FitParts.{SecurityFits, securities-fit}
 use Rattle.book.proofs.HeldLaws.{security-at-row}
 
 pub row-fits : (held : List ℕ) (guarantee : Guarantee) → securitiesFit (vaultOf guarantee (securitiesOf held)) ≡ true → (kind : ℕ) → kind < 32 → SecurityFits (securityIn held kind)

@@ -11,11 +11,12 @@ use native.Mathlib.Omega.{arith}
 use native.Mathlib.Decide.{decLt, ℕ-discrete}
 use lib.ListN.{length, getD, set, length-append, length-set, List·getD-append}
 use lib.Seq.{sets, getD-at, getD-set-same, getD-set-other, ext-getD}
-use Rattle.book.specs.Book.{Security, Guarantee, noSecurity}
-use Rattle.book.specs.Vault.{securityAt}
-use Rattle.book.specs.Fit.{securityFit, securitiesFit}
+use Rattle.rules.specs.Book.{noSecurity}
+use Rattle.rules.specs.Vault.{securityAt}
+use Rattle.rules.specs.Fit.{securityFit, securitiesFit}
+use Rattle.rules.proofs.FoldLaws.{all-of}
+use Rattle.book.specs.Types.{Security, Guarantee}
 use Rattle.book.specs.Flat.{securityIn, securitiesTo, securitiesOf, vaultOf}
-use Rattle.book.proofs.FoldLaws.{all-of}
 use Rattle.book.proofs.SumLaws.{one-fails}
 use Rattle.book.proofs.StoreLaws.{getD-sets-inside, getD-sets-outside}
 

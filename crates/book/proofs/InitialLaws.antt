@@ -15,16 +15,15 @@ use Rattle.money.specs.Causes.{firstOf, numberOf}
 use Rattle.money.specs.Days.{Calendar, trades}
 use Rattle.money.proofs.Refusals.{failed}
 use Rattle.money.proofs.Least.{past-rests}
-use Rattle.book.specs.Book.{Book, Day, Never, On, Phase}
-use Rattle.book.specs.Days.{dayNumber}
-use Rattle.book.specs.Trades.{Terms, Trade, inUse}
-use Rattle.book.specs.Entry.{Initial}
-use Rattle.book.specs.Step.{eventCauses}
+use Rattle.rules.specs.Days.{dayNumber}
+use Rattle.rules.specs.Trades.{inUse}
+use Rattle.rules.specs.Step.{eventCauses}
+use Rattle.rules.specs.Fit.{dayFit, fit}
+use Rattle.rules.specs.Initial.{badCount, initialCauses}
+use Rattle.rules.proofs.FoldLaws.{neither, every-holds}
+use Rattle.rules.proofs.FitParts.{fit-parts}
+use Rattle.book.specs.Types.{Book, Day, Never, On, Phase, Terms, Trade, Initial}
 use Rattle.book.specs.Flat.{capacity, tradesOf}
-use Rattle.book.specs.Fit.{dayFit, fit}
-use Rattle.book.specs.Initial.{badCount, initialCauses}
-use Rattle.book.proofs.FoldLaws.{neither, every-holds}
-use Rattle.book.proofs.FitParts.{fit-parts}
 use Rattle.book.proofs.FlatLaws.{length-trades}
 use Rattle.book.proofs.Refusing.{done}
 

@@ -1,29 +1,5 @@
--- The book's theorems, and the laws that its proofs share.
+-- The laws that the book's proofs share.
 
--- laws of folds, of the table and of signed sums
-pub mod FoldLaws
-pub mod TradeLaws
-pub mod Signed
--- the number given is the smallest that applies
-pub mod Answers
--- a fit book stays fit
-pub mod FitParts
-pub mod TableFit
-pub mod DayFit
-pub mod KeepsFit
-pub mod EveningFit
-pub mod KeepsFitDay
-pub mod StaysFit
--- demand 3 over every list of entries
-pub mod Rows
-pub mod Accepted
-pub mod CashKept
-pub mod Agree
-pub mod Kept
-pub mod Demand3Proof
--- the worked cases
-pub mod Cases
-pub mod Slips
 -- laws for the code: the core's table
 pub mod FlatLaws
 pub mod StoreLaws
@@ -40,9 +16,7 @@ pub mod SplitLaws
 pub mod SumLaws
 pub mod VaultLaws
 pub mod EveningLaws
--- laws for the code: bytes, nets, days and refusals
-pub mod Bytes
-pub mod Unused
+-- laws for the code: nets, days and refusals
 pub mod NetLaws
 pub mod PayLaws
 pub mod DayLaws
@@ -64,7 +38,6 @@ pub mod LineLaws
 pub mod RunLaws
 pub mod ListingLaws
 -- walks by hand of the functions over a lent table
-pub mod FrontLaws
 pub mod TableLaws
 pub mod WalkAgain
 pub mod WalkArray

@@ -11,13 +11,11 @@ use lib.IntN.{ℤ, pos, negsuc, natAbs}
 use lib.ListN.{set}
 use lib.Seq.{sets}
 use lib.Signed.{ltZ}
-use Rattle.book.specs.Trades.{Trade}
-use Rattle.book.specs.Step.{Outcome}
-use Rattle.book.specs.Cover.{counted}
-use Rattle.book.specs.Listing.{isNegative, lineOf}
+use Rattle.rules.specs.Step.{Outcome}
+use Rattle.rules.specs.Cover.{counted}
+use Rattle.rules.specs.Listing.{isNegative, lineOf}
+use Rattle.book.specs.Types.{Trade, Applied, Cover}
 use Rattle.book.specs.Flat.{appliedOf}
-use Rattle.book.specs.declared.answer.Applied.{Applied}
-use Rattle.book.specs.declared.answer.Cover.{Cover}
 
 -- ---- headroom's sign and size
 

@@ -12,13 +12,13 @@ use lib.Dec.{ltb, eqb}
 use lib.ListN.{length, getD, replicate, length-replicate, getD-replicate, replicate-append-replicate}
 use Rattle.money.specs.Causes.{Cause, _⇒_, firstOf, numberOf}
 use Rattle.money.proofs.Refusals.{failed}
-use Rattle.book.specs.Trades.{noTrade}
 use Rattle.money.specs.Days.{Calendar}
-use Rattle.book.specs.Book.{freshBook}
-use Rattle.book.specs.Listing.{journalTable, listingOf, lengthCauses, listingCauses, writtenBy, RunOutcome, runDone, runOutcome}
+use Rattle.rules.specs.Trades.{noTrade}
+use Rattle.rules.specs.Book.{freshBook}
+use Rattle.rules.specs.Listing.{journalTable, listingOf, lengthCauses, listingCauses, writtenBy, RunOutcome, runDone, runOutcome}
+use Rattle.rules.proofs.StaysFit.{fresh-is-fit}
 use Rattle.book.specs.Flat.{tradeAt, tradesTo, capacity, tradesOf}
 use Rattle.book.proofs.Refusing.{none-at-0}
-use Rattle.book.proofs.StaysFit.{fresh-is-fit}
 use Rattle.book.proofs.StepLaws.{not-unfit}
 use Rattle.book.proofs.RunLaws.{goes-on}
 

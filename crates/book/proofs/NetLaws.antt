@@ -11,8 +11,8 @@ use lib.IntN.{ℤ, pos, negsuc, negℤ, _+ℤ_, _-ℤ_, natAbs, subℕ, +ℤ-idl
 use lib.Signed.{ltZ, nonNeg}
 use mir.Val.{SFits}
 use mir.Syntax.{w64}
-use Rattle.book.specs.Fit.{netFit}
-use Rattle.book.proofs.Signed.{same, sub-parts, diff-parts}
+use Rattle.rules.specs.Fit.{netFit}
+use Rattle.rules.proofs.Signed.{same, sub-parts, diff-parts}
 
 -- ---- the limit
 

@@ -10,16 +10,17 @@ use lib.IntN.{natAbs}
 use lib.ListN.{length}
 use Rattle.money.specs.Causes.{firstOf}
 use Rattle.money.specs.Days.{Calendar}
-use Rattle.book.specs.Limits.{netLimit}
-use Rattle.book.specs.Book.{Book, Trading, isClosed, withStanding}
-use Rattle.book.specs.Days.{following, paymentDay, followed}
-use Rattle.book.specs.Trades.{Trade, inUse}
-use Rattle.book.specs.Fit.{netFit, fit}
-use Rattle.book.specs.Open.{turnsTerminated, nextDay, netWithFallbacks, openCauses, openedStanding}
+use Rattle.rules.specs.Limits.{netLimit}
+use Rattle.rules.specs.Book.{isClosed, withStanding}
+use Rattle.rules.specs.Days.{following, paymentDay, followed}
+use Rattle.rules.specs.Trades.{inUse}
+use Rattle.rules.specs.Fit.{netFit, fit}
+use Rattle.rules.specs.Open.{turnsTerminated, nextDay, netWithFallbacks, openCauses, openedStanding}
+use Rattle.rules.proofs.TableFit.{all-the-same}
+use Rattle.rules.proofs.DayFit.{next-day}
+use Rattle.rules.proofs.FitParts.{fit-parts, parts-fit}
+use Rattle.book.specs.Types.{Book, Trading, Trade}
 use Rattle.book.specs.Flat.{tradesOf, Redeemable}
-use Rattle.book.proofs.TableFit.{all-the-same}
-use Rattle.book.proofs.DayFit.{next-day}
-use Rattle.book.proofs.FitParts.{fit-parts, parts-fit}
 use Rattle.book.proofs.FitFacts.{fit-redeemable}
 
 -- ---- the cause that applies

@@ -7,9 +7,10 @@ use native.Mathlib.Numerals.{add-one}
 use native.Mathlib.Omega.{arith}
 use lib.ListN.{length, take, drop, set, replicate, length-append, length-replicate, take-append-drop, replicate-append-replicate}
 use lib.Seq.{take-suc-set, drop-set-lt, drop-drop, length-take-le}
-use Rattle.book.specs.Trades.{Trade, noTrade, leaves, remaining, packed, over}
+use Rattle.rules.specs.Trades.{noTrade, leaves, remaining, packed, over}
+use Rattle.rules.proofs.TradeLaws.{remaining-append}
+use Rattle.book.specs.Types.{Trade}
 use Rattle.book.specs.Flat.{tradeAt, tradesTo, capacity, tradesOf}
-use Rattle.book.proofs.TradeLaws.{remaining-append}
 use Rattle.book.proofs.FlatLaws.{no-trades, one-more, length-trades, same-trade}
 use Rattle.book.proofs.RedemptionLaws.{over-set}
 

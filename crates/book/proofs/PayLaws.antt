@@ -8,8 +8,8 @@ use borrow.Author.Tests.{ltb-true}
 use lib.IntN.{ℤ, pos, negsuc, natAbs}
 use lib.Signed.{ltZ}
 use Rattle.money.specs.Units.{fen}
-use Rattle.book.specs.Book.{Cash}
-use Rattle.book.specs.Pay.{payerHolds, moved}
+use Rattle.rules.specs.Pay.{payerHolds, moved}
+use Rattle.book.specs.Types.{Cash}
 
 module _ (cash : Cash) where
   pub client-holds : (net : ℤ) → ltZ net (pos 0) ≡ true → payerHolds net cash ≡ cash .client .0

@@ -10,11 +10,12 @@ use borrow.Author.Tests.{lt-ltb, le-ltb, eq-eqb, eqb-true}
 use lib.Dec.{ltb, leb·suc-suc}
 use lib.ListN.{length, getD, take, drop, set, replicate, length-set, length-replicate}
 use lib.Seq.{length-take-le, take-all, take-suc-set}
-use Rattle.book.specs.Trades.{Contract, Trade, noTrade, same, withSheets, onTable, tradeOf, takeOff, differ}
+use Rattle.rules.specs.Trades.{noTrade, same, withSheets, onTable, tradeOf, takeOff, differ}
+use Rattle.rules.proofs.FoldLaws.{not-here}
+use Rattle.rules.proofs.TableFit.{differ-append}
+use Rattle.book.specs.Types.{Contract, Trade}
 use Rattle.book.specs.Sort.{among, allDiffer}
 use Rattle.book.specs.Flat.{tradeAt, tradesTo, placeOf, contractNumbers}
-use Rattle.book.proofs.FoldLaws.{not-here}
-use Rattle.book.proofs.TableFit.{differ-append}
 use Rattle.book.proofs.FlatLaws.{no-trades, one-more, length-trades, split-trades}
 
 -- ---- the place and the table

@@ -14,11 +14,12 @@ use Rattle.money.specs.Limits.{tradeLimit, priceLimit}
 use Rattle.money.specs.declared.units.Ticks.{Ticks}
 use Rattle.money.specs.Units.{sheets}
 use Rattle.money.proofs.Bounds.{redemption-bound}
-use Rattle.book.specs.Trades.{Trade, noTrade, total, redeemed, fallbackAmount, emptied, maturing, maturityAmount, matured, over}
-use Rattle.book.specs.Fit.{tradeFit}
+use Rattle.rules.specs.Trades.{noTrade, total, redeemed, fallbackAmount, emptied, maturing, maturityAmount, matured, over}
+use Rattle.rules.specs.Fit.{tradeFit}
+use Rattle.rules.proofs.FoldLaws.{every-holds}
+use Rattle.rules.proofs.TradeLaws.{maturing-le}
+use Rattle.book.specs.Types.{Trade}
 use Rattle.book.specs.Flat.{tradeAt, tradesTo, capacity, tradesOf, Kept, Redeemable}
-use Rattle.book.proofs.FoldLaws.{every-holds}
-use Rattle.book.proofs.TradeLaws.{maturing-le}
 use Rattle.book.proofs.FlatLaws.{no-trades, one-more, length-trades, same-trade, total-at-most, all-below}
 
 -- ---- a trade in use

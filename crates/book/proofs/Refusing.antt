@@ -8,14 +8,13 @@ use Prim.Native.Nat.{ℕ}
 use native.Mathlib.Omega.{arith}
 use Rattle.money.specs.Causes.{Cause, firstOf, numberOf}
 use Rattle.money.specs.Days.{Calendar}
-use Rattle.book.specs.Book.{Book, answer}
+use Rattle.rules.specs.Book.{answer}
+use Rattle.rules.specs.Step.{eventCauses}
+use Rattle.rules.proofs.Answers.{numbers, event-numbers, number-passes, unused}
+use Rattle.book.specs.Types.{Book, Trade, Event}
 use Rattle.book.specs.declared.desk.Desk.{Desk}
 use Rattle.book.specs.declared.desk.Done.{Done}
-use Rattle.book.specs.Trades.{Trade}
-use Rattle.book.specs.Entry.{Event}
-use Rattle.book.specs.Step.{eventCauses}
 use Rattle.book.specs.Flat.{Rows, bookOf, appliedBy, appliedAt}
-use Rattle.book.proofs.Answers.{numbers, event-numbers, number-passes, unused}
 
 -- the rows of no book: where a fact is the desk's alone
 abbrev pub noRows : Rows

@@ -13,17 +13,15 @@ use lib.Seq.{sets, length-sets, sets-eq, take-at, drop-at, drop-drop, length-tak
 use Rattle.money.specs.Causes.{firstOf, numberOf}
 use Rattle.money.specs.Days.{Calendar}
 use Rattle.money.proofs.Refusals.{hit, skip, failed}
-use Rattle.book.specs.Book.{Book}
-use Rattle.book.specs.Trades.{Trade}
-use Rattle.book.specs.Fit.{fit}
-use Rattle.book.specs.Entry.{Entry, decoded}
-use Rattle.book.specs.Step.{Outcome, unfit, step}
-use Rattle.book.specs.Run.{run, lastBook, lastTable}
-use Rattle.book.specs.Listing.{entriesOf, lineOf, linesOf, lengthCauses, RunOutcome, runCauses, runDone, runOutcome}
+use Rattle.rules.specs.Fit.{fit}
+use Rattle.rules.specs.Entry.{decoded}
+use Rattle.rules.specs.Step.{Outcome, unfit, step}
+use Rattle.rules.specs.Run.{run, lastBook, lastTable}
+use Rattle.rules.specs.Listing.{entriesOf, lineOf, linesOf, lengthCauses, RunOutcome, runCauses, runDone, runOutcome}
+use Rattle.rules.proofs.StaysFit.{step-keeps-fit}
+use Rattle.book.specs.Types.{Book, Trade, Entry, Applied}
 use Rattle.book.specs.Flat.{tradesOf, appliedOf}
-use Rattle.book.specs.declared.answer.Applied.{Applied}
 use Rattle.book.proofs.Refusing.{none-at-0, refused}
-use Rattle.book.proofs.StaysFit.{step-keeps-fit}
 
 -- ---- a row of numbers stored
 

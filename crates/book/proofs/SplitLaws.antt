@@ -3,7 +3,7 @@
 use mathlib.Core.Path.{_≡_, ap, _∙_}
 use mathlib.Core.List.{List}
 use Prim.Native.Nat.{ℕ}
-use Rattle.book.specs.Book.{Security, Book}
+use Rattle.book.specs.Types.{Security, Book}
 use Rattle.book.specs.declared.desk.Desk.{Desk}
 use Rattle.book.specs.Flat.{securitiesOf, rowsOf, bookOf, deskOf}
 

@@ -10,14 +10,12 @@ use lib.ListN.{length}
 use Rattle.money.specs.Causes.{firstOf}
 use Rattle.money.specs.Days.{Calendar}
 use Rattle.money.proofs.Refusals.{hit, skip}
-use Rattle.book.specs.Book.{Book, answer}
-use Rattle.book.specs.Trades.{Trade}
-use Rattle.book.specs.Fit.{fit}
-use Rattle.book.specs.Pay.{fails, paidBook, payNumber}
-use Rattle.book.specs.Close.{closeAnswer, closedBook}
-use Rattle.book.specs.Entry.{Event, Entry, Known}
-use Rattle.book.specs.declared.answer.Applied.{Applied}
-use Rattle.book.specs.Step.{Outcome, outcome, unfit, eventCauses, entryCauses, causes, act, actOn, refuseOr, step}
+use Rattle.rules.specs.Book.{answer}
+use Rattle.rules.specs.Fit.{fit}
+use Rattle.rules.specs.Pay.{fails, paidBook, payNumber}
+use Rattle.rules.specs.Close.{closeAnswer, closedBook}
+use Rattle.rules.specs.Step.{Outcome, outcome, unfit, eventCauses, entryCauses, causes, act, actOn, refuseOr, step}
+use Rattle.book.specs.Types.{Book, Trade, Event, Entry, Known, Applied}
 use Rattle.book.specs.Flat.{appliedBy, paidBy, closedBy, tableBy, appliedOf}
 
 module _ (calendar : Calendar) (book : Book) (table : List Trade) where

@@ -10,7 +10,8 @@ use native.Mathlib.Omega.{arith}
 use native.Mathlib.Decide.{decLt, ℕ-discrete}
 use lib.ListN.{length, getD, take, drop, set, length-append, length-set, List·getD-append}
 use lib.Seq.{sets, length-sets, getD-set-same, getD-set-other, getD-append-add, sets-eq, ext-getD, length-take-le}
-use Rattle.book.specs.Trades.{Trade, noTrade, withSheets}
+use Rattle.rules.specs.Trades.{noTrade, withSheets}
+use Rattle.book.specs.Types.{Trade}
 use Rattle.book.specs.Flat.{tradeAt, capacity, tradesOf}
 use Rattle.book.proofs.FlatLaws.{length-trades, trade-at}
 

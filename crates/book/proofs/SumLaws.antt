@@ -7,8 +7,8 @@ use Prim.Native.Nat.{ℕ, zero, suc, _+_, _*_, _≤_, _<_}
 use native.Mathlib.Decide.{ℕ-discrete}
 use native.Mathlib.Numerals.{add-one}
 use native.Mathlib.Omega.{arith}
-use Rattle.book.specs.Folds.{sumBelow, allBelow, inTurn, every}
-use Rattle.book.proofs.FoldLaws.{by-test, all-at}
+use Rattle.rules.specs.Folds.{sumBelow, allBelow, inTurn, every}
+use Rattle.rules.proofs.FoldLaws.{by-test, all-at}
 
 -- ---- a loop's first turn and one more
 

@@ -10,12 +10,12 @@ use borrow.Author.Tests.{lt-leb}
 use lib.ListN.{length, getD, take, set, length-set, List·getD-append}
 use lib.Seq.{getD-take, getD-set-same, getD-set-other, ext-getD, length-take-le}
 use Rattle.money.specs.Days.{Calendar}
-use Rattle.book.specs.Folds.{every}
-use Rattle.book.specs.Book.{Book, answer}
-use Rattle.book.specs.Trades.{Trade, noTrade}
-use Rattle.book.specs.Entry.{Entry}
-use Rattle.book.specs.Fit.{capacityFit, fit}
-use Rattle.book.specs.Step.{outcome, unfit, step}
+use Rattle.rules.specs.Folds.{every}
+use Rattle.rules.specs.Book.{answer}
+use Rattle.rules.specs.Trades.{noTrade}
+use Rattle.rules.specs.Fit.{capacityFit, fit}
+use Rattle.rules.specs.Step.{outcome, unfit, step}
+use Rattle.book.specs.Types.{Book, Trade, Entry}
 use Rattle.book.specs.Flat.{tradeAt, tradesTo, capacity, tradesOf}
 use Rattle.book.proofs.FlatLaws.{length-trades, trade-below, trade-at}
 use Rattle.book.proofs.StoreLaws.{same-words}

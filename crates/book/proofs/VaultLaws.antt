@@ -12,15 +12,16 @@ use lib.Seq.{getD-set-same, getD-set-other}
 use Rattle.money.specs.Limits.{cashLimit, rateLimit}
 use Rattle.money.specs.Collateral.{rateOf, unitLimitOf, kindValue}
 use Rattle.money.proofs.Bounds.{value-bound}
-use Rattle.book.specs.Folds.{sumBelow}
-use Rattle.book.specs.Limits.{applicationLimit}
-use Rattle.book.specs.Book.{Cash, Guarantee, Vault, Withdrawals, noSecurity}
-use Rattle.book.specs.Vault.{securityAt, effectiveOf, frozenOf, value}
-use Rattle.book.specs.Fit.{securitiesFit, allCash, cashFit, applicationFit, withdrawalsFit}
-use Rattle.book.specs.Withdraw.{applied}
-use Rattle.book.specs.Close.{fewer, takenOut}
-use Rattle.book.proofs.FoldLaws.{all-of}
-use Rattle.book.proofs.FitParts.{securities-fit, withdrawals-fit}
+use Rattle.rules.specs.Folds.{sumBelow}
+use Rattle.rules.specs.Limits.{applicationLimit}
+use Rattle.rules.specs.Book.{noSecurity}
+use Rattle.rules.specs.Vault.{securityAt, effectiveOf, frozenOf, value}
+use Rattle.rules.specs.Fit.{securitiesFit, allCash, cashFit, applicationFit, withdrawalsFit}
+use Rattle.rules.specs.Withdraw.{applied}
+use Rattle.rules.specs.Close.{fewer, takenOut}
+use Rattle.rules.proofs.FoldLaws.{all-of}
+use Rattle.rules.proofs.FitParts.{securities-fit, withdrawals-fit}
+use Rattle.book.specs.Types.{Cash, Guarantee, Vault, Withdrawals}
 use Rattle.book.proofs.SumLaws.{one-fails, sum-bound, sum-part, sum-changed}
 
 -- ---- fit cash

@@ -26,10 +26,10 @@ use denote.Triple.Clauses.{ensured, lasts}
 use denote.Triple.Spec.{tripleOf}
 use denote.Triple.Statement.{Contract}
 use denote.Triple.Walked.{says}
-use Rattle.book.specs.Trades.{Trade}
+use Rattle.rules.proofs.trade.Trade as T
+use Rattle.book.specs.Types.{Trade}
 use Rattle.book.specs.Flat.{tradesTo}
 use Rattle.book.proofs.WalkAgain.{slice-at, Slice, Shared}
-use Rattle.book.proofs.trade.Trade as T
 use Rattle.book.proofs.copies.copy_in as copy-in
 use Rattle.book.proofs.copies.copy_out as copy-out
 

@@ -4,11 +4,10 @@ use Prim.Native.Nat.{ℕ, _+_, max}
 use mathlib.Core.Bool.{true, false, cond}
 use mathlib.Core.Path.{_≡_}
 use mathlib.Core.List.{List, [], _∷_}
-use Rattle.book.specs.Trades.{Trade, inUse, outstanding}
-use Rattle.book.specs.Vault.{value, outstandingOf}
-use Rattle.book.specs.Book.{Book}
-use Rattle.book.specs.Fit.{tradeFit, allTrades}
-use Rattle.book.specs.Entry.{Event, Open, FundIn, FundOut, Size, Rate, Pledge, Freeze, Withdraw, Initial, Early, Pay, Close, Entry, Known, Undecodable}
+use Rattle.rules.specs.Trades.{inUse, outstanding}
+use Rattle.rules.specs.Vault.{value, outstandingOf}
+use Rattle.rules.specs.Fit.{tradeFit, allTrades}
+use Rattle.book.specs.Types.{Trade, Book, Event, Open, FundIn, FundOut, Size, Rate, Pledge, Freeze, Withdraw, Initial, Early, Pay, Close, Entry, Known, Undecodable}
 use Rattle.book.specs.Flat.{vaultOf, securitiesOf}
 use Rattle.book.specs.declared.desk.Desk.{Desk}
 pub use Rattle.book.specs.declared.figures.Figures.{Figures}

@@ -9,18 +9,18 @@ use lib.Dec.{leb}
 use lib.ListN.{length, getD}
 use Rattle.money.specs.Limits.{termLimit}
 use Rattle.money.specs.Units.{sheets, ticks}
-use Rattle.book.specs.Limits.{capacityLimit}
-use Rattle.book.specs.Book.{Security, Guarantee, Vault, Book, answer}
+use Rattle.money.specs.Days.{Calendar}
+use Rattle.rules.specs.Limits.{capacityLimit}
+use Rattle.rules.specs.Book.{answer}
+use Rattle.rules.specs.Pay.{fails, paidBook, payNumber}
+use Rattle.rules.specs.Close.{Evening, closeAnswer, closedBook}
+use Rattle.rules.specs.Step.{Outcome}
+use Rattle.rules.specs.Trades.{same}
+use Rattle.rules.specs.Fit.{tradeFit, allTrades, fit}
+use Rattle.book.specs.Types.{Security, Guarantee, Vault, Book, Applied, Contract, Trade}
 use Rattle.book.specs.declared.desk.Desk.{Desk}
 use Rattle.book.specs.declared.desk.Done.{Done}
 use Rattle.book.specs.declared.evening.Evened.{Evened}
-use Rattle.book.specs.declared.answer.Applied.{Applied}
-use Rattle.money.specs.Days.{Calendar}
-use Rattle.book.specs.Pay.{fails, paidBook, payNumber}
-use Rattle.book.specs.Close.{Evening, closeAnswer, closedBook}
-use Rattle.book.specs.Step.{Outcome}
-use Rattle.book.specs.Trades.{Contract, Trade, same}
-use Rattle.book.specs.Fit.{tradeFit, allTrades, fit}
 
 -- a number of the trade at a place
 abbrev pub word : List ℕ → (place field : ℕ) → ℕ

@@ -1,29 +1,5 @@
--- The book, in the order of document 01.
-pub mod Folds
-pub mod Limits
-pub mod Book
-pub mod Days
-pub mod Trades
-pub mod Vault
-pub mod Fit
-pub mod Entry
-pub mod Open
-pub mod Funds
-pub mod Size
-pub mod Rate
-pub mod Pledge
-pub mod Freeze
-pub mod Withdraw
-pub mod Initial
-pub mod Early
-pub mod Pay
-pub mod Close
-pub mod Step
-pub mod Cover
-pub mod Run
-pub mod Tally
-pub mod Demand3
-pub mod Listing
+-- How the core names and lays out its data, for private contracts; no rule stands here.
+pub mod Types
 pub mod Sort
 pub mod Flat
 pub mod Figures

@@ -8,17 +8,12 @@ ghost use lib.IntN.{pos};
 ghost use lib.ListN.{length};
 ghost use Rattle.money.specs.Causes.{firstOf};
 ghost use Rattle.money.specs.Days.{Calendar};
-ghost use Rattle.book.specs.Fit.{securitiesFit, cashFit, withdrawalsFit, fit};
-ghost use Rattle.book.specs.Book.{noApplications};
-ghost use Rattle.book.specs.Close.{mayClose, maturedTrades, maturedSheets, clearedAtClose, served, evening as eveningOf, shortMore, shortAtClose, closedStanding, closeCauses, closedBook, closedTable};
-ghost use Rattle.book.specs.Trades.{Trade, outstanding, remaining};
+ghost use Rattle.rules.specs.Fit.{securitiesFit, cashFit, withdrawalsFit, fit};
+ghost use Rattle.rules.specs.Book.{noApplications};
+ghost use Rattle.rules.specs.Close.{mayClose, maturedTrades, maturedSheets, clearedAtClose, served, evening as eveningOf, shortMore, shortAtClose, closedStanding, closeCauses, closedBook, closedTable};
+ghost use Rattle.rules.specs.Trades.{outstanding, remaining};
+ghost use Rattle.book.specs.Types.{Trade};
 ghost use Rattle.book.specs.Flat.{Rows, vaultOf, securitiesOf, rowsOf, bookOf, eveningAt, appliedAt, tradesOf, closedBy, tableBy, Kept};
-use crate::answer::Answer;
-use crate::book::Cash;
-use crate::book::Nets;
-use crate::book::Phase;
-use crate::book::ShortRun;
-use crate::book::Standing;
 use crate::days;
 use crate::desk;
 use crate::desk::Desk;
@@ -33,6 +28,12 @@ use crate::trades;
 use crate::vault;
 use money::units::Fen;
 use money::units::Sheets;
+use rules::answer::Answer;
+use rules::book::Cash;
+use rules::book::Nets;
+use rules::book::Phase;
+use rules::book::ShortRun;
+use rules::book::Standing;
 
 fn may_close(standing: Standing) -> bool
     ensures { λ r. ⌜ r ≡ mayClose standing ⌝ }

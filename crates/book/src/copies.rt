@@ -4,7 +4,7 @@ ghost use Prim.Native.Nat.{_*_, _≤_};
 ghost use lib.ListN.{length};
 ghost use Rattle.book.specs.Flat.{tradesTo};
 use crate::flat;
-use crate::trade::Trade;
+use rules::trade::Trade;
 
 // Room for 4,096 trades.
 pub fn zeros() -> [u64; 24_576] {

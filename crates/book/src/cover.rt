@@ -2,17 +2,17 @@
 ghost use mathlib.Core.Path.{_≡_};
 ghost use Prim.Native.Nat.{_≤_, min};
 ghost use Rattle.money.specs.Units.{sheets};
-ghost use Rattle.book.specs.Vault.{headroomOf};
-ghost use Rattle.book.specs.Cover.{uncounted, coverOf};
+ghost use Rattle.rules.specs.Vault.{headroomOf};
+ghost use Rattle.rules.specs.Cover.{uncounted, coverOf};
 ghost use Rattle.book.specs.Flat.{tradesOf};
-use crate::answer::Cover;
-use crate::book::Book;
 use crate::figures;
 use crate::figures::Figures;
 use crate::fit;
 use crate::nets;
 use crate::split;
 use money::units::Sheets;
+use rules::answer::Cover;
+use rules::book::Book;
 
 fn smaller(a: u64, b: u64) -> u64
     ensures { λ r. ⌜ r ≡ min a b ⌝ }

@@ -4,9 +4,9 @@ ghost use mathlib.Core.Option.{some};
 ghost use Prim.Native.Nat.{_≤_};
 ghost use lib.ListN.{length};
 ghost use Rattle.money.specs.Days.{atOrAfter, searchResult};
-ghost use Rattle.book.specs.Days.{following, toDay, dayNumber, paymentDay, followed};
-use crate::book::Day;
+ghost use Rattle.rules.specs.Days.{following, toDay, dayNumber, paymentDay, followed};
 use money::days::Found;
+use rules::book::Day;
 
 // The next day to open.
 fn next_found(calendar: &[u32], day: Day) -> Found

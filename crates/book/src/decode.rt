@@ -4,28 +4,16 @@ ghost use mathlib.Core.List.{[], _∷_};
 ghost use Prim.Native.Nat.{_+_, _≤_, _<_};
 ghost use lib.ListN.{length};
 ghost use Rattle.money.specs.Units.{fen, sheets, ticks};
-ghost use Rattle.book.specs.Entry.{numberAt, fieldsOf, restOf, termsOf, unless, onAccount, entryOf, decoded};
-use crate::event::Account;
-use crate::event::Entry;
-use crate::event::Event;
-use crate::trade::Contract;
-use crate::trade::Terms;
+ghost use Rattle.rules.specs.Entry.{numberAt, fieldsOf, restOf, termsOf, unless, onAccount, entryOf, decoded};
 use money::units::Fen;
 use money::units::Sheets;
 use money::units::Ticks;
-
-// The numbers in the 40 bytes; `spare` and `last` are the bytes that no event uses.
-struct Fields {
-    code: u8,
-    kind: u8,
-    spare: u64,
-    amount: u64,
-    contract: u64,
-    price: u32,
-    fallback: u32,
-    due: u32,
-    last: u32,
-}
+use rules::event::Account;
+use rules::event::Entry;
+use rules::event::Event;
+use rules::event::Fields;
+use rules::trade::Contract;
+use rules::trade::Terms;
 
 // A byte as a number of 4 bytes.
 fn wide(byte: u8) -> u32

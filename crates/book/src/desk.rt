@@ -1,12 +1,12 @@
 // The book as the core has it: what is small goes by value; the securities and the applications stand in rows that are lent.
 ghost use mathlib.Core.Path.{_≡_};
-ghost use Rattle.book.specs.Book.{answer};
-use crate::answer::Answer;
-use crate::book::Cash;
-use crate::book::Guarantee;
-use crate::book::Nets;
-use crate::book::Standing;
+ghost use Rattle.rules.specs.Book.{answer};
 use money::units::Sheets;
+use rules::answer::Answer;
+use rules::book::Cash;
+use rules::book::Guarantee;
+use rules::book::Nets;
+use rules::book::Standing;
 
 // `applications` is how many stand for the evening, `trades` how many slots of the table are in use.
 pub struct Desk {

@@ -3,19 +3,15 @@ ghost use mathlib.Core.Path.{_≡_};
 ghost use mathlib.Core.Bool.{true};
 ghost use Prim.Native.Nat.{_≤_};
 ghost use lib.ListN.{length};
-ghost use Rattle.book.specs.Fit.{fit};
-ghost use Rattle.book.specs.Entry.{Known};
-ghost use Rattle.book.specs.Step.{step};
+ghost use Rattle.rules.specs.Fit.{fit};
+ghost use Rattle.rules.specs.Step.{step};
+ghost use Rattle.book.specs.Types.{Known};
 ghost use Rattle.book.specs.Flat.{rowsOf, bookOf, appliedAt, tradesOf, appliedOf};
-use crate::answer::Applied;
-use crate::book::Book;
 use crate::close;
 use crate::desk;
 use crate::desk::Desk;
 use crate::desk::Done;
 use crate::early;
-use crate::event::Entry;
-use crate::event::Event;
 use crate::fit;
 use crate::freeze;
 use crate::funds;
@@ -28,6 +24,10 @@ use crate::size;
 use crate::split;
 use crate::step;
 use crate::withdraw;
+use rules::answer::Applied;
+use rules::book::Book;
+use rules::event::Entry;
+use rules::event::Event;
 
 // One event on a fit book, under a calendar of at most 1,200 words.
 fn event_on(

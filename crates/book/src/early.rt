@@ -3,7 +3,7 @@ ghost use mathlib.Core.Path.{_≡_};
 ghost use Prim.Native.Nat.{_≤_, _<_, _*_};
 ghost use lib.ListN.{length};
 ghost use Rattle.money.specs.Causes.{firstOf, numberOf};
-ghost use Rattle.book.specs.Early.{earlyAmount, pastDue, earlyCauses, earlyBook, earlyTable};
+ghost use Rattle.rules.specs.Early.{earlyAmount, pastDue, earlyCauses, earlyBook, earlyTable};
 ghost use Rattle.book.specs.Flat.{Rows, bookOf, Fits, appliedAt, tradesTo, tradesOf, placeOf, appliedBy, tableBy};
 use crate::days;
 use crate::desk;
@@ -13,10 +13,10 @@ use crate::flat;
 use crate::nets;
 use crate::redemption;
 use crate::standing;
-use crate::trade::Contract;
 use crate::trades;
 use money::units::Sheets;
 use money::units::Ticks;
+use rules::trade::Contract;
 
 // Whether today is at or past the due day of the trade at a place.
 fn past_due(desk: Desk, table: &[u64], place: usize, contract: Contract) -> bool

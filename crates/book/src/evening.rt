@@ -7,15 +7,15 @@ ghost use mathlib.Core.List.{map};
 ghost use lib.ListN.{length};
 ghost use lib.Signed.{ltZ};
 ghost use Rattle.money.specs.Collateral.{rateOf, unitLimitOf, kindValue};
-ghost use Rattle.book.specs.Book.{Vault};
-ghost use Rattle.book.specs.Vault.{securityAt, effectiveOf, frozenOf, value as valueOf, headroomOf};
-ghost use Rattle.book.specs.Fit.{securitiesFit, withdrawalsFit};
-ghost use Rattle.book.specs.Close.{securityArrived, guaranteeArrived, takenOut, mayGo, applications};
+ghost use Rattle.rules.specs.Vault.{securityAt, effectiveOf, frozenOf, value as valueOf, headroomOf};
+ghost use Rattle.rules.specs.Fit.{securitiesFit, withdrawalsFit};
+ghost use Rattle.rules.specs.Close.{securityArrived, guaranteeArrived, takenOut, mayGo, applications};
+ghost use Rattle.book.specs.Types.{Vault};
 ghost use Rattle.book.specs.Flat.{vaultOf, securitiesOf, eveningAt};
-use crate::book::Guarantee;
-use crate::book::Security;
 use crate::held;
 use money::units::Fen;
+use rules::book::Guarantee;
+use rules::book::Security;
 
 fn security_arrived(security: Security) -> Security
     requires { ⌜ security .effective + security .arriving ≤ 1000000000000 ⌝ }

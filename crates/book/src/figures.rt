@@ -1,14 +1,14 @@
 // O and V of a book: counted over the table and the vault, or carried over an event that says how it moves them.
 ghost use mathlib.Core.Path.{_≡_};
 ghost use lib.ListN.{length};
-ghost use Rattle.book.specs.Trades.{inUse, outstanding};
+ghost use Rattle.rules.specs.Trades.{inUse, outstanding};
 ghost use Rattle.book.specs.Figures.{figuresAt, Moved, MovedBy};
 ghost use Rattle.book.specs.Flat.{FitsHeld, tradesOf};
 use crate::desk::Desk;
-use crate::event::Entry;
-use crate::event::Event;
 use crate::trades;
 use crate::vault;
+use rules::event::Entry;
+use rules::event::Event;
 
 pub struct Figures {
     pub outstanding: u64,

@@ -3,20 +3,21 @@ ghost use mathlib.Core.Path.{_≡_};
 ghost use mathlib.Core.List.{List, [], _∷_};
 ghost use Prim.Native.Nat.{_≤_};
 ghost use lib.ListN.{length};
-ghost use Rattle.book.specs.Folds.{every};
-ghost use Rattle.book.specs.Trades.{Trade, differ};
-ghost use Rattle.book.specs.Fit.{capacityFit, sizeFit, netsFit, withdrawalsFit, unopenedFit, openedFit, dayFit, fit};
+ghost use Rattle.rules.specs.Folds.{every};
+ghost use Rattle.rules.specs.Trades.{differ};
+ghost use Rattle.rules.specs.Fit.{capacityFit, sizeFit, netsFit, withdrawalsFit, unopenedFit, openedFit, dayFit, fit};
+ghost use Rattle.book.specs.Types.{Trade};
 ghost use Rattle.book.specs.Flat.{rowsOf, bookOf, tradesTo, tradesOf, Kept};
 ghost use Rattle.book.specs.Figures.{latestFirst};
-use crate::book::Day;
-use crate::book::Nets;
-use crate::book::Standing;
 use crate::days;
 use crate::desk::Desk;
 use crate::nets;
 use crate::standing;
 use crate::trades;
 use crate::vault;
+use rules::book::Day;
+use rules::book::Nets;
+use rules::book::Standing;
 
 fn capacity_fit(count: usize, table: &[u64]) -> bool
     ensures { λ r. ⌜ r ≡ capacityFit count (tradesOf (now (table .entry))) ⌝ }

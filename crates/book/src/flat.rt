@@ -2,12 +2,12 @@
 ghost use mathlib.Core.Path.{_≡_};
 ghost use Prim.Native.Nat.{_+_, _*_, _<_};
 ghost use lib.ListN.{length, set};
-ghost use Rattle.book.specs.Trades.{same, withSheets};
+ghost use Rattle.rules.specs.Trades.{same, withSheets};
 ghost use Rattle.book.specs.Flat.{tradeAt, tradesOf};
-use crate::trade::Contract;
-use crate::trade::Trade;
 use money::units::Sheets;
 use money::units::Ticks;
+use rules::trade::Contract;
+use rules::trade::Trade;
 
 pub fn same_contract(a: Contract, b: Contract) -> bool
     ensures { λ r. ⌜ r ≡ same a b ⌝ }

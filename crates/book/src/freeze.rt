@@ -4,15 +4,15 @@ ghost use mathlib.Core.List.{List};
 ghost use Prim.Native.Nat.{ℕ, _<_};
 ghost use lib.ListN.{length, set};
 ghost use Rattle.money.specs.Causes.{firstOf, numberOf};
-ghost use Rattle.book.specs.Freeze.{freezeCauses, frozen, withFrozen, cashFrozen};
+ghost use Rattle.rules.specs.Freeze.{freezeCauses, frozen, withFrozen, cashFrozen};
 ghost use Rattle.book.specs.Flat.{securityIn, securitiesOf, rowsOf, bookOf, appliedBy, appliedAt};
-use crate::book::Guarantee;
 use crate::desk;
 use crate::desk::Desk;
 use crate::desk::Done;
 use crate::held;
 use crate::vault;
 use money::units::Fen;
+use rules::book::Guarantee;
 
 fn freeze_refusal(desk: Desk, held: &[u64], kind: u8, units: u64) -> u8
     requires { ⌜ length (now held) ≡ 128 ⌝ }

@@ -2,15 +2,15 @@
 ghost use mathlib.Core.Path.{_≡_};
 ghost use mathlib.Core.Bool.{true};
 ghost use Rattle.money.specs.Causes.{firstOf, numberOf};
-ghost use Rattle.book.specs.Fit.{cashFit};
-ghost use Rattle.book.specs.Funds.{holds, withAccount, fundInCauses, fundedIn, fundOutCauses, fundedOut};
+ghost use Rattle.rules.specs.Fit.{cashFit};
+ghost use Rattle.rules.specs.Funds.{holds, withAccount, fundInCauses, fundedIn, fundOutCauses, fundedOut};
 ghost use Rattle.book.specs.Flat.{Rows, bookOf, appliedBy, appliedAt};
-use crate::book::Cash;
 use crate::desk;
 use crate::desk::Desk;
 use crate::desk::Done;
-use crate::event::Account;
 use money::units::Fen;
+use rules::book::Cash;
+use rules::event::Account;
 
 fn held(account: Account, cash: Cash) -> u64
     ensures { λ r. ⌜ r ≡ holds account cash ⌝ }

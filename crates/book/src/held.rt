@@ -3,7 +3,7 @@ ghost use mathlib.Core.Path.{_≡_};
 ghost use Prim.Native.Nat.{_<_};
 ghost use lib.ListN.{length, set};
 ghost use Rattle.book.specs.Flat.{securityIn, securitiesOf};
-use crate::book::Security;
+use rules::book::Security;
 
 pub fn security_at(held: &[u64], kind: usize) -> Security
     requires { ⌜ (kind < 32) × (length (now held) ≡ 128) ⌝ }

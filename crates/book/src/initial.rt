@@ -6,9 +6,9 @@ ghost use lib.IntN.{pos};
 ghost use lib.ListN.{length};
 ghost use lib.Signed.{ltZ};
 ghost use Rattle.money.specs.Causes.{firstOf, numberOf};
-ghost use Rattle.book.specs.Trades.{onTable};
-ghost use Rattle.book.specs.Vault.{headroom};
-ghost use Rattle.book.specs.Initial.{badCount, badPrices, badDue, begun, roomCauses, initialCauses, initialBook, initialTable};
+ghost use Rattle.rules.specs.Trades.{onTable};
+ghost use Rattle.rules.specs.Vault.{headroom};
+ghost use Rattle.rules.specs.Initial.{badCount, badPrices, badDue, begun, roomCauses, initialCauses, initialBook, initialTable};
 ghost use Rattle.book.specs.Flat.{Rows, rowsOf, bookOf, FitsHeld, appliedAt, tradesTo, tradesOf, appliedBy, tableBy};
 use crate::days;
 use crate::desk;
@@ -18,13 +18,13 @@ use crate::evening;
 use crate::flat;
 use crate::nets;
 use crate::standing;
-use crate::trade::Contract;
-use crate::trade::Terms;
-use crate::trade::Trade;
 use crate::trades;
 use crate::vault;
 use money::units::Sheets;
 use money::units::Ticks;
+use rules::trade::Contract;
+use rules::trade::Terms;
+use rules::trade::Trade;
 
 fn bad_count(count: u64) -> bool
     ensures { λ r. ⌜ r ≡ badCount count ⌝ }

@@ -1,22 +1,10 @@
-// The book: one firm's pledged quoted repo, the layer above days and money.
-
-// The book and its parts.
-pub mod book;
-
-// A trade's record, and the terms that it begins with.
-pub mod trade;
-
-// The twelve events.
-pub mod event;
+// The book: one firm's pledged quoted repo in code, the layer above the rules.
 
 // How 40 bytes give an event.
 pub mod decode;
 
 // The run of a journal's events on a fresh book.
 pub mod listing;
-
-// What a call answers.
-pub mod answer;
 
 // A book and its lent table of trades: one event, a run of events, headroom and O.
 pub mod table;

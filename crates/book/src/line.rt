@@ -5,11 +5,11 @@ ghost use Prim.Native.Nat.{_+_, _≤_};
 ghost use lib.IntN.{natAbs};
 ghost use lib.ListN.{length};
 ghost use lib.Seq.{sets};
-ghost use Rattle.book.specs.Listing.{isNegative};
-use crate::answer::Cover;
-use crate::book::Cash;
-use crate::book::Guarantee;
+ghost use Rattle.rules.specs.Listing.{isNegative};
 use crate::nets;
+use rules::answer::Cover;
+use rules::book::Cash;
+use rules::book::Guarantee;
 
 // 1 where it is negative.
 fn sign_of(headroom: i64) -> u64

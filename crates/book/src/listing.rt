@@ -2,9 +2,9 @@
 ghost use mathlib.Core.Path.{_≡_};
 ghost use lib.ListN.{length};
 ghost use Rattle.money.specs.Causes.{firstOf, numberOf};
-ghost use Rattle.book.specs.Listing.{listingOf, listingCauses, writtenBy};
-use crate::book;
+ghost use Rattle.rules.specs.Listing.{listingOf, listingCauses, writtenBy};
 use crate::run;
+use rules::book;
 
 fn listing_refusal(words: usize, bytes: usize, room: usize) -> u8
     ensures { λ r. ⌜ r ≡ numberOf (firstOf (listingCauses words bytes room)) ⌝ }

@@ -4,8 +4,8 @@ ghost use mathlib.Core.Bool.{true};
 ghost use Prim.Native.Nat.{_≤_};
 ghost use lib.IntN.{pos, negℤ, natAbs, subℕ, _+ℤ_, _-ℤ_};
 ghost use lib.Signed.{ltZ};
-ghost use Rattle.book.specs.Fit.{netFit};
-use crate::book::Nets;
+ghost use Rattle.rules.specs.Fit.{netFit};
+use rules::book::Nets;
 
 // Whether a net is within 4×10^18, up or down.
 fn net_fit(net: i64) -> bool

@@ -4,16 +4,11 @@ ghost use mathlib.Core.Bool.{true};
 ghost use Prim.Native.Nat.{_≤_};
 ghost use lib.ListN.{length};
 ghost use Rattle.money.specs.Causes.{firstOf};
-ghost use Rattle.book.specs.Book.{Normal, NotFailed, FailedOnce, isClosed};
-ghost use Rattle.book.specs.Days.{following, followed};
-ghost use Rattle.book.specs.Open.{statusAtOpen, turnsTerminated, openedStanding, netWithFallbacks, openCauses, openedBook, openedTable};
+ghost use Rattle.rules.specs.Book.{isClosed};
+ghost use Rattle.rules.specs.Days.{following, followed};
+ghost use Rattle.rules.specs.Open.{statusAtOpen, turnsTerminated, openedStanding, netWithFallbacks, openCauses, openedBook, openedTable};
+ghost use Rattle.book.specs.Types.{Normal, NotFailed, FailedOnce};
 ghost use Rattle.book.specs.Flat.{Rows, bookOf, Fits, appliedAt, tradesOf, appliedBy, tableBy};
-use crate::book::FailedRun;
-use crate::book::Nets;
-use crate::book::Phase;
-use crate::book::ShortRun;
-use crate::book::Standing;
-use crate::book::Status;
 use crate::days;
 use crate::desk;
 use crate::desk::Desk;
@@ -21,6 +16,12 @@ use crate::desk::Done;
 use crate::nets;
 use crate::redemption;
 use crate::standing;
+use rules::book::FailedRun;
+use rules::book::Nets;
+use rules::book::Phase;
+use rules::book::ShortRun;
+use rules::book::Standing;
+use rules::book::Status;
 
 // Art. 69: short of collateral, initial trades are not taken from the next day on, and are again once headroom is not below
 // zero; still short two days later, the permission ends.

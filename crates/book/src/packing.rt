@@ -3,13 +3,13 @@ ghost use mathlib.Core.Path.{_≡_};
 ghost use mathlib.Core.List.{_++_};
 ghost use Prim.Native.Nat.{_+_, _-_, _*_, _≤_, _<_};
 ghost use lib.ListN.{length, set, take, drop, replicate};
-ghost use Rattle.book.specs.Trades.{noTrade, remaining, packed};
+ghost use Rattle.rules.specs.Trades.{noTrade, remaining, packed};
 ghost use Rattle.book.specs.Flat.{tradesTo, tradesOf};
 use crate::flat;
-use crate::trade::Contract;
-use crate::trade::Trade;
 use money::units::Sheets;
 use money::units::Ticks;
+use rules::trade::Contract;
+use rules::trade::Trade;
 
 // The trades with something left go to the front, in order.
 fn gather(table: &mut [u64], count: usize) -> usize

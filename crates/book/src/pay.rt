@@ -5,20 +5,20 @@ ghost use Prim.Native.Nat.{_+_, _≤_};
 ghost use lib.Dec.{ltb};
 ghost use lib.IntN.{natAbs};
 ghost use Rattle.money.specs.Causes.{firstOf, numberOf};
-ghost use Rattle.book.specs.Fit.{netFit, netsFit, cashFit};
-ghost use Rattle.book.specs.Pay.{payerHolds, moved, failedMore, payCauses, paidStanding, paidBook};
+ghost use Rattle.rules.specs.Fit.{netFit, netsFit, cashFit};
+ghost use Rattle.rules.specs.Pay.{payerHolds, moved, failedMore, payCauses, paidStanding, paidBook};
 ghost use Rattle.book.specs.Flat.{Rows, bookOf, paidBy, appliedAt};
-use crate::book::Cash;
-use crate::book::FailedRun;
-use crate::book::Nets;
-use crate::book::Phase;
-use crate::book::Standing;
 use crate::desk;
 use crate::desk::Desk;
 use crate::desk::Done;
 use crate::nets;
 use crate::standing;
 use money::units::Fen;
+use rules::book::Cash;
+use rules::book::FailedRun;
+use rules::book::Nets;
+use rules::book::Phase;
+use rules::book::Standing;
 
 fn pay_refusal(desk: Desk) -> u8
     ensures { λ r. ⌜ ((rows : Rows) → r ≡ numberOf (firstOf (payCauses (bookOf desk rows)))) ⌝ }

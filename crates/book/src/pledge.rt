@@ -5,16 +5,16 @@ ghost use mathlib.Core.List.{List};
 ghost use Prim.Native.Nat.{ℕ, _+_, _<_, _≤_};
 ghost use lib.ListN.{length, set};
 ghost use Rattle.money.specs.Causes.{firstOf, numberOf};
-ghost use Rattle.book.specs.Fit.{cashFit, securitiesFit};
-ghost use Rattle.book.specs.Pledge.{pledgeCauses, pledged, arrived, cashArrived};
+ghost use Rattle.rules.specs.Fit.{cashFit, securitiesFit};
+ghost use Rattle.rules.specs.Pledge.{pledgeCauses, pledged, arrived, cashArrived};
 ghost use Rattle.book.specs.Flat.{securityIn, securitiesOf, vaultOf, rowsOf, bookOf, appliedBy, appliedAt};
-use crate::book::Guarantee;
 use crate::desk;
 use crate::desk::Desk;
 use crate::desk::Done;
 use crate::held;
 use crate::standing;
 use money::units::Fen;
+use rules::book::Guarantee;
 
 // The units of a security, effective and arriving together.
 fn units_of(held: &[u64], guarantee: Guarantee, kind: u8) -> u64

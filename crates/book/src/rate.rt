@@ -4,7 +4,7 @@ ghost use mathlib.Core.List.{List};
 ghost use Prim.Native.Nat.{ℕ};
 ghost use lib.ListN.{length};
 ghost use Rattle.money.specs.Causes.{firstOf, numberOf};
-ghost use Rattle.book.specs.Rate.{rateCauses, rated};
+ghost use Rattle.rules.specs.Rate.{rateCauses, rated};
 ghost use Rattle.book.specs.Flat.{rowsOf, bookOf, appliedBy, appliedAt};
 use crate::desk;
 use crate::desk::Desk;

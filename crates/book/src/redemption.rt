@@ -4,7 +4,7 @@ ghost use mathlib.Core.List.{map};
 ghost use Prim.Native.Nat.{_+_, _-_, _*_, _≤_, _<_};
 ghost use lib.ListN.{length, set};
 ghost use Rattle.money.specs.Limits.{tradeLimit, priceLimit, termLimit};
-ghost use Rattle.book.specs.Trades.{total, redeemed, fallbackAmount, maturing, maturityAmount, matured, over};
+ghost use Rattle.rules.specs.Trades.{total, redeemed, fallbackAmount, maturing, maturityAmount, matured, over};
 ghost use Rattle.book.specs.Flat.{tradeAt, tradesTo, tradesOf, Redeemable};
 use crate::flat;
 use money::units::Sheets;

@@ -5,14 +5,12 @@ ghost use Prim.Native.Nat.{_+_, _*_, _/_, _≤_};
 ghost use lib.ListN.{length};
 ghost use lib.Seq.{sets};
 ghost use Rattle.money.specs.Causes.{firstOf, numberOf};
-ghost use Rattle.book.specs.Fit.{fit};
-ghost use Rattle.book.specs.Entry.{decoded};
-ghost use Rattle.book.specs.Step.{step};
-ghost use Rattle.book.specs.Listing.{lineOf, lengthCauses, runDone, runOutcome};
+ghost use Rattle.rules.specs.Fit.{fit};
+ghost use Rattle.rules.specs.Entry.{decoded};
+ghost use Rattle.rules.specs.Step.{step};
+ghost use Rattle.rules.specs.Listing.{lineOf, lengthCauses, runDone, runOutcome};
 ghost use Rattle.book.specs.Flat.{rowsOf, bookOf, tradesOf};
 ghost use Rattle.book.specs.Figures.{figuresAt};
-use crate::answer::Ran;
-use crate::book::Book;
 use crate::cover;
 use crate::decode;
 use crate::desk::Desk;
@@ -22,6 +20,8 @@ use crate::figures::Figures;
 use crate::fit;
 use crate::line;
 use crate::split;
+use rules::answer::Ran;
+use rules::book::Book;
 
 // The lent lengths: whole events, no more than a journal's, and room for their lines.
 pub fn lengths_refusal(bytes: usize, room: usize) -> u8

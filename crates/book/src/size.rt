@@ -1,7 +1,7 @@
 // 4 Size: sets S.
 ghost use mathlib.Core.Path.{_≡_};
 ghost use Rattle.money.specs.Causes.{firstOf, numberOf};
-ghost use Rattle.book.specs.Size.{sizeCauses, sized};
+ghost use Rattle.rules.specs.Size.{sizeCauses, sized};
 ghost use Rattle.book.specs.Flat.{Rows, bookOf, appliedBy, appliedAt, tradesOf, Kept};
 use crate::desk;
 use crate::desk::Desk;

@@ -2,12 +2,12 @@
 ghost use mathlib.Core.Path.{_≡_};
 ghost use lib.ListN.{length};
 ghost use Rattle.book.specs.Flat.{securitiesOf, deskOf, rowsOf, bookOf};
-use crate::book::Book;
-use crate::book::Security;
-use crate::book::Vault;
-use crate::book::Withdrawals;
 use crate::desk::Desk;
 use crate::held;
+use rules::book::Book;
+use rules::book::Security;
+use rules::book::Vault;
+use rules::book::Withdrawals;
 
 pub fn desk_of(book: Book) -> Desk
     ensures { λ r. ⌜ r ≡ deskOf book ⌝ }

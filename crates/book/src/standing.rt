@@ -1,10 +1,10 @@
 // Where the firm stands: tests of its phase, status and failed run.
 ghost use mathlib.Core.Path.{_≡_};
-ghost use Rattle.book.specs.Book.{isClosed, isTrading, isPaid, isSuspended, isTerminated, hasFailed};
-use crate::book::FailedRun;
-use crate::book::Phase;
-use crate::book::Standing;
-use crate::book::Status;
+ghost use Rattle.rules.specs.Book.{isClosed, isTrading, isPaid, isSuspended, isTerminated, hasFailed};
+use rules::book::FailedRun;
+use rules::book::Phase;
+use rules::book::Standing;
+use rules::book::Status;
 
 pub fn is_closed(standing: Standing) -> bool
     ensures { λ r. ⌜ r ≡ isClosed (standing .phase) ⌝ }

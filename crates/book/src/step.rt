@@ -1,10 +1,10 @@
 // A number alone as the answer on a whole book: for what is refused before the book is taken apart.
 ghost use mathlib.Core.Path.{_≡_};
-ghost use Rattle.book.specs.Book.{answer};
-use crate::answer::Answer;
-use crate::answer::Applied;
-use crate::book::Book;
+ghost use Rattle.rules.specs.Book.{answer};
 use money::units::Sheets;
+use rules::answer::Answer;
+use rules::answer::Applied;
+use rules::book::Book;
 
 // An answer that carries its number alone.
 pub fn answered(number: u8, book: Book) -> Applied

@@ -3,21 +3,21 @@
 ghost use mathlib.Core.Path.{_≡_};
 ghost use Prim.Native.Nat.{_*_, _≤_};
 ghost use lib.ListN.{length};
-ghost use Rattle.book.specs.Step.{step};
-ghost use Rattle.book.specs.Cover.{coverOf};
-ghost use Rattle.book.specs.Listing.{runOutcome};
+ghost use Rattle.rules.specs.Step.{step};
+ghost use Rattle.rules.specs.Cover.{coverOf};
+ghost use Rattle.rules.specs.Listing.{runOutcome};
 ghost use Rattle.book.specs.Flat.{tradesTo, appliedOf};
-use crate::answer::Applied;
-use crate::answer::Cover;
-use crate::answer::Ran;
-use crate::book::Book;
 use crate::copies;
 use crate::cover;
 use crate::dispatch;
-use crate::event::Entry;
 use crate::run;
 use crate::step;
-use crate::trade::Trade;
+use rules::answer::Applied;
+use rules::answer::Cover;
+use rules::answer::Ran;
+use rules::book::Book;
+use rules::event::Entry;
+use rules::trade::Trade;
 
 // The core on the first `count` trades of a longer row of numbers.
 fn apply_first(

@@ -2,13 +2,13 @@
 ghost use mathlib.Core.Path.{_≡_};
 ghost use Prim.Native.Nat.{_+_, _*_, _≤_, _<_, max};
 ghost use lib.ListN.{length};
-ghost use Rattle.book.specs.Trades.{outstanding, differ};
-ghost use Rattle.book.specs.Fit.{tradeFit};
+ghost use Rattle.rules.specs.Trades.{outstanding, differ};
+ghost use Rattle.rules.specs.Fit.{tradeFit};
 ghost use Rattle.book.specs.Flat.{tradeAt, tradesTo, placeOf, contractNumbers, Kept};
 ghost use Rattle.book.specs.Figures.{gatheredOf};
 use crate::flat;
 use crate::sort;
-use crate::trade::Contract;
+use rules::trade::Contract;
 
 // O, the sheets left on the table.
 pub fn outstanding_of(table: &[u64], count: usize) -> u64

@@ -3,16 +3,16 @@ ghost use mathlib.Core.Path.{_≡_};
 ghost use mathlib.Core.Bool.{true};
 ghost use Prim.Native.Nat.{_≤_};
 ghost use lib.ListN.{length};
-ghost use Rattle.book.specs.Book.{Guarantee};
 ghost use Rattle.money.specs.Collateral.{unitLimitOf, rateOf, kindValue};
-ghost use Rattle.book.specs.Vault.{effectiveOf, frozenOf, value};
-ghost use Rattle.book.specs.Fit.{securityFit, securitiesFit, cashFit, applicationFit, withdrawalsFit};
-ghost use Rattle.book.specs.Withdraw.{applied};
+ghost use Rattle.rules.specs.Vault.{effectiveOf, frozenOf, value};
+ghost use Rattle.rules.specs.Fit.{securityFit, securitiesFit, cashFit, applicationFit, withdrawalsFit};
+ghost use Rattle.rules.specs.Withdraw.{applied};
+ghost use Rattle.book.specs.Types.{Guarantee};
 ghost use Rattle.book.specs.Flat.{vaultOf, securitiesOf};
-use crate::book::Cash;
-use crate::book::Guarantee;
-use crate::book::Security;
 use crate::held;
+use rules::book::Cash;
+use rules::book::Guarantee;
+use rules::book::Security;
 
 fn security_fit(security: Security) -> bool
     ensures { λ r. ⌜ r ≡ securityFit security ⌝ }

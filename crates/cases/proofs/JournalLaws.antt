@@ -13,15 +13,15 @@ use lib.Seq.{sets, length-sets, sets-eq, take-at, take-all, take-suc, length-tak
 use Rattle.money.specs.Causes.{firstOf}
 use Rattle.money.specs.Days.{Calendar}
 use Rattle.money.proofs.Refusals.{skip, clear}
-use Rattle.book.specs.Folds.{allBelow}
-use Rattle.book.specs.declared.book.Book.{Book}
-use Rattle.book.specs.declared.trade.Trade.{Trade}
-use Rattle.book.specs.declared.event.Entry.{Entry}
-use Rattle.book.specs.Book.{freshBook}
-use Rattle.book.specs.Step.{step}
-use Rattle.book.specs.Run.{run}
-use Rattle.book.specs.Listing.{journalTable, entriesOf, lineOf, linesOf, listingOf, lengthCauses, listingCauses, writtenBy}
-use Rattle.book.proofs.FoldLaws.{by-test, both-of, all-at}
+use Rattle.rules.specs.Folds.{allBelow}
+use Rattle.rules.specs.declared.book.Book.{Book}
+use Rattle.rules.specs.declared.trade.Trade.{Trade}
+use Rattle.rules.specs.declared.event.Entry.{Entry}
+use Rattle.rules.specs.Book.{freshBook}
+use Rattle.rules.specs.Step.{step}
+use Rattle.rules.specs.Run.{run}
+use Rattle.rules.specs.Listing.{journalTable, entriesOf, lineOf, linesOf, listingOf, lengthCauses, listingCauses, writtenBy}
+use Rattle.rules.proofs.FoldLaws.{by-test, both-of, all-at}
 use Rattle.cases.specs.Journal.{byteOf, bytesFrom, eventBytes, bytesOf, sameLines, endsWith}
 
 -- ---- a column of early returns

@@ -9,27 +9,27 @@ use Rattle.money.specs.Causes.{firstOf}
 use Rattle.money.specs.Days.{Calendar, trades, firstTrading, atOrAfter, nextAfter, earliest}
 use Rattle.money.specs.Money.{principal, income, redemption}
 use Rattle.money.specs.Collateral.{kindValue}
-use Rattle.book.specs.Folds.{sumBelow, allBelow, inTurn, every}
-use Rattle.book.specs.Book.{freshBook}
-use Rattle.book.specs.Days.{following, paymentDay, followed}
-use Rattle.book.specs.Trades.{total, outstanding, onTable, tradeOf, differ, takeOff, remaining}
-use Rattle.book.specs.Vault.{value, headroom}
-use Rattle.book.specs.Fit.{capacityFit, securitiesFit, cashFit, allTrades, sizeFit, netsFit, withdrawalsFit, fit}
-use Rattle.book.specs.Open.{openCauses, openedBook, openedTable, statusAtOpen, turnsTerminated}
-use Rattle.book.specs.Funds.{fundInCauses, fundedIn, fundOutCauses, fundedOut}
-use Rattle.book.specs.Size.{sizeCauses, sized}
-use Rattle.book.specs.Rate.{rateCauses, rated}
-use Rattle.book.specs.Pledge.{pledgeCauses, pledged}
-use Rattle.book.specs.Freeze.{freezeCauses, frozen}
-use Rattle.book.specs.Withdraw.{withdrawCauses, withdrawn, applied}
-use Rattle.book.specs.Initial.{initialCauses, initialBook, initialTable}
-use Rattle.book.specs.Early.{earlyCauses, earlyBook, earlyTable}
-use Rattle.book.specs.Pay.{payCauses, paidBook}
-use Rattle.book.specs.Close.{maturedTrades, maturedSheets, maturedAmount, closeCauses, allArrived, takenOut, covered, mayGo, applications, evening, closedTable, isShortClose, closedBook, closeAnswer}
-use Rattle.book.specs.Step.{eventCauses, causes, act, step}
-use Rattle.book.specs.Entry.{littleEndian, unless, entryOf, decoded}
-use Rattle.book.specs.Run.{run}
-use Rattle.book.specs.Listing.{entriesOf, lineOf, linesOf, listingOf}
+use Rattle.rules.specs.Folds.{sumBelow, allBelow, inTurn, every}
+use Rattle.rules.specs.Book.{freshBook}
+use Rattle.rules.specs.Days.{following, paymentDay, followed}
+use Rattle.rules.specs.Trades.{total, outstanding, onTable, tradeOf, differ, takeOff, remaining}
+use Rattle.rules.specs.Vault.{value, headroom}
+use Rattle.rules.specs.Fit.{capacityFit, securitiesFit, cashFit, allTrades, sizeFit, netsFit, withdrawalsFit, fit}
+use Rattle.rules.specs.Open.{openCauses, openedBook, openedTable, statusAtOpen, turnsTerminated}
+use Rattle.rules.specs.Funds.{fundInCauses, fundedIn, fundOutCauses, fundedOut}
+use Rattle.rules.specs.Size.{sizeCauses, sized}
+use Rattle.rules.specs.Rate.{rateCauses, rated}
+use Rattle.rules.specs.Pledge.{pledgeCauses, pledged}
+use Rattle.rules.specs.Freeze.{freezeCauses, frozen}
+use Rattle.rules.specs.Withdraw.{withdrawCauses, withdrawn, applied}
+use Rattle.rules.specs.Initial.{initialCauses, initialBook, initialTable}
+use Rattle.rules.specs.Early.{earlyCauses, earlyBook, earlyTable}
+use Rattle.rules.specs.Pay.{payCauses, paidBook}
+use Rattle.rules.specs.Close.{maturedTrades, maturedSheets, maturedAmount, closeCauses, allArrived, takenOut, covered, mayGo, applications, evening, closedTable, isShortClose, closedBook, closeAnswer}
+use Rattle.rules.specs.Step.{eventCauses, causes, act, step}
+use Rattle.rules.specs.Entry.{littleEndian, unless, entryOf, decoded}
+use Rattle.rules.specs.Run.{run}
+use Rattle.rules.specs.Listing.{entriesOf, lineOf, linesOf, listingOf}
 
 -- a number's byte at a place, the least first
 abbrev pub digitOf : (number place : ℕ) → ℕ

@@ -2,7 +2,7 @@
 ghost use mathlib.Core.Path.{_≡_};
 ghost use lib.ListN.{length};
 ghost use Rattle.money.specs.Causes.{firstOf, numberOf};
-ghost use Rattle.book.specs.Listing.{listingOf, listingCauses, writtenBy};
+ghost use Rattle.rules.specs.Listing.{listingOf, listingCauses, writtenBy};
 
 // The run of a journal's events on a fresh book, seven numbers an event.
 #[no_mangle]

@@ -10,7 +10,7 @@ use borrow.Author.Tests.{ltb-false}
 use lib.Dec.{ltb, eqb}
 use lib.ListN.{length, drop, length-append}
 use Rattle.money.specs.Causes.{firstOf, resultOf}
-use Rattle.book.specs.Listing.{listingOf}
+use Rattle.rules.specs.Listing.{listingOf}
 use Rattle.journal.specs.Sections.{eventCount, calendarOf, eventsOf, journalCauses}
 use Rattle.journal.specs.Text.{Line, decimal, spaced, signed, lineFrom, lineText}
 use Rattle.journal.specs.Listing.{Written, linesText, refusedLine, listingBy, listingText, textCauses, answerOf}

@@ -4,28 +4,28 @@ use mathlib.Core.Path.{_≡_, refl}
 use mathlib.Core.List.{List, [], _∷_, _++_, map}
 use Prim.Native.Nat.{ℕ, zero, suc, _+_, _/_, _%_}
 use lib.ListN.{take, replicate}
-use Rattle.book.specs.Book.{freshBook}
-use Rattle.book.specs.Run.{run}
-use Rattle.book.specs.Step.{step, causes, eventCauses, act}
+use Rattle.rules.specs.Book.{freshBook}
+use Rattle.rules.specs.Run.{run}
+use Rattle.rules.specs.Step.{step, causes, eventCauses, act}
 use Rattle.money.specs.Causes.{firstOf}
-use Rattle.book.specs.Fit.{fit, capacityFit, securitiesFit, cashFit, allTrades, sizeFit, netsFit, withdrawalsFit}
-use Rattle.book.specs.Folds.{every, allBelow, inTurn, sumBelow}
-use Rattle.book.specs.Trades.{differ, total, outstanding, remaining, onTable}
-use Rattle.book.specs.Days.{followed, following, paymentDay}
+use Rattle.rules.specs.Fit.{fit, capacityFit, securitiesFit, cashFit, allTrades, sizeFit, netsFit, withdrawalsFit}
+use Rattle.rules.specs.Folds.{every, allBelow, inTurn, sumBelow}
+use Rattle.rules.specs.Trades.{differ, total, outstanding, remaining, onTable}
+use Rattle.rules.specs.Days.{followed, following, paymentDay}
 use Rattle.money.specs.Days.{trades, firstTrading, atOrAfter, nextAfter, earliest}
-use Rattle.book.specs.Size.{sizeCauses, sized}
-use Rattle.book.specs.Funds.{fundInCauses, fundedIn}
-use Rattle.book.specs.Rate.{rateCauses, rated}
-use Rattle.book.specs.Open.{openCauses, openedBook, openedTable, statusAtOpen, turnsTerminated}
-use Rattle.book.specs.Pledge.{pledgeCauses, pledged}
-use Rattle.book.specs.Pay.{payCauses, paidBook}
-use Rattle.book.specs.Close.{closeCauses, closedBook, closedTable, closeAnswer, maturedTrades, maturedSheets, maturedAmount, evening, applications, allArrived, isShortClose}
-use Rattle.book.specs.Vault.{value, headroom}
+use Rattle.rules.specs.Size.{sizeCauses, sized}
+use Rattle.rules.specs.Funds.{fundInCauses, fundedIn}
+use Rattle.rules.specs.Rate.{rateCauses, rated}
+use Rattle.rules.specs.Open.{openCauses, openedBook, openedTable, statusAtOpen, turnsTerminated}
+use Rattle.rules.specs.Pledge.{pledgeCauses, pledged}
+use Rattle.rules.specs.Pay.{payCauses, paidBook}
+use Rattle.rules.specs.Close.{closeCauses, closedBook, closedTable, closeAnswer, maturedTrades, maturedSheets, maturedAmount, evening, applications, allArrived, isShortClose}
+use Rattle.rules.specs.Vault.{value, headroom}
 use Rattle.money.specs.Collateral.{kindValue}
-use Rattle.book.specs.Initial.{initialCauses, initialBook, initialTable}
+use Rattle.rules.specs.Initial.{initialCauses, initialBook, initialTable}
 use Rattle.money.specs.Money.{principal, redemption, income}
-use Rattle.book.specs.Listing.{listingOf, entriesOf, lineOf, linesOf}
-use Rattle.book.specs.Entry.{decoded, entryOf, unless, littleEndian}
+use Rattle.rules.specs.Listing.{listingOf, entriesOf, lineOf, linesOf}
+use Rattle.rules.specs.Entry.{decoded, entryOf, unless, littleEndian}
 use Rattle.journal.specs.Sections.{sectionCauses, journalCauses, wordsOf, calendarOf, eventsOf}
 use Rattle.journal.specs.Text.{placesTo, decimal, spaced, signed, lineFrom, lineText}
 use Rattle.journal.specs.Listing.{linesText, refusedLine, listingBy, listingText}

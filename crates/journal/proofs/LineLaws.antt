@@ -14,13 +14,13 @@ use lib.Seq.{getD-drop}
 use Rattle.money.specs.Causes.{firstOf}
 use Rattle.money.specs.Days.{Calendar}
 use Rattle.money.proofs.Refusals.{hit, skip, clear}
-use Rattle.book.specs.Book.{freshBook}
-use Rattle.book.specs.declared.book.Book.{Book}
-use Rattle.book.specs.declared.trade.Trade.{Trade}
-use Rattle.book.specs.declared.event.Entry.{Entry}
-use Rattle.book.specs.Step.{step}
-use Rattle.book.specs.Run.{run}
-use Rattle.book.specs.Listing.{journalTable, entriesOf, lineOf, linesOf, listingOf, lengthCauses, listingCauses, writtenBy}
+use Rattle.rules.specs.Book.{freshBook}
+use Rattle.rules.specs.declared.book.Book.{Book}
+use Rattle.rules.specs.declared.trade.Trade.{Trade}
+use Rattle.rules.specs.declared.event.Entry.{Entry}
+use Rattle.rules.specs.Step.{step}
+use Rattle.rules.specs.Run.{run}
+use Rattle.rules.specs.Listing.{journalTable, entriesOf, lineOf, linesOf, listingOf, lengthCauses, listingCauses, writtenBy}
 use Rattle.journal.specs.Text.{Line, lineFrom, lineText}
 use Rattle.journal.specs.Lent.{placed}
 use Rattle.journal.specs.Listing.{Written, linesText, textCauses, answerOf, textAfter}

@@ -8,7 +8,7 @@ use native.Mathlib.Omega.{arith}
 use lib.ListN.{length, take, drop, length-drop}
 use lib.Seq.{take-all}
 use Rattle.money.specs.Causes.{firstOf}
-use Rattle.book.specs.Listing.{listingOf}
+use Rattle.rules.specs.Listing.{listingOf}
 use Rattle.journal.specs.Sections.{wordCount, eventCount, eventsAt, wordsOf, calendarOf, eventsOf, journalCauses}
 use Rattle.journal.specs.Listing.{linesText, refusedLine, listingBy, listingText}
 use Rattle.journal.proofs.SectionLaws.{Journal}

@@ -11,7 +11,7 @@ use lib.Dec.{eqb}
 use lib.ListN.{length}
 use Rattle.money.specs.Causes.{Cause, firstOf, numberOf}
 use Rattle.money.proofs.Refusals.{hit, skip, clear, failed}
-use Rattle.book.proofs.Answers.{numbers, number-passes}
+use Rattle.rules.proofs.Answers.{numbers, number-passes}
 use Rattle.journal.specs.Sections.{sectionNumber, sectionsNumber, Whole, Malformed, Both, Refused, countAt, sectionEnd, sectionCauses, sectionBy, sectionAt, wordCount, eventCount, eventsAt, journalCauses, sectionsBy, sectionsOf}
 
 -- ---- causes in a row

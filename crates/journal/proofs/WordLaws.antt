@@ -6,7 +6,7 @@ use Prim.Native.Nat.{ℕ, zero, suc, _+_, _*_, _<_}
 use native.Mathlib.Numerals.{add-one}
 use lib.ListN.{length, drop, take, set, length-append}
 use lib.Seq.{drop-cons, drop-drop, set-at, take-at, append-snoc}
-use Rattle.book.specs.Entry.{numberAt}
+use Rattle.rules.specs.Entry.{numberAt}
 use Rattle.journal.specs.Sections.{wordsOf}
 
 pub length-words : (count : ℕ) (bytes : List ℕ) → length (wordsOf count bytes) ≡ count

@@ -6,7 +6,7 @@ use mathlib.Core.Option.{Option, none, some}
 use lib.Dec.{ltb}
 use lib.ListN.{length, drop}
 use Rattle.money.specs.Causes.{Cause, _⇒_, firstOf, numberOf, resultOf}
-use Rattle.book.specs.Listing.{lineNumbers, listingOf, writtenBy}
+use Rattle.rules.specs.Listing.{lineNumbers, listingOf, writtenBy}
 use Rattle.journal.specs.Sections.{journalCauses, calendarOf, eventsOf, eventCount}
 use Rattle.journal.specs.Text.{lineFrom, lineText}
 pub use Rattle.journal.specs.declared.listing.Written.{Written}

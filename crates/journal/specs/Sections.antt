@@ -8,8 +8,8 @@ use lib.ListN.{length, drop}
 use Rattle.money.specs.Limits.{calendarLimit}
 use Rattle.money.specs.Causes.{Cause, _⇒_, firstOf}
 use Rattle.money.specs.Days.{Calendar}
-use Rattle.book.specs.Entry.{numberAt}
-use Rattle.book.specs.Listing.{eventLimit, eventBytes}
+use Rattle.rules.specs.Entry.{numberAt}
+use Rattle.rules.specs.Listing.{eventLimit, eventBytes}
 pub use Rattle.journal.specs.declared.section.Section.{Section}
 pub use Rattle.journal.specs.declared.section.Section.the-variants.{Whole, Malformed}
 pub use Rattle.journal.specs.declared.sections.Sections.{Sections}

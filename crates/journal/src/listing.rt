@@ -2,7 +2,7 @@
 ghost use mathlib.Core.Path.{_≡_};
 ghost use Prim.Native.Nat.{_+_, _*_, _/_, _%_, _≤_};
 ghost use lib.ListN.{length};
-ghost use Rattle.book.specs.Listing.{listingOf};
+ghost use Rattle.rules.specs.Listing.{listingOf};
 ghost use Rattle.journal.specs.Lent.{placed};
 ghost use Rattle.journal.specs.Listing.{linesText, refusedLine, listingText, answerOf, textAfter};
 use crate::calendar;

@@ -2,7 +2,7 @@
 ghost use mathlib.Core.Path.{_≡_};
 ghost use Prim.Native.Nat.{_+_, _≤_, _<_};
 ghost use lib.ListN.{length};
-ghost use Rattle.book.specs.Entry.{numberAt};
+ghost use Rattle.rules.specs.Entry.{numberAt};
 ghost use Rattle.journal.specs.Sections.{sectionAt};
 
 // A section with how many pieces it has.

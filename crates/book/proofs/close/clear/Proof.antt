@@ -3,7 +3,7 @@ use mathlib.Core.Path.{_≡_, refl, sym, _∙_}
 use native.Mathlib.Omega.{arith}
 use borrow.Author.Needs.{needs}
 use lib.ListN.{length, getD, length-set, length-replicate, getD-replicate}
-use Rattle.book.specs.Book.{noApplications}
+use Rattle.rules.specs.Book.{noApplications}
 use Rattle.book.proofs.RowLaws.{Filled, none-filled, one-filled, all-filled}
 use Rattle.book.proofs.close.clear.Statement.{statement}
 use Rattle.book.proofs.close.clear.Tie as tie

@@ -4,13 +4,12 @@ use mathlib.Core.List.{List}
 use borrow.Author.Needs.{needs}
 use borrow.Author.Tests.{le-leb}
 use lib.IntN.{ℤ, pos, natAbs, _+ℤ_}
-use Rattle.book.specs.Limits.{netLimit}
-use Rattle.book.specs.Book.{Nets, Book}
-use Rattle.book.specs.Trades.{Trade}
-use Rattle.book.specs.Fit.{netFit}
-use Rattle.book.specs.Close.{mayClose, maturedSheets, maturedAmount, netWithMatured, clearedAtClose}
+use Rattle.rules.specs.Limits.{netLimit}
+use Rattle.rules.specs.Fit.{netFit}
+use Rattle.rules.specs.Close.{mayClose, maturedSheets, maturedAmount, netWithMatured, clearedAtClose}
+use Rattle.rules.proofs.FitParts.{fit-parts, fit-withdrawals, fit-securities, fits-cash}
+use Rattle.book.specs.Types.{Nets, Book, Trade}
 use Rattle.book.specs.Flat.{Rows, tradesOf, rowsOf, bookOf, Redeemable}
-use Rattle.book.proofs.FitParts.{fit-parts, fit-withdrawals, fit-securities, fits-cash}
 use Rattle.book.proofs.FitFacts.{fit-keeps, fit-redeemable}
 use Rattle.book.proofs.RedemptionLaws.{maturity-bound}
 use Rattle.book.proofs.Column.{denied, denied-not}

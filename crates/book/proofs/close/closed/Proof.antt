@@ -2,9 +2,9 @@ use mathlib.Core.Path.{_≡_, sym, ap, _∙_}
 use mathlib.Core.List.{List}
 use borrow.Author.Needs.{needs}
 use lib.ListN.{length}
-use Rattle.book.specs.Book.{Book}
-use Rattle.book.specs.Trades.{Trade, outstanding, remaining}
-use Rattle.book.specs.Close.{maturedTrades, evening}
+use Rattle.rules.specs.Trades.{outstanding, remaining}
+use Rattle.rules.specs.Close.{maturedTrades, evening}
+use Rattle.book.specs.Types.{Book, Trade}
 use Rattle.book.specs.Flat.{tradesTo, tradesOf, securitiesOf, rowsOf, bookOf, eveningAt}
 use Rattle.book.proofs.CloseLaws.{redeemed-kept, trades-after-maturity, packed-after-maturity, evening-sound, close-done}
 use Rattle.book.proofs.close.closed.Statement.{statement}

@@ -1,6 +1,6 @@
 use mathlib.Core.Path.{sym}
 use borrow.Author.Needs.{needs}
-use Rattle.book.specs.Close.{isShortClose, closedBook}
+use Rattle.rules.specs.Close.{isShortClose, closedBook}
 use Rattle.book.proofs.close.closed_desk.Statement.{statement}
 use Rattle.book.proofs.close.closed_desk.Tie as tie
 

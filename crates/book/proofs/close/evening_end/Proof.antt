@@ -1,10 +1,10 @@
 use mathlib.Core.Path.{refl, _∙_}
 use native.Mathlib.Omega.{arith}
 use borrow.Author.Needs.{needs}
-use Rattle.book.specs.Book.{Book}
-use Rattle.book.specs.Close.{allArrived, evening}
+use Rattle.rules.specs.Close.{allArrived, evening}
+use Rattle.rules.proofs.FitParts.{cash-fits}
+use Rattle.book.specs.Types.{Book}
 use Rattle.book.specs.Flat.{rowsOf, bookOf}
-use Rattle.book.proofs.FitParts.{cash-fits}
 use Rattle.book.proofs.EveningLaws.{sound-of}
 use Rattle.book.proofs.CloseLaws.{begun, evening-begins}
 use Rattle.book.proofs.close.evening_end.Statement.{statement}

@@ -43,13 +43,14 @@ use denote.Triple.Statement.{Contract, Triple}
 use denote.Triple.Table.{entered, cited}
 use denote.Triple.Walked.{says, needs, Stays, stay-none-slice, stay-slice, walkOf, Walks, ends-at, walked, goes-none-slice, goes-slice, walk-meets}
 use denote.Exit.{yes}
-use Rattle.book.specs.Trades.{Trade, noTrade}
+use Rattle.rules.specs.Trades.{noTrade}
+use Rattle.rules.proofs.trade.Trade as T
+use Rattle.rules.proofs.trade.Trade.Laws as T′
+use Rattle.book.specs.Types.{Trade}
 use Rattle.book.specs.Flat.{tradesOf}
 use Rattle.book.proofs.TableLaws.{words-fit, place-fits, CopiedTo, copied-none, copied-next, copied-all}
 use Rattle.book.proofs.WalkAgain.{slice-at, Slice, lends, comes-home}
 use Rattle.book.proofs.WalkLoop.{holds, fails, one-up, counts-up}
-use Rattle.book.proofs.trade.Trade as T
-use Rattle.book.proofs.trade.Trade.Laws as T′
 use Rattle.book.proofs.flat.put_trade as put-trade
 use Rattle.book.proofs.flat.put_trade.Symbol as put-trade-def
 use Rattle.book.proofs.flat.put_trade.Symbol.{name as #put-trade}

@@ -45,13 +45,14 @@ use denote.Triple.Statement.{Contract, Triple}
 use denote.Triple.Table.{entered, cited}
 use denote.Triple.Walked.{says, Stays, stay-none-slice, stay-slice, walkOf, needs, Walks, ends-at, walked, goes-none-slice, goes-slice, walk-meets}
 use denote.Exit.{yes}
-use Rattle.book.specs.Trades.{Trade, noTrade}
+use Rattle.rules.specs.Trades.{noTrade}
+use Rattle.rules.proofs.trade.Trade as T
+use Rattle.rules.proofs.trade.Trade.Laws as T′
+use Rattle.book.specs.Types.{Trade}
 use Rattle.book.specs.Flat.{tradeAt}
 use Rattle.book.proofs.TableLaws.{words-fit, place-fits, writtenTo, length-written, written-all}
 use Rattle.book.proofs.WalkAgain.{slice-at}
 use Rattle.book.proofs.WalkLoop.{holds, fails, one-up, counts-up}
-use Rattle.book.proofs.trade.Trade as T
-use Rattle.book.proofs.trade.Trade.Laws as T′
 use Rattle.book.proofs.flat.trade_at as trade-at
 use Rattle.book.proofs.flat.trade_at.Symbol as trade-at-def
 use Rattle.book.proofs.flat.trade_at.Symbol.{name as #trade-at}

@@ -2,13 +2,13 @@ use mathlib.Core.Path.{_≡_, sym, _∙_, ap}
 use native.Mathlib.Omega.{arith}
 use borrow.Author.Needs.{needs}
 use borrow.Author.Tests.{not-true, not-false}
-use Rattle.book.specs.Book.{Book}
-use Rattle.book.specs.Fit.{fit}
-use Rattle.book.specs.Cover.{counted}
+use Rattle.rules.specs.Fit.{fit}
+use Rattle.rules.specs.Cover.{counted}
+use Rattle.rules.proofs.FitParts.{fit-parts}
+use Rattle.book.specs.Types.{Book}
 use Rattle.book.specs.Flat.{rowsOf, bookOf, tradesOf}
 use Rattle.book.proofs.StepLaws.{too-many-words, not-fit, not-unfit}
 use Rattle.book.proofs.CoverLaws.{unfit-cover, fit-cover}
-use Rattle.book.proofs.FitParts.{fit-parts}
 use Rattle.book.proofs.FigureLaws.{counted-from}
 use Rattle.book.proofs.SplitLaws.{whole}
 use Rattle.book.proofs.cover.cover_flat.Statement.{statement}

@@ -2,7 +2,7 @@ use mathlib.Core.Path.{ap, _∙_}
 use borrow.Author.Needs.{needs}
 use lib.Dec.{eqb}
 use Rattle.money.specs.declared.days.Found.{Found}
-use Rattle.book.specs.Days.{followed}
+use Rattle.rules.specs.Days.{followed}
 use Rattle.book.proofs.DayLaws.{done-where-found}
 use Rattle.book.proofs.days.has_next.Statement.{statement}
 use Rattle.book.proofs.days.has_next.Tie as tie

@@ -3,7 +3,7 @@ use borrow.Author.Needs.{needs}
 use mathlib.Core.Option.{some}
 use Rattle.money.specs.declared.days.Found.{Found}
 use Rattle.money.proofs.Answers.{found-at-0, none-elsewhere}
-use Rattle.book.specs.Days.{toDay}
+use Rattle.rules.specs.Days.{toDay}
 use Rattle.book.proofs.days.next_day.Statement.{statement}
 use Rattle.book.proofs.days.next_day.Tie as tie
 

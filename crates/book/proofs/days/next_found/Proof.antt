@@ -1,5 +1,5 @@
 use borrow.Author.Needs.{needs}
-use Rattle.book.specs.Days.{following}
+use Rattle.rules.specs.Days.{following}
 use Rattle.book.proofs.days.next_found.Statement.{statement}
 use Rattle.book.proofs.days.next_found.Tie as tie
 

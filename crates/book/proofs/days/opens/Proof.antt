@@ -3,7 +3,7 @@ use borrow.Author.Needs.{needs}
 use mathlib.Core.Option.{some}
 use Rattle.money.specs.declared.days.Found.{Found}
 use Rattle.money.proofs.Answers.{found-at-0}
-use Rattle.book.specs.Days.{followed}
+use Rattle.rules.specs.Days.{followed}
 use Rattle.book.proofs.DayLaws.{none-followed}
 use Rattle.book.proofs.days.opens.Statement.{statement}
 use Rattle.book.proofs.days.opens.Tie as tie

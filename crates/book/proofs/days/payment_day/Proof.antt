@@ -2,7 +2,7 @@ use mathlib.Core.Path.{ap, _∙_}
 use borrow.Author.Needs.{needs}
 use Rattle.money.specs.declared.days.Found.{Found}
 use Rattle.money.proofs.Answers.{day-found}
-use Rattle.book.specs.Days.{paymentDay}
+use Rattle.rules.specs.Days.{paymentDay}
 use Rattle.book.proofs.days.payment_day.Statement.{statement}
 use Rattle.book.proofs.days.payment_day.Tie as tie
 

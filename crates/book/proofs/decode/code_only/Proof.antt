@@ -1,5 +1,5 @@
 use borrow.Author.Needs.{needs}
-use Rattle.book.proofs.Unused.{unusedFields}
+use Rattle.rules.proofs.Unused.{unusedFields}
 use Rattle.book.proofs.decode.code_only.Statement.{statement}
 use Rattle.book.proofs.decode.code_only.Tie as tie
 

@@ -1,7 +1,7 @@
 use mathlib.Core.Path.{refl}
 use borrow.Author.Tests.{eq-eqb, ne-eqb}
 use borrow.Author.Needs.{needs}
-use Rattle.book.specs.Entry.{decoded}
+use Rattle.rules.specs.Entry.{decoded}
 use Rattle.book.proofs.decode.decode.Statement.{statement}
 use Rattle.book.proofs.decode.decode.Tie as tie
 

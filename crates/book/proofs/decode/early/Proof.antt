@@ -1,4 +1,4 @@
-use Rattle.book.proofs.Unused.{unusedFields}
+use Rattle.rules.proofs.Unused.{unusedFields}
 use Rattle.book.proofs.decode.early.Statement.{statement}
 use Rattle.book.proofs.decode.early.Tie as tie
 

@@ -1,6 +1,6 @@
 use borrow.Author.Tests.{ne-eqb}
 use borrow.Author.Needs.{needs}
-use Rattle.book.specs.Entry.{entryOf}
+use Rattle.rules.specs.Entry.{entryOf}
 use Rattle.book.proofs.decode.entry_of.Statement.{statement}
 use Rattle.book.proofs.decode.entry_of.Tie as tie
 

@@ -1,6 +1,6 @@
 use native.Mathlib.Omega.{arith}
 use borrow.Author.Needs.{needs}
-use Rattle.book.proofs.Bytes.{past-two}
+use Rattle.rules.proofs.Bytes.{past-two}
 use Rattle.book.proofs.decode.fields_of.Statement.{statement}
 use Rattle.book.proofs.decode.fields_of.Tie as tie
 

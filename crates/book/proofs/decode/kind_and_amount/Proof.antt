@@ -1,4 +1,4 @@
-use Rattle.book.proofs.Unused.{unusedFields}
+use Rattle.rules.proofs.Unused.{unusedFields}
 use Rattle.book.proofs.decode.kind_and_amount.Statement.{statement}
 use Rattle.book.proofs.decode.kind_and_amount.Tie as tie
 

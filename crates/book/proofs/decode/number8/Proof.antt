@@ -1,6 +1,6 @@
 use native.Mathlib.Omega.{arith}
 use borrow.Author.Needs.{needs}
-use Rattle.book.proofs.Bytes.{four-and-rest}
+use Rattle.rules.proofs.Bytes.{four-and-rest}
 use Rattle.book.proofs.decode.number8.Statement.{statement}
 use Rattle.book.proofs.decode.number8.Tie as tie
 

@@ -1,8 +1,8 @@
 use mathlib.Core.Path.{_≡_, refl, sym, _∙_, ap}
 use borrow.Author.Needs.{needs}
 use borrow.Author.Tests.{not-true, not-false}
-use Rattle.book.specs.Book.{Book}
-use Rattle.book.specs.Fit.{fit}
+use Rattle.rules.specs.Fit.{fit}
+use Rattle.book.specs.Types.{Book}
 use Rattle.book.specs.Flat.{rowsOf, bookOf, tradesOf}
 use Rattle.book.proofs.StepLaws.{too-many-words, not-fit, unfit-step}
 use Rattle.book.proofs.SplitLaws.{whole}

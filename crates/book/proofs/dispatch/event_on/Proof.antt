@@ -3,12 +3,11 @@ use mathlib.Core.Bool.{true}
 use mathlib.Core.List.{List}
 use borrow.Author.Needs.{needs}
 use Rattle.money.specs.Days.{Calendar}
-use Rattle.book.specs.Book.{Book}
-use Rattle.book.specs.Trades.{Trade}
-use Rattle.book.specs.Fit.{cashFit, securitiesFit, withdrawalsFit, netsFit}
-use Rattle.book.specs.Step.{eventCauses, act}
+use Rattle.rules.specs.Fit.{cashFit, securitiesFit, withdrawalsFit, netsFit}
+use Rattle.rules.specs.Step.{eventCauses, act}
+use Rattle.rules.proofs.FitParts.{Fit, fit-parts, fits-cash, fit-securities, fit-withdrawals, fit-nets}
+use Rattle.book.specs.Types.{Book, Trade}
 use Rattle.book.specs.Flat.{Rows, rowsOf, bookOf, tradesOf}
-use Rattle.book.proofs.FitParts.{Fit, fit-parts, fits-cash, fit-securities, fit-withdrawals, fit-nets}
 use Rattle.book.proofs.FitFacts.{fit-keeps}
 use Rattle.book.proofs.StepLaws.{leaves-table, changes-table, pays, closes}
 use Rattle.book.proofs.dispatch.event_on.Statement.{statement}

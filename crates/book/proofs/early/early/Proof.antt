@@ -3,7 +3,7 @@ use mathlib.Core.Path.{_≡_, refl, _∙_}
 use native.Mathlib.Omega.{arith}
 use borrow.Author.Needs.{needs}
 use Rattle.money.specs.Causes.{firstOf}
-use Rattle.book.specs.Early.{earlyCauses, earlyBook, earlyTable}
+use Rattle.rules.specs.Early.{earlyCauses, earlyBook, earlyTable}
 use Rattle.book.specs.Flat.{Rows, bookOf, tradesOf, Kept}
 use Rattle.book.proofs.Refusing.{refused, turned-down, carried-out}
 use Rattle.book.proofs.FitFacts.{fit-keeps, fit-net}

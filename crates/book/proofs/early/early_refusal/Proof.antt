@@ -2,7 +2,7 @@ use native.Mathlib.Omega.{arith}
 use borrow.Author.Needs.{needs}
 use borrow.Author.Tests.{le-ltb, ne-eqb}
 use lib.IntN.{ℤ}
-use Rattle.book.specs.Early.{netWithEarly, earlyCauses}
+use Rattle.rules.specs.Early.{netWithEarly, earlyCauses}
 use Rattle.book.specs.Flat.{Rows, bookOf, tradesOf, Kept}
 use Rattle.book.proofs.Column.{column, applies, passes, ends, asked-not, denied-not}
 use Rattle.book.proofs.Fitting.{refuted, upheld}

@@ -3,10 +3,10 @@ use mathlib.Core.Path.{_≡_, refl, sym, ap, _∙_}
 use native.Mathlib.Omega.{arith}
 use borrow.Author.Needs.{needs}
 use lib.ListN.{length, getD}
-use Rattle.book.specs.Book.{noSecurity}
-use Rattle.book.specs.Close.{securityArrived}
+use Rattle.rules.specs.Book.{noSecurity}
+use Rattle.rules.specs.Close.{securityArrived}
+use Rattle.rules.proofs.FitParts.{securities-fit}
 use Rattle.book.specs.Flat.{securitiesOf}
-use Rattle.book.proofs.FitParts.{securities-fit}
 use Rattle.book.proofs.HeldLaws.{length-securities, security-below}
 use Rattle.book.proofs.EveningLaws.{mapBelow, map-none, map-more, map-all, still-there}
 use Rattle.book.proofs.evening.all_arrived.Statement.{statement}

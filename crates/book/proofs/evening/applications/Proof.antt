@@ -9,12 +9,12 @@ use native.Mathlib.Omega.{arith}
 use borrow.Author.Needs.{needs}
 use lib.ListN.{length, getD}
 use Rattle.money.specs.Units.{fen}
-use Rattle.book.specs.Folds.{inTurn}
-use Rattle.book.specs.Book.{Security, Guarantee, Vault, Withdrawals}
-use Rattle.book.specs.Vault.{securityAt, isCash, effectiveOf, value as valueOf}
-use Rattle.book.specs.Close.{Evening, takenOut, mayGo, settled, applications}
+use Rattle.rules.specs.Folds.{inTurn}
+use Rattle.rules.specs.Vault.{securityAt, isCash, effectiveOf, value as valueOf}
+use Rattle.rules.specs.Close.{Evening, takenOut, mayGo, settled, applications}
+use Rattle.rules.proofs.FitParts.{ApplicationFits, securities-fit, withdrawals-fit}
+use Rattle.book.specs.Types.{Security, Guarantee, Vault, Withdrawals}
 use Rattle.book.specs.Flat.{securitiesOf, vaultOf, eveningAt}
-use Rattle.book.proofs.FitParts.{ApplicationFits, securities-fit, withdrawals-fit}
 use Rattle.book.proofs.SumLaws.{turn-none, turn-more}
 use Rattle.book.proofs.HeldLaws.{length-securities, security-at-row}
 use Rattle.book.proofs.EveningLaws.{Kept, Held, held-security, held-cash, held-fits, security-taken, cash-taken, sound-of, turn, turns-keep, turns-count, unfrozen}

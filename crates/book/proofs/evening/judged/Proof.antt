@@ -6,9 +6,9 @@ use borrow.Author.Tests.{not-true, not-false}
 use lib.ListN.{length}
 use Rattle.money.specs.Collateral.{kindValue}
 use Rattle.money.proofs.Bounds.{value-bound}
-use Rattle.book.specs.Book.{Vault}
-use Rattle.book.specs.Vault.{effectiveOf, frozenOf, value}
-use Rattle.book.specs.Close.{takenOut}
+use Rattle.rules.specs.Vault.{effectiveOf, frozenOf, value}
+use Rattle.rules.specs.Close.{takenOut}
+use Rattle.book.specs.Types.{Vault}
 use Rattle.book.proofs.EveningLaws.{Held, value-after, unserved, frozen-stay, uncovered, may-go}
 use Rattle.book.proofs.evening.judged.Statement.{statement}
 use Rattle.book.proofs.evening.judged.Tie as tie

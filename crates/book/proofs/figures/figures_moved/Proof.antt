@@ -2,11 +2,11 @@ use Prim.Native.Nat.{ℕ, _+_, _-_}
 use mathlib.Core.Path.{_≡_, sym, ap, _∙_}
 use native.Mathlib.Omega.{arith}
 use borrow.Author.Needs.{needs}
+use Rattle.rules.specs.Trades.{outstanding}
+use Rattle.rules.proofs.FitParts.{fit-parts}
 use Rattle.book.specs.Figures.{Figures, figuresAt, Moved}
 use Rattle.book.specs.Flat.{tradesOf}
-use Rattle.book.specs.Entry.{Event}
-use Rattle.book.specs.Trades.{outstanding}
-use Rattle.book.proofs.FitParts.{fit-parts}
+use Rattle.book.specs.Types.{Event}
 use Rattle.book.proofs.FitFacts.{fit-keeps, fit-in-use}
 use Rattle.book.proofs.figures.figures_moved.Statement.{statement}
 use Rattle.book.proofs.figures.figures_moved.Tie as tie

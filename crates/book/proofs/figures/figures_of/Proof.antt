@@ -1,7 +1,7 @@
 use mathlib.Core.Path.{_≡_, sym, ap, _∙_}
 use native.Mathlib.Omega.{arith}
-use Rattle.book.specs.Trades.{outstanding}
-use Rattle.book.proofs.FitParts.{fit-parts, fit-securities}
+use Rattle.rules.specs.Trades.{outstanding}
+use Rattle.rules.proofs.FitParts.{fit-parts, fit-securities}
 use Rattle.book.proofs.FitFacts.{fit-keeps, fit-in-use}
 use Rattle.book.proofs.figures.figures_of.Statement.{statement}
 use Rattle.book.proofs.figures.figures_of.Tie as tie

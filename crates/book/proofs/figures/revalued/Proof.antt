@@ -1,6 +1,6 @@
 use mathlib.Core.Path.{_≡_, sym}
 use native.Mathlib.Omega.{arith}
-use Rattle.book.proofs.FitParts.{fit-parts, fit-securities}
+use Rattle.rules.proofs.FitParts.{fit-parts, fit-securities}
 use Rattle.book.proofs.figures.revalued.Statement.{statement}
 use Rattle.book.proofs.figures.revalued.Tie as tie
 

@@ -1,5 +1,5 @@
 use borrow.Author.Tests.{le-leb, lt-leb}
-use Rattle.book.specs.Fit.{capacityFit}
+use Rattle.rules.specs.Fit.{capacityFit}
 use Rattle.book.proofs.FlatLaws.{length-trades}
 use Rattle.book.proofs.fit.capacity_fit.Statement.{statement}
 use Rattle.book.proofs.fit.capacity_fit.Tie as tie

@@ -1,6 +1,6 @@
 use native.Mathlib.Omega.{arith}
 use borrow.Author.Needs.{needs}
-use Rattle.book.proofs.FitParts.{capacity-fits}
+use Rattle.rules.proofs.FitParts.{capacity-fits}
 use Rattle.book.proofs.GatherLaws.{gathered-where}
 use Rattle.book.proofs.FitFacts.{room-where-fit, kept-where-fit}
 use Rattle.book.proofs.Fitting.{fitting, upheld, by-flat-tests}

@@ -1,5 +1,5 @@
 use borrow.Author.Needs.{needs}
-use Rattle.book.specs.Fit.{netsFit}
+use Rattle.rules.specs.Fit.{netsFit}
 use Rattle.book.proofs.Fitting.{refuted, upheld}
 use Rattle.book.proofs.fit.nets_fit.Statement.{statement}
 use Rattle.book.proofs.fit.nets_fit.Tie as tie

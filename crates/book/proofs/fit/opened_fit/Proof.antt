@@ -1,9 +1,9 @@
 use mathlib.Core.Path.{_≡_}
 use borrow.Author.Needs.{needs}
 use lib.Dec.{leb}
-use Rattle.book.specs.Book.{On}
-use Rattle.book.specs.Days.{paymentDay}
-use Rattle.book.specs.Fit.{allTrades}
+use Rattle.rules.specs.Days.{paymentDay}
+use Rattle.rules.specs.Fit.{allTrades}
+use Rattle.book.specs.Types.{On}
 use Rattle.book.proofs.Fitting.{fitting}
 use Rattle.book.proofs.GatherLaws.{latest-decides}
 use Rattle.book.proofs.fit.opened_fit.Statement.{statement}

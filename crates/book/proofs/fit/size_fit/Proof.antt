@@ -1,5 +1,5 @@
 use borrow.Author.Tests.{le-leb, lt-leb}
-use Rattle.book.specs.Fit.{sizeFit}
+use Rattle.rules.specs.Fit.{sizeFit}
 use Rattle.book.proofs.fit.size_fit.Statement.{statement}
 use Rattle.book.proofs.fit.size_fit.Tie as tie
 

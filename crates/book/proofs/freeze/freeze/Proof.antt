@@ -7,10 +7,9 @@ use borrow.Author.Needs.{needs}
 use borrow.Author.Tests.{ltb-false, eq-eqb, ne-eqb}
 use Rattle.money.specs.Causes.{firstOf}
 use Rattle.money.proofs.Refusals.{failed}
-use Rattle.book.specs.Book.{Book}
-use Rattle.book.specs.Entry.{Freeze}
-use Rattle.book.specs.Freeze.{freezeCauses, frozen}
-use Rattle.book.specs.Step.{eventCauses}
+use Rattle.rules.specs.Freeze.{freezeCauses, frozen}
+use Rattle.rules.specs.Step.{eventCauses}
+use Rattle.book.specs.Types.{Book, Freeze}
 use Rattle.book.specs.Flat.{rowsOf, bookOf}
 use Rattle.book.proofs.HeldLaws.{security-at-row}
 use Rattle.book.proofs.Refusing.{turned-down, carried-out, done}

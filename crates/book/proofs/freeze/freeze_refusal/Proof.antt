@@ -1,5 +1,5 @@
 use borrow.Author.Needs.{needs}
-use Rattle.book.specs.Freeze.{freezeCauses}
+use Rattle.rules.specs.Freeze.{freezeCauses}
 use Rattle.book.proofs.Column.{column}
 use Rattle.book.proofs.freeze.freeze_refusal.Statement.{statement}
 use Rattle.book.proofs.freeze.freeze_refusal.Tie as tie

@@ -9,11 +9,10 @@ use Rattle.money.specs.Limits.{cashLimit}
 use Rattle.money.specs.declared.units.Fen.{Fen}
 use Rattle.money.specs.Causes.{firstOf}
 use Rattle.money.proofs.Refusals.{failed}
-use Rattle.book.specs.Book.{Book}
-use Rattle.book.specs.Entry.{Account, Own, Client, FundIn}
-use Rattle.book.specs.Fit.{allCash}
-use Rattle.book.specs.Funds.{holds, fundInCauses, fundedIn}
-use Rattle.book.specs.Step.{eventCauses}
+use Rattle.rules.specs.Fit.{allCash}
+use Rattle.rules.specs.Funds.{holds, fundInCauses, fundedIn}
+use Rattle.rules.specs.Step.{eventCauses}
+use Rattle.book.specs.Types.{Book, Account, Own, Client, FundIn}
 use Rattle.book.specs.Flat.{Rows, bookOf}
 use Rattle.book.proofs.Refusing.{noRows, turned-down, carried-out, done}
 use Rattle.book.proofs.funds.fund_in.Statement.{statement}

@@ -1,10 +1,10 @@
 use Prim.Native.Nat.{_+_, _≤_, _<_}
 use native.Mathlib.Omega.{arith}
 use Rattle.money.specs.Limits.{cashLimit}
-use Rattle.book.specs.Fit.{allCash}
-use Rattle.book.specs.Funds.{fundInCauses}
+use Rattle.rules.specs.Fit.{allCash}
+use Rattle.rules.specs.Funds.{fundInCauses}
+use Rattle.rules.proofs.FitParts.{cash-fits}
 use Rattle.book.proofs.Column.{column}
-use Rattle.book.proofs.FitParts.{cash-fits}
 use Rattle.book.proofs.funds.fund_in_refusal.Statement.{statement}
 use Rattle.book.proofs.funds.fund_in_refusal.Tie as tie
 

@@ -8,10 +8,9 @@ use borrow.Author.Tests.{ltb-false}
 use Rattle.money.specs.declared.units.Fen.{Fen}
 use Rattle.money.specs.Causes.{firstOf}
 use Rattle.money.proofs.Refusals.{failed}
-use Rattle.book.specs.Book.{Book}
-use Rattle.book.specs.Entry.{Account, FundOut}
-use Rattle.book.specs.Funds.{holds, fundOutCauses, fundedOut}
-use Rattle.book.specs.Step.{eventCauses}
+use Rattle.rules.specs.Funds.{holds, fundOutCauses, fundedOut}
+use Rattle.rules.specs.Step.{eventCauses}
+use Rattle.book.specs.Types.{Book, Account, FundOut}
 use Rattle.book.specs.Flat.{Rows, bookOf}
 use Rattle.book.proofs.Refusing.{noRows, turned-down, carried-out, done}
 use Rattle.book.proofs.funds.fund_out.Statement.{statement}

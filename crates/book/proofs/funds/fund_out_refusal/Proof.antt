@@ -1,5 +1,5 @@
 use borrow.Author.Needs.{needs}
-use Rattle.book.specs.Funds.{fundOutCauses}
+use Rattle.rules.specs.Funds.{fundOutCauses}
 use Rattle.book.proofs.Column.{column}
 use Rattle.book.proofs.funds.fund_out_refusal.Statement.{statement}
 use Rattle.book.proofs.funds.fund_out_refusal.Tie as tie

@@ -6,7 +6,7 @@ use borrow.Author.Needs.{needs}
 use native.Mathlib.Omega.{arith}
 use Rattle.money.specs.Causes.{firstOf}
 use Rattle.money.specs.Money.{principal}
-use Rattle.book.specs.Initial.{initialCauses, initialBook, initialTable}
+use Rattle.rules.specs.Initial.{initialCauses, initialBook, initialTable}
 use Rattle.book.specs.Flat.{rowsOf, bookOf, tradesOf}
 use Rattle.book.proofs.Refusing.{refused, turned-down, carried-out}
 use Rattle.book.proofs.FitFacts.{fit-keeps, fit-net}

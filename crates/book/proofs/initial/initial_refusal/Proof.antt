@@ -1,5 +1,5 @@
 use borrow.Author.Needs.{needs}
-use Rattle.book.specs.Initial.{initialCauses}
+use Rattle.rules.specs.Initial.{initialCauses}
 use Rattle.book.proofs.Column.{column, applies, passes, asked, asked-not, denied-not}
 use Rattle.book.proofs.InitialLaws.{today-within, count-within}
 use Rattle.book.proofs.initial.initial_refusal.Statement.{statement}

@@ -1,10 +1,10 @@
 use mathlib.Core.Path.{_≡_, sym, ap, _∙_}
 use native.Mathlib.Omega.{arith}
 use lib.ListN.{take}
+use Rattle.rules.specs.Trades.{outstanding}
+use Rattle.rules.specs.Vault.{headroom}
+use Rattle.rules.proofs.FitParts.{fit-parts, fit-securities}
 use Rattle.book.specs.Flat.{tradesOf}
-use Rattle.book.specs.Trades.{outstanding}
-use Rattle.book.specs.Vault.{headroom}
-use Rattle.book.proofs.FitParts.{fit-parts, fit-securities}
 use Rattle.book.proofs.FitFacts.{fit-keeps, fit-in-use}
 use Rattle.book.proofs.initial.lacks_headroom.Statement.{statement}
 use Rattle.book.proofs.initial.lacks_headroom.Tie as tie

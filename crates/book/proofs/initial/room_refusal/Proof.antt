@@ -8,8 +8,8 @@ use lib.IntN.{ℤ}
 use lib.Dec.{leb}
 use lib.ListN.{length, take}
 use Rattle.money.specs.Money.{principal}
-use Rattle.book.specs.Trades.{onTable}
-use Rattle.book.specs.Initial.{netLess}
+use Rattle.rules.specs.Trades.{onTable}
+use Rattle.rules.specs.Initial.{netLess}
 use Rattle.book.specs.Flat.{bookOf, tradesOf}
 use Rattle.book.proofs.Column.{applies, passes, ends, asked, asked-not}
 use Rattle.book.proofs.Refusing.{noRows}

@@ -6,7 +6,7 @@ use lib.IntN.{natAbs}
 use mir.Val.{toZ, ofZ}
 use mir.Syntax.{w64}
 use mir.ValLaws.{toZ-ofZ}
-use Rattle.book.specs.Listing.{isNegative}
+use Rattle.rules.specs.Listing.{isNegative}
 use lib.ListN.{length-set}
 use Rattle.book.proofs.LineLaws.{seven-in-a-row}
 use Rattle.book.proofs.line.write_line.Statement.{statement}

@@ -3,7 +3,7 @@ use mathlib.Core.Option.{none}
 use borrow.Author.Needs.{needs}
 use lib.ListN.{length}
 use Rattle.money.specs.Causes.{firstOf}
-use Rattle.book.specs.Listing.{listingCauses}
+use Rattle.rules.specs.Listing.{listingCauses}
 use Rattle.book.proofs.Refusing.{refused}
 use Rattle.book.proofs.ListingLaws.{listing-clear, fresh-listing, journal-starts-empty}
 use Rattle.book.proofs.listing.run_listing.Statement.{statement}

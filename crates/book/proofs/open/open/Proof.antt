@@ -3,9 +3,10 @@ use mathlib.Core.Bool.{Bool, true}
 use borrow.Author.Needs.{needs}
 use borrow.Author.Tests.{not-true, not-false}
 use denote.Ref.{now}
-use Rattle.book.specs.Book.{Standing, isClosed}
-use Rattle.book.specs.Days.{following, followed}
-use Rattle.book.specs.Open.{openedBook, openedTable}
+use Rattle.rules.specs.Book.{isClosed}
+use Rattle.rules.specs.Days.{following, followed}
+use Rattle.rules.specs.Open.{openedBook, openedTable}
+use Rattle.book.specs.Types.{Standing}
 use Rattle.book.specs.Flat.{bookOf, tradesOf}
 use Rattle.book.proofs.OpenLaws.{not-closed, no-day-to-open, none-unless-ended}
 use Rattle.book.proofs.open.open.Statement.{statement}

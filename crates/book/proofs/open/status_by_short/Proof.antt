@@ -1,6 +1,6 @@
 use mathlib.Core.Path.{refl}
 use borrow.Author.Needs.{needs}
-use Rattle.book.specs.Open.{statusAtOpen}
+use Rattle.rules.specs.Open.{statusAtOpen}
 use Rattle.book.proofs.open.status_by_short.Statement.{statement}
 use Rattle.book.proofs.open.status_by_short.Tie as tie
 

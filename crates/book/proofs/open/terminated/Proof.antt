@@ -3,9 +3,9 @@ use borrow.Author.Needs.{needs}
 use borrow.Author.Tests.{not-true, not-false}
 use denote.Ref.{now}
 use lib.IntN.{ℤ}
-use Rattle.book.specs.Book.{Book, Nets}
-use Rattle.book.specs.Fit.{netFit}
-use Rattle.book.specs.Open.{netWithFallbacks, openedBook, openedTable}
+use Rattle.rules.specs.Fit.{netFit}
+use Rattle.rules.specs.Open.{netWithFallbacks, openedBook, openedTable}
+use Rattle.book.specs.Types.{Book, Nets}
 use Rattle.book.specs.Flat.{Rows, bookOf, tradesOf}
 use Rattle.book.proofs.FitFacts.{fit-in-use, fit-keeps}
 use Rattle.book.proofs.RedemptionLaws.{all-due}

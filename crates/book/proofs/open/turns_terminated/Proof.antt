@@ -1,7 +1,7 @@
 use mathlib.Core.Path.{refl, sym, ap, _∙_}
 use borrow.Author.Needs.{needs}
-use Rattle.book.specs.Book.{isTerminated}
-use Rattle.book.specs.Open.{turnsTerminated}
+use Rattle.rules.specs.Book.{isTerminated}
+use Rattle.rules.specs.Open.{turnsTerminated}
 use Rattle.book.proofs.open.turns_terminated.Statement.{statement}
 use Rattle.book.proofs.open.turns_terminated.Tie as tie
 

@@ -2,10 +2,10 @@ use mathlib.Core.Path.{_∙_}
 use borrow.Author.Needs.{needs}
 use borrow.Author.Tests.{le-leb}
 use denote.Ref.{now}
-use Rattle.book.specs.Book.{Book}
-use Rattle.book.specs.Days.{paymentDay}
+use Rattle.rules.specs.Days.{paymentDay}
+use Rattle.rules.proofs.FitParts.{fit-parts}
+use Rattle.book.specs.Types.{Book}
 use Rattle.book.specs.Flat.{Redeemable, bookOf, tradesOf}
-use Rattle.book.proofs.FitParts.{fit-parts}
 use Rattle.book.proofs.FitFacts.{fit-in-use}
 use Rattle.book.proofs.RedemptionLaws.{fallback-bound}
 use Rattle.book.proofs.OpenLaws.{redeemable-next-day}

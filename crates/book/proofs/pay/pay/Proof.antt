@@ -6,14 +6,13 @@ use native.Mathlib.Omega.{arith}
 use borrow.Author.Needs.{needs}
 use borrow.Author.Tests.{ltb-false}
 use Rattle.money.specs.Causes.{firstOf}
-use Rattle.book.specs.Book.{Nets}
-use Rattle.book.specs.Entry.{Pay}
-use Rattle.book.specs.Fit.{netFit, netsFit}
-use Rattle.book.specs.Pay.{payCauses}
-use Rattle.book.specs.Step.{eventCauses}
+use Rattle.rules.specs.Fit.{netFit, netsFit}
+use Rattle.rules.specs.Pay.{payCauses}
+use Rattle.rules.specs.Step.{eventCauses}
+use Rattle.rules.proofs.FoldLaws.{both}
+use Rattle.rules.proofs.FitParts.{cash-fits}
+use Rattle.book.specs.Types.{Nets, Pay}
 use Rattle.book.specs.Flat.{Rows, bookOf}
-use Rattle.book.proofs.FoldLaws.{both}
-use Rattle.book.proofs.FitParts.{cash-fits}
 use Rattle.book.proofs.Refusing.{refused, done}
 use Rattle.book.proofs.pay.pay.Statement.{statement}
 use Rattle.book.proofs.pay.pay.Tie as tie

@@ -1,5 +1,5 @@
 use borrow.Author.Needs.{needs}
-use Rattle.book.specs.Pay.{payCauses}
+use Rattle.rules.specs.Pay.{payCauses}
 use Rattle.book.proofs.Column.{column}
 use Rattle.book.proofs.pay.pay_refusal.Statement.{statement}
 use Rattle.book.proofs.pay.pay_refusal.Tie as tie

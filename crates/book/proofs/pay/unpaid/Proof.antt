@@ -1,5 +1,5 @@
 use borrow.Author.Needs.{needs}
-use Rattle.book.specs.Pay.{paidBook}
+use Rattle.rules.specs.Pay.{paidBook}
 use Rattle.book.proofs.pay.unpaid.Statement.{statement}
 use Rattle.book.proofs.pay.unpaid.Tie as tie
 

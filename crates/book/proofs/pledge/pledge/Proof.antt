@@ -8,13 +8,12 @@ use borrow.Author.Tests.{ltb-false, eq-eqb, ne-eqb}
 use Rattle.money.specs.Limits.{unitLimit}
 use Rattle.money.specs.Causes.{firstOf}
 use Rattle.money.proofs.Refusals.{failed}
-use Rattle.book.specs.Book.{Book}
-use Rattle.book.specs.Entry.{Pledge}
-use Rattle.book.specs.Vault.{securityAt}
-use Rattle.book.specs.Pledge.{pledgeCauses, pledged}
-use Rattle.book.specs.Step.{eventCauses}
+use Rattle.rules.specs.Vault.{securityAt}
+use Rattle.rules.specs.Pledge.{pledgeCauses, pledged}
+use Rattle.rules.specs.Step.{eventCauses}
+use Rattle.rules.proofs.FitParts.{cash-fits}
+use Rattle.book.specs.Types.{Book, Pledge}
 use Rattle.book.specs.Flat.{rowsOf, bookOf}
-use Rattle.book.proofs.FitParts.{cash-fits}
 use Rattle.book.proofs.HeldLaws.{security-at-row}
 use Rattle.book.proofs.Refusing.{turned-down, carried-out, done}
 use Rattle.book.proofs.pledge.pledge.Statement.{statement}

@@ -2,8 +2,8 @@ use Prim.Native.Nat.{_+_, _≤_, _<_}
 use native.Mathlib.Omega.{arith}
 use borrow.Author.Needs.{needs}
 use Rattle.money.specs.Limits.{unitLimit}
-use Rattle.book.specs.Vault.{securityAt}
-use Rattle.book.specs.Pledge.{pledgeCauses}
+use Rattle.rules.specs.Vault.{securityAt}
+use Rattle.rules.specs.Pledge.{pledgeCauses}
 use Rattle.book.specs.Flat.{securitiesOf, vaultOf}
 use Rattle.book.proofs.Column.{column}
 use Rattle.book.proofs.HeldLaws.{security-at-row}

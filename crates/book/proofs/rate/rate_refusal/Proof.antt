@@ -1,4 +1,4 @@
-use Rattle.book.specs.Rate.{rateCauses}
+use Rattle.rules.specs.Rate.{rateCauses}
 use Rattle.book.proofs.Column.{column}
 use Rattle.book.proofs.rate.rate_refusal.Statement.{statement}
 use Rattle.book.proofs.rate.rate_refusal.Tie as tie

@@ -6,9 +6,9 @@ use borrow.Author.Needs.{needs}
 use borrow.Author.Tests.{leb-false}
 use Rattle.money.specs.Causes.{firstOf}
 use Rattle.money.proofs.Refusals.{failed}
-use Rattle.book.specs.Entry.{Rate}
-use Rattle.book.specs.Rate.{rateCauses, rated}
-use Rattle.book.specs.Step.{eventCauses}
+use Rattle.rules.specs.Rate.{rateCauses, rated}
+use Rattle.rules.specs.Step.{eventCauses}
+use Rattle.book.specs.Types.{Rate}
 use Rattle.book.specs.Flat.{rowsOf, bookOf}
 use Rattle.book.proofs.HeldLaws.{security-at-row}
 use Rattle.book.proofs.Refusing.{noRows, turned-down, carried-out, done}

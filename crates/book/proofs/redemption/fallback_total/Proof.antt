@@ -2,8 +2,8 @@ use Prim.Native.Nat.{_-_, _≤_}
 use mathlib.Core.Path.{_≡_, sym}
 use native.Mathlib.Omega.{arith}
 use borrow.Author.Needs.{needs}
+use Rattle.rules.specs.Trades.{total, fallbackAmount}
 use Rattle.book.specs.Flat.{tradeAt, tradesTo}
-use Rattle.book.specs.Trades.{total, fallbackAmount}
 use Rattle.book.proofs.FlatLaws.{total-none, total-more, next-at-most}
 use Rattle.book.proofs.RedemptionLaws.{trade-within, begun-before, fallback-at-most}
 use Rattle.book.proofs.redemption.fallback_total.Statement.{statement}

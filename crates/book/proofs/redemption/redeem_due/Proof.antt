@@ -4,8 +4,8 @@ use mathlib.Core.Path.{_≡_, refl, _∙_}
 use native.Mathlib.Omega.{arith}
 use borrow.Author.Needs.{needs}
 use lib.ListN.{length}
+use Rattle.rules.specs.Trades.{matured, over}
 use Rattle.book.specs.Flat.{tradesTo, tradesOf}
-use Rattle.book.specs.Trades.{matured, over}
 use Rattle.book.proofs.RedemptionLaws.{none-changed, map-one-more}
 use Rattle.book.proofs.redemption.redeem_due.Statement.{statement}
 use Rattle.book.proofs.redemption.redeem_due.Tie as tie

@@ -1,7 +1,7 @@
 use native.Mathlib.Omega.{arith}
 use borrow.Author.Needs.{needs}
+use Rattle.rules.proofs.TradeLaws.{maturing-le}
 use Rattle.book.specs.Flat.{tradeAt}
-use Rattle.book.proofs.TradeLaws.{maturing-le}
 use Rattle.book.proofs.redemption.redeem_one.Statement.{statement}
 use Rattle.book.proofs.redemption.redeem_one.Tie as tie
 

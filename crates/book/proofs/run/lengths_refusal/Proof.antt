@@ -1,5 +1,5 @@
 use borrow.Author.Needs.{needs}
-use Rattle.book.specs.Listing.{lengthCauses}
+use Rattle.rules.specs.Listing.{lengthCauses}
 use Rattle.book.proofs.Column.{column}
 use Rattle.book.proofs.run.lengths_refusal.Statement.{statement}
 use Rattle.book.proofs.run.lengths_refusal.Tie as tie

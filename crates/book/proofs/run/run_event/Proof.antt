@@ -4,12 +4,12 @@ use mathlib.Core.Bool.{true}
 use native.Mathlib.Omega.{arith}
 use lib.ListN.{length}
 use lib.Seq.{sets}
-use Rattle.book.specs.Fit.{fit}
-use Rattle.book.specs.Entry.{decoded}
-use Rattle.book.specs.Step.{Outcome, step}
-use Rattle.book.specs.Cover.{counted}
+use Rattle.rules.specs.Fit.{fit}
+use Rattle.rules.specs.Entry.{decoded}
+use Rattle.rules.specs.Step.{Outcome, step}
+use Rattle.rules.specs.Cover.{counted}
+use Rattle.rules.proofs.FitParts.{fit-parts}
 use Rattle.book.specs.Flat.{Rows, rowsOf, bookOf, appliedAt, tradesOf, appliedOf}
-use Rattle.book.proofs.FitParts.{fit-parts}
 use Rattle.book.proofs.CoverLaws.{headroom-size}
 use Rattle.book.proofs.FigureLaws.{moved-after, counted-from}
 use Rattle.book.proofs.LineLaws.{line-told}

@@ -5,10 +5,10 @@ use borrow.Author.Needs.{needs}
 use borrow.Author.Tests.{not-true, not-false}
 use lib.ListN.{length}
 use Rattle.money.specs.Causes.{firstOf}
-use Rattle.book.specs.Book.{Book}
-use Rattle.book.specs.Fit.{fit}
-use Rattle.book.specs.Step.{unfit}
-use Rattle.book.specs.Listing.{lengthCauses}
+use Rattle.rules.specs.Fit.{fit}
+use Rattle.rules.specs.Step.{unfit}
+use Rattle.rules.specs.Listing.{lengthCauses}
+use Rattle.book.specs.Types.{Book}
 use Rattle.book.specs.Flat.{rowsOf, bookOf, tradesOf}
 use Rattle.book.proofs.StepLaws.{too-many-words, not-fit, not-unfit}
 use Rattle.book.proofs.RunLaws.{lengths-clear, lines-fit, unfit-run, bad-lengths, goes-on, ran-through}

@@ -3,9 +3,9 @@ use mathlib.Core.List.{[]}
 use mathlib.Core.Option.{none}
 use borrow.Author.Needs.{needs}
 use Rattle.money.specs.Causes.{firstOf}
-use Rattle.book.specs.Entry.{Size}
-use Rattle.book.specs.Size.{sizeCauses, sized}
-use Rattle.book.specs.Step.{eventCauses}
+use Rattle.rules.specs.Size.{sizeCauses, sized}
+use Rattle.rules.specs.Step.{eventCauses}
+use Rattle.book.specs.Types.{Size}
 use Rattle.book.specs.Flat.{Rows, bookOf, tradesOf}
 use Rattle.book.proofs.Refusing.{turned-down, carried-out, done}
 use Rattle.book.proofs.size.set_size.Statement.{statement}

@@ -2,7 +2,7 @@ use mathlib.Core.Path.{_≡_}
 use native.Mathlib.Omega.{arith}
 use borrow.Author.Needs.{needs}
 use lib.ListN.{take}
-use Rattle.book.specs.Size.{sizeCauses}
+use Rattle.rules.specs.Size.{sizeCauses}
 use Rattle.book.specs.Flat.{tradesTo, tradesOf}
 use Rattle.book.proofs.Column.{column}
 use Rattle.book.proofs.FlatLaws.{take-trades}

@@ -3,7 +3,7 @@ use mathlib.Core.Path.{_≡_, refl, _∙_}
 use native.Mathlib.Omega.{arith}
 use borrow.Author.Needs.{needs}
 use lib.ListN.{length, length-map}
-use Rattle.book.specs.Book.{noSecurity}
+use Rattle.rules.specs.Book.{noSecurity}
 use Rattle.book.specs.Flat.{securitiesOf}
 use Rattle.book.proofs.HeldLaws.{length-securities}
 use Rattle.book.proofs.RowLaws.{Filled, none-filled, one-filled, all-filled}

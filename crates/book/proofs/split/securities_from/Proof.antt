@@ -3,7 +3,7 @@ use mathlib.Core.Path.{_≡_, sym, _∙_}
 use native.Mathlib.Omega.{arith}
 use borrow.Author.Needs.{needs}
 use lib.ListN.{length, length-set}
-use Rattle.book.specs.Book.{noSecurity}
+use Rattle.rules.specs.Book.{noSecurity}
 use Rattle.book.specs.Flat.{securitiesOf}
 use Rattle.book.proofs.HeldLaws.{length-securities, security-below}
 use Rattle.book.proofs.RowLaws.{Filled, none-filled, one-filled, all-filled}

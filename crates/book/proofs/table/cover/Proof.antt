@@ -42,19 +42,17 @@ use denote.Triple.Statement.{Contract, Triple}
 use denote.Triple.Table.{entered, cited}
 use denote.Triple.Walked.{says, Stays, stay-none-slice, stay-none, walkOf, Walks, ends-at, walked, goes-none-slice, goes-none, walk-meets}
 use denote.Exit.{yes}
-use Rattle.book.specs.Book.{Book}
-use Rattle.book.specs.Trades.{Trade}
-use Rattle.book.specs.declared.answer.Cover.{Cover}
-use Rattle.book.specs.Cover.{uncounted, coverOf}
+use Rattle.rules.specs.Cover.{uncounted, coverOf}
+use Rattle.rules.proofs.trade.Trade as T
+use Rattle.rules.proofs.book.Book as Bk
+use Rattle.rules.proofs.book.Book.Laws as Bk′
+use Rattle.rules.proofs.answer.Cover as B
+use Rattle.rules.proofs.answer.Cover.Laws as B′
+use Rattle.book.specs.Types.{Book, Trade, Cover}
 use Rattle.book.proofs.TableLaws.{long-unfit}
 use Rattle.book.proofs.CoverLaws.{unfit-cover}
 use Rattle.book.proofs.WalkAgain.{slice-at, Slice, Shared}
 use Rattle.book.proofs.WalkArray.{arrTy, lends-array, array-home, big-lit}
-use Rattle.book.proofs.trade.Trade as T
-use Rattle.book.proofs.book.Book as Bk
-use Rattle.book.proofs.book.Book.Laws as Bk′
-use Rattle.book.proofs.answer.Cover as B
-use Rattle.book.proofs.answer.Cover.Laws as B′
 use Rattle.book.proofs.cover.refused as refused
 use Rattle.book.proofs.cover.refused.Symbol as refused-def
 use Rattle.book.proofs.cover.refused.Symbol.{name as #refused}

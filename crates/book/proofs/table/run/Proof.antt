@@ -41,19 +41,17 @@ use denote.Triple.Statement.{Contract, Triple}
 use denote.Triple.Table.{entered, cited}
 use denote.Triple.Walked.{says, Stays, stay-none-slice, stay-slice, stay-none, walkOf, Walks, ends-at, walked, goes-none-slice, goes-slice, goes-none, walk-meets}
 use denote.Exit.{yes}
-use Rattle.book.specs.Book.{Book}
-use Rattle.book.specs.Trades.{Trade}
-use Rattle.book.specs.declared.answer.Ran.{Ran}
-use Rattle.book.specs.Listing.{RunOutcome, runOutcome}
+use Rattle.rules.specs.Listing.{RunOutcome, runOutcome}
+use Rattle.rules.proofs.trade.Trade as T
+use Rattle.rules.proofs.book.Book as Bk
+use Rattle.rules.proofs.book.Book.Laws as Bk′
+use Rattle.rules.proofs.answer.Ran as B
+use Rattle.rules.proofs.answer.Ran.Laws as B′
+use Rattle.book.specs.Types.{Book, Trade, Ran}
 use Rattle.book.proofs.TableLaws.{long-unfit}
 use Rattle.book.proofs.RunLaws.{Refused, unfit-run}
 use Rattle.book.proofs.WalkAgain.{slice-at, Slice, lends, comes-home}
 use Rattle.book.proofs.WalkArray.{arrTy, lends-array, array-home, big-lit}
-use Rattle.book.proofs.trade.Trade as T
-use Rattle.book.proofs.book.Book as Bk
-use Rattle.book.proofs.book.Book.Laws as Bk′
-use Rattle.book.proofs.answer.Ran as B
-use Rattle.book.proofs.answer.Ran.Laws as B′
 use Rattle.book.proofs.run.refused as refused
 use Rattle.book.proofs.run.refused.Symbol as refused-def
 use Rattle.book.proofs.run.refused.Symbol.{name as #refused}

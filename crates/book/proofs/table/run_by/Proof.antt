@@ -38,18 +38,16 @@ use denote.Triple.Statement.{Contract, Triple}
 use denote.Triple.Table.{entered, cited}
 use denote.Triple.Walked.{says, needs, Stays, stay-none-slice, stay-slice, stay-none, walkOf, Walks, ends-at, walked, goes-none-slice, goes-slice, goes-none, walk-meets}
 use denote.Exit.{yes}
-use Rattle.book.specs.Book.{Book}
-use Rattle.book.specs.Trades.{Trade}
-use Rattle.book.specs.declared.answer.Ran.{Ran}
-use Rattle.book.specs.Listing.{RunOutcome, runOutcome}
+use Rattle.rules.specs.Listing.{RunOutcome, runOutcome}
+use Rattle.rules.proofs.trade.Trade as T
+use Rattle.rules.proofs.book.Book as Bk
+use Rattle.rules.proofs.book.Book.Laws as Bk′
+use Rattle.rules.proofs.answer.Ran as B
+use Rattle.rules.proofs.answer.Ran.Laws as B′
+use Rattle.book.specs.Types.{Book, Trade, Ran}
 use Rattle.book.specs.Flat.{tradesTo}
 use Rattle.book.proofs.WalkAgain.{slice-at, Slice, lends, comes-home, shares-out, shared-home}
 use Rattle.book.proofs.WalkCopies.{In, to-in, goes-in, GetsIn, gets-in, Out, to-out, goes-out, GetsOut, gets-out}
-use Rattle.book.proofs.trade.Trade as T
-use Rattle.book.proofs.book.Book as Bk
-use Rattle.book.proofs.book.Book.Laws as Bk′
-use Rattle.book.proofs.answer.Ran as B
-use Rattle.book.proofs.answer.Ran.Laws as B′
 use Rattle.book.proofs.copies.copy_in.Symbol as copy-in-def
 use Rattle.book.proofs.copies.copy_in.Symbol.{name as #copy-in}
 use Rattle.book.proofs.copies.copy_in.Met as copy-in-thm

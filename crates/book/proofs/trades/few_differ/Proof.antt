@@ -3,8 +3,8 @@ use mathlib.Core.Bool.{true}
 use mathlib.Core.Path.{_≡_, sym}
 use native.Mathlib.Omega.{arith}
 use borrow.Author.Needs.{needs}
+use Rattle.rules.specs.Trades.{differ}
 use Rattle.book.specs.Flat.{tradeAt, tradesTo, placeOf}
-use Rattle.book.specs.Trades.{differ}
 use Rattle.book.proofs.PlaceLaws.{differ-none, differ-one-more, differ-fails}
 use Rattle.book.proofs.trades.few_differ.Statement.{statement}
 use Rattle.book.proofs.trades.few_differ.Tie as tie

@@ -5,12 +5,12 @@ use native.Mathlib.Omega.{arith}
 use borrow.Author.Needs.{needs}
 use borrow.Author.Tests.{not-true, not-false}
 use Rattle.money.specs.Limits.{tradeLimit}
-use Rattle.book.specs.Trades.{total, outstanding}
-use Rattle.book.specs.Fit.{tradeFit, allTrades}
+use Rattle.rules.specs.Trades.{total, outstanding}
+use Rattle.rules.specs.Fit.{tradeFit, allTrades}
+use Rattle.rules.proofs.TradeLaws.{sheetsOf}
 use Rattle.book.specs.Flat.{tradeAt, tradesTo}
 use Rattle.book.specs.Figures.{latestFirst}
 use Rattle.book.proofs.FlatLaws.{all-none, all-more, all-fails, total-none, total-more}
-use Rattle.book.proofs.TradeLaws.{sheetsOf}
 use Rattle.book.proofs.RedemptionLaws.{within-of}
 use Rattle.book.proofs.GatherLaws.{latest-none, latest-more, gathered-fit, gathered-unfit}
 use Rattle.book.proofs.trades.gather.Statement.{statement}

@@ -3,11 +3,11 @@ use mathlib.Core.Path.{_≡_, sym}
 use native.Mathlib.Omega.{arith}
 use borrow.Author.Needs.{needs}
 use Rattle.money.specs.Limits.{tradeLimit}
+use Rattle.rules.specs.Trades.{total, outstanding}
+use Rattle.rules.proofs.TradeLaws.{sheetsOf}
 use Rattle.book.specs.Flat.{tradesTo}
-use Rattle.book.specs.Trades.{total, outstanding}
 use Rattle.book.proofs.FlatLaws.{total-none, total-more, next-at-most}
 use Rattle.book.proofs.RedemptionLaws.{kept-within}
-use Rattle.book.proofs.TradeLaws.{sheetsOf}
 use Rattle.book.proofs.trades.outstanding_of.Statement.{statement}
 use Rattle.book.proofs.trades.outstanding_of.Tie as tie
 

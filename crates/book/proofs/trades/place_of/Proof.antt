@@ -3,8 +3,8 @@ use mathlib.Core.Bool.{false}
 use mathlib.Core.Path.{_≡_, sym, _∙_}
 use native.Mathlib.Omega.{arith}
 use borrow.Author.Needs.{needs}
+use Rattle.rules.specs.Trades.{same, onTable}
 use Rattle.book.specs.Flat.{tradeAt, tradesTo}
-use Rattle.book.specs.Trades.{same, onTable}
 use Rattle.book.proofs.PlaceLaws.{off-none, off-one-more, place-found, place-past}
 use Rattle.book.proofs.trades.place_of.Statement.{statement}
 use Rattle.book.proofs.trades.place_of.Tie as tie

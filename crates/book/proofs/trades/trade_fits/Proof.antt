@@ -4,8 +4,8 @@ use borrow.Author.Needs.{needs}
 use borrow.Author.Tests.{le-leb, lt-leb}
 use lib.Dec.{leb}
 use Rattle.money.specs.Limits.{tradeLimit}
+use Rattle.rules.specs.Folds.{every}
 use Rattle.book.specs.Flat.{tradeAt}
-use Rattle.book.specs.Folds.{every}
 use Rattle.book.proofs.trades.trade_fits.Statement.{statement}
 use Rattle.book.proofs.trades.trade_fits.Tie as tie
 

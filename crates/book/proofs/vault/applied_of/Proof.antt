@@ -5,10 +5,10 @@ use native.Mathlib.Omega.{arith}
 use borrow.Author.Needs.{needs}
 use borrow.Author.Tests.{eq-eqb, ne-eqb}
 use lib.ListN.{getD}
-use Rattle.book.specs.Book.{Withdrawals}
-use Rattle.book.specs.Folds.{sumBelow}
-use Rattle.book.specs.Withdraw.{applied}
-use Rattle.book.proofs.FitParts.{withdrawals-fit}
+use Rattle.rules.specs.Folds.{sumBelow}
+use Rattle.rules.specs.Withdraw.{applied}
+use Rattle.rules.proofs.FitParts.{withdrawals-fit}
+use Rattle.book.specs.Types.{Withdrawals}
 use Rattle.book.proofs.SumLaws.{sum-none, sum-more}
 use Rattle.book.proofs.VaultLaws.{appliedAt, applied-at-bound}
 use Rattle.book.proofs.vault.applied_of.Statement.{statement}

@@ -5,7 +5,7 @@ use native.Mathlib.Omega.{arith}
 use borrow.Author.Count.{below-more}
 use borrow.Author.Needs.{needs}
 use borrow.Author.Tests.{not-true, not-false}
-use Rattle.book.specs.Fit.{securityFit}
+use Rattle.rules.specs.Fit.{securityFit}
 use Rattle.book.specs.Flat.{securityIn}
 use Rattle.book.proofs.HeldLaws.{one-unfit-security, all-fit-securities}
 use Rattle.book.proofs.vault.securities_fit.Statement.{statement}

@@ -4,7 +4,7 @@ use mathlib.Core.Bool.{true}
 use native.Mathlib.Omega.{arith}
 use borrow.Author.Tests.{le-leb, lt-leb}
 use lib.Dec.{leb}
-use Rattle.book.specs.Book.{Security}
+use Rattle.book.specs.Types.{Security}
 use Rattle.book.proofs.SumLaws.{test-fails, test-holds, none-left}
 use Rattle.book.proofs.vault.security_fit.Statement.{statement}
 use Rattle.book.proofs.vault.security_fit.Tie as tie

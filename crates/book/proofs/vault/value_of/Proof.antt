@@ -3,11 +3,11 @@ use mathlib.Core.Path.{_≡_, sym, _∙_}
 use native.Mathlib.Omega.{arith}
 use borrow.Author.Needs.{needs}
 use borrow.Author.Tests.{ne-eqb}
-use Rattle.book.specs.Folds.{sumBelow}
-use Rattle.book.specs.Book.{Vault}
-use Rattle.book.specs.Vault.{securityAt, value}
+use Rattle.rules.specs.Folds.{sumBelow}
+use Rattle.rules.specs.Vault.{securityAt, value}
+use Rattle.rules.proofs.FitParts.{securities-fit}
+use Rattle.book.specs.Types.{Vault}
 use Rattle.book.specs.Flat.{vaultOf, securitiesOf}
-use Rattle.book.proofs.FitParts.{securities-fit}
 use Rattle.book.proofs.HeldLaws.{security-at-row}
 use Rattle.book.proofs.SumLaws.{sum-none, sum-more}
 use Rattle.book.proofs.VaultLaws.{Sound, valueAt, security-value, cash-value, value-at-bound}

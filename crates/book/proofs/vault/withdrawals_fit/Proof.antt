@@ -6,7 +6,7 @@ use borrow.Author.Count.{below-more}
 use borrow.Author.Needs.{needs}
 use borrow.Author.Tests.{not-true, not-false}
 use lib.ListN.{getD}
-use Rattle.book.specs.Fit.{applicationFit}
+use Rattle.rules.specs.Fit.{applicationFit}
 use Rattle.book.proofs.VaultLaws.{too-many, one-unfit, all-fit}
 use Rattle.book.proofs.vault.withdrawals_fit.Statement.{statement}
 use Rattle.book.proofs.vault.withdrawals_fit.Tie as tie

@@ -6,11 +6,11 @@ use borrow.Author.Needs.{needs}
 use borrow.Author.Tests.{lt-ltb}
 use Rattle.money.specs.Limits.{unitLimit, cashLimit}
 use Rattle.money.specs.Collateral.{unitLimitOf}
-use Rattle.book.specs.Vault.{isCash, effectiveOf, frozenOf}
-use Rattle.book.specs.Withdraw.{applied}
+use Rattle.rules.specs.Vault.{isCash, effectiveOf, frozenOf}
+use Rattle.rules.specs.Withdraw.{applied}
+use Rattle.rules.proofs.FoldLaws.{by-test}
+use Rattle.rules.proofs.FitParts.{cash-fits}
 use Rattle.book.specs.Flat.{securitiesOf, vaultOf, rowsOf, bookOf}
-use Rattle.book.proofs.FoldLaws.{by-test}
-use Rattle.book.proofs.FitParts.{cash-fits}
 use Rattle.book.proofs.VaultLaws.{Sound, kind-fits, applied-bound}
 use Rattle.book.proofs.withdraw.lacks.Statement.{statement}
 use Rattle.book.proofs.withdraw.lacks.Tie as tie

@@ -8,11 +8,10 @@ use borrow.Author.Tests.{leb-false}
 use lib.ListN.{length-set}
 use Rattle.money.specs.Causes.{firstOf}
 use Rattle.money.proofs.Refusals.{failed}
-use Rattle.book.specs.Limits.{applicationLimit}
-use Rattle.book.specs.Book.{Book}
-use Rattle.book.specs.Entry.{Withdraw}
-use Rattle.book.specs.Withdraw.{withdrawCauses, withdrawn}
-use Rattle.book.specs.Step.{eventCauses}
+use Rattle.rules.specs.Limits.{applicationLimit}
+use Rattle.rules.specs.Withdraw.{withdrawCauses, withdrawn}
+use Rattle.rules.specs.Step.{eventCauses}
+use Rattle.book.specs.Types.{Book, Withdraw}
 use Rattle.book.specs.Flat.{rowsOf, bookOf}
 use Rattle.book.proofs.Refusing.{turned-down, carried-out, done}
 use Rattle.book.proofs.withdraw.withdraw.Statement.{statement}

@@ -1,5 +1,5 @@
 use borrow.Author.Needs.{needs}
-use Rattle.book.specs.Withdraw.{withdrawCauses}
+use Rattle.rules.specs.Withdraw.{withdrawCauses}
 use Rattle.book.proofs.Column.{column}
 use Rattle.book.proofs.withdraw.withdraw_refusal.Statement.{statement}
 use Rattle.book.proofs.withdraw.withdraw_refusal.Tie as tie

@@ -7,7 +7,7 @@ use borrow.Author.Tests.{eq-eqb}
 use lib.ListN.{length, take, replicate}
 use lib.Seq.{length-take-le}
 use Rattle.money.specs.Causes.{firstOf, numberOf}
-use Rattle.book.specs.Listing.{listingCauses}
+use Rattle.rules.specs.Listing.{listingCauses}
 use Rattle.cases.proofs.JournalLaws.{not-refused, lines-in-front, ending}
 use borrow.Author.Needs.{needs}
 use Rattle.cases.proofs.journal.ends_with.Statement.{statement}

@@ -6,7 +6,7 @@ use borrow.Author.Needs.{needs}
 use borrow.Author.Tests.{eq-eqb, ne-eqb}
 use lib.Dec.{eqb}
 use lib.ListN.{getD}
-use Rattle.book.specs.Folds.{allBelow}
+use Rattle.rules.specs.Folds.{allBelow}
 use Rattle.cases.specs.Journal.{sameLine}
 use Rattle.cases.proofs.JournalLaws.{none-yet, one-agrees, one-differs}
 use Rattle.cases.proofs.journal.same_line.Statement.{statement}

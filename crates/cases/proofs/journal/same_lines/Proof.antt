@@ -6,7 +6,7 @@ use native.Mathlib.Omega.{arith}
 use borrow.Author.Needs.{needs}
 use borrow.Author.Tests.{not-true, not-false}
 use lib.ListN.{length, getD}
-use Rattle.book.specs.Folds.{allBelow}
+use Rattle.rules.specs.Folds.{allBelow}
 use Rattle.cases.specs.Journal.{sameLine, sameLines}
 use Rattle.cases.proofs.JournalLaws.{none-yet, one-agrees, one-differs}
 use Rattle.cases.proofs.journal.same_lines.Statement.{statement}

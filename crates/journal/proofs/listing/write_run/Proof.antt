@@ -3,7 +3,7 @@ use Prim.Native.Nat.{ℕ, _/_}
 use native.Mathlib.Omega.{arith}
 use borrow.Author.Needs.{needs}
 use lib.ListN.{length, replicate, length-replicate}
-use Rattle.book.specs.Listing.{listingOf}
+use Rattle.rules.specs.Listing.{listingOf}
 use Rattle.journal.specs.Listing.{linesText}
 use Rattle.journal.proofs.LineLaws.{run-clear, run-lines}
 use borrow.Author.Needs.{needs}

@@ -1,7 +1,7 @@
 use Prim.Native.Nat.{_+_}
 use native.Mathlib.Omega.{arith}
 use borrow.Author.Needs.{needs}
-use Rattle.book.proofs.Bytes.{no-bytes, first-four}
+use Rattle.rules.proofs.Bytes.{no-bytes, first-four}
 use Rattle.journal.proofs.section.number4.Statement.{statement}
 use Rattle.journal.proofs.section.number4.Tie as tie
 

@@ -1,0 +1,145 @@
+-- The answer's number: the smallest cause that applies, and 0 or 99 exactly where none does. (01, Turned-down events)
+-- Assumes nothing.
+use mathlib.Core.Path.{_≡_, refl, sym, ap, _∙_}
+use mathlib.Core.Bool.{Bool, true, false, cond, not, _||_}
+use mathlib.Core.List.{List, [], _∷_}
+use mathlib.Core.Option.{Option, none, some}
+use Prim.Native.Nat.{ℕ}
+use native.Mathlib.Omega.{arith}
+use borrow.Author.Tests.{not-true, eqb-false}
+use lib.Dec.{eqb}
+use Rattle.money.specs.Causes.{Cause, firstOf}
+use Rattle.money.specs.Days.{Calendar}
+use Rattle.money.proofs.Smallest.{rising, Least, least-cause}
+use Rattle.rules.specs.Book.{Book}
+use Rattle.rules.specs.Trades.{Trade}
+use Rattle.rules.specs.Entry.{Event, Open, FundIn, FundOut, Size, Rate, Pledge, Freeze, Withdraw, Initial, Early, Pay, Close, Entry, Known, Undecodable}
+use Rattle.rules.specs.Open.{openCauses}
+use Rattle.rules.specs.Funds.{fundInCauses, fundOutCauses}
+use Rattle.rules.specs.Size.{sizeCauses}
+use Rattle.rules.specs.Rate.{rateCauses}
+use Rattle.rules.specs.Pledge.{pledgeCauses}
+use Rattle.rules.specs.Freeze.{freezeCauses}
+use Rattle.rules.specs.Withdraw.{withdrawCauses}
+use Rattle.rules.specs.Initial.{initialCauses}
+use Rattle.rules.specs.Early.{earlyCauses}
+use Rattle.rules.specs.Pay.{payCauses, payNumber, fails}
+use Rattle.rules.specs.Close.{closeCauses, closeAnswer}
+use Rattle.rules.specs.Step.{eventCauses, entryCauses, causes, act, actOn, refuseOr, step, accepted, unfit}
+use Rattle.rules.proofs.FoldLaws.{neither}
+
+-- ---- what is computed of the numbers of an event's causes: they rise, and none is 0, 1 or 99
+
+-- each number of some causes passes a test
+abbrev pub numbers : (ℕ → Bool) → List Cause → Bool
+numbers passes [] = true
+numbers passes (c ∷ cs) = cond (passes (c .number)) (numbers passes cs) false
+
+pub number-passes : (passes : ℕ → Bool) (cs : List Cause) (k : ℕ) → numbers passes cs ≡ true → firstOf cs ≡ some k → passes k ≡ true
+unfolding firstOf
+number-passes passes [] k p e = let z : _≡_ {A = ℕ} 0 1 = cc in absurd (omega arith)
+number-passes passes (c ∷ cs) k p e = go (c .applies) (passes (c .number)) refl (number-passes passes cs k) p e
+  where
+    go : (b z : Bool) → passes (c .number) ≡ z → (numbers passes cs ≡ true → firstOf cs ≡ some k → passes k ≡ true)
+        → cond z (numbers passes cs) false ≡ true → cond b (some (c .number)) (firstOf cs) ≡ some k → passes k ≡ true
+    go b false m f p e = let z : _≡_ {A = ℕ} 0 1 = cc in absurd (omega arith)
+    go true true m f p e = let h : c .number ≡ k = cc in ap passes (sym h) ∙ m
+    go false true m f p e = f p e
+
+-- a number that no event's cause has
+abbrev pub unused : ℕ → Bool
+unused k = eqb k 1 || accepted k
+
+-- both tests at once, so that the events are gone through once
+pub event-numbers : (calendar : Calendar) (book : Book) (table : List Trade) (event : Event) → (rising 1 (eventCauses calendar book table event) ≡ true) × (numbers (λ k. not (unused k)) (eventCauses calendar book table event) ≡ true)
+unfolding eventCauses openCauses fundInCauses fundOutCauses sizeCauses rateCauses pledgeCauses freezeCauses withdrawCauses initialCauses earlyCauses payCauses closeCauses
+event-numbers calendar book table Open = (refl, refl)
+event-numbers calendar book table (FundIn account amount) = (refl, refl)
+event-numbers calendar book table (FundOut account amount) = (refl, refl)
+event-numbers calendar book table (Size size) = (refl, refl)
+event-numbers calendar book table (Rate kind rate) = (refl, refl)
+event-numbers calendar book table (Pledge kind units) = (refl, refl)
+event-numbers calendar book table (Freeze kind units) = (refl, refl)
+event-numbers calendar book table (Withdraw kind units) = (refl, refl)
+event-numbers calendar book table (Initial terms) = (refl, refl)
+event-numbers calendar book table (Early contract count price) = (refl, refl)
+event-numbers calendar book table Pay = (refl, refl)
+event-numbers calendar book table Close = (refl, refl)
+
+-- ---- the smallest number that applies is given
+
+causes-rise : (calendar : Calendar) (book : Book) (table : List Trade) (entry : Entry) → rising 0 (causes calendar book table entry) ≡ true
+unfolding causes
+causes-rise calendar book table (Known event) = event-numbers calendar book table event .0
+causes-rise calendar book table Undecodable = refl
+
+pub smallest-cause : (calendar : Calendar) (book : Book) (table : List Trade) (entry : Entry) (k : ℕ) → firstOf (causes calendar book table entry) ≡ some k → Least k (causes calendar book table entry)
+smallest-cause calendar book table entry k e = least-cause 0 k (causes calendar book table entry) (causes-rise calendar book table entry) e
+
+-- ---- accepted exactly where no cause applies
+
+-- an entry's own causes give neither 1 nor an accepted number
+own-number : (calendar : Calendar) (book : Book) (table : List Trade) (entry : Entry) (k : ℕ) → firstOf (entryCauses calendar book table entry) ≡ some k → (eqb k 1 ≡ false) × (accepted k ≡ false)
+own-number calendar book table entry k e =
+    neither (eqb k 1) (accepted k) (not-true (unused k) (number-passes (λ k. not (unused k)) (entryCauses calendar book table entry) k (computed entry) e))
+  where
+    computed : (entry : Entry) → numbers (λ k. not (unused k)) (entryCauses calendar book table entry) ≡ true
+    computed (Known event) = event-numbers calendar book table event .1
+    computed Undecodable = refl
+
+-- so a refused entry is never taken for an accepted one
+pub turned-down : (calendar : Calendar) (book : Book) (table : List Trade) (entry : Entry) (n : ℕ) → firstOf (causes calendar book table entry) ≡ some n → accepted n ≡ false
+unfolding causes firstOf
+turned-down calendar book table entry n e = go (unfit calendar book table) e
+  where
+    go : (first : Bool) → cond first (some 1) (firstOf (entryCauses calendar book table entry)) ≡ some n → accepted n ≡ false
+    go true e = let h : 1 ≡ n = cc in ap accepted (sym h)
+    go false e = own-number calendar book table entry n e .1
+
+acted-accepted : (calendar : Calendar) (book : Book) (table : List Trade) (entry : Entry) → accepted (actOn calendar book table entry .answer .number) ≡ true
+unfolding act closeAnswer
+acted-accepted calendar book table (Known Open) = refl
+acted-accepted calendar book table (Known (FundIn account amount)) = refl
+acted-accepted calendar book table (Known (FundOut account amount)) = refl
+acted-accepted calendar book table (Known (Size size)) = refl
+acted-accepted calendar book table (Known (Rate kind rate)) = refl
+acted-accepted calendar book table (Known (Pledge kind units)) = refl
+acted-accepted calendar book table (Known (Freeze kind units)) = refl
+acted-accepted calendar book table (Known (Withdraw kind units)) = refl
+acted-accepted calendar book table (Known (Initial terms)) = refl
+acted-accepted calendar book table (Known (Early contract count price)) = refl
+acted-accepted calendar book table (Known Pay) = paid (fails book)
+  where
+    paid : (failing : Bool) → accepted (payNumber failing) ≡ true
+    paid true = refl
+    paid false = refl
+acted-accepted calendar book table (Known Close) = refl
+acted-accepted calendar book table Undecodable = refl
+
+pub accepted-where-none-applies : (calendar : Calendar) (book : Book) (table : List Trade) (entry : Entry) → firstOf (causes calendar book table entry) ≡ none → accepted (step calendar book table entry .answer .number) ≡ true
+unfolding step
+accepted-where-none-applies calendar book table entry e = rw e (acted-accepted calendar book table entry)
+
+pub accepted-only-where-none-applies : (calendar : Calendar) (book : Book) (table : List Trade) (entry : Entry) → accepted (step calendar book table entry .answer .number) ≡ true → firstOf (causes calendar book table entry) ≡ none
+unfolding step causes firstOf
+accepted-only-where-none-applies calendar book table entry a = go (unfit calendar book table) (firstOf (entryCauses calendar book table entry)) refl a
+  where
+    go : (first : Bool) (others : Option ℕ) → firstOf (entryCauses calendar book table entry) ≡ others
+        → accepted (refuseOr (cond first (some 1) others) book table (actOn calendar book table entry) .answer .number) ≡ true → cond first (some 1) others ≡ none
+    go true others e a = let z : _≡_ {A = ℕ} 0 1 = cc in absurd (omega arith)
+    go false none e a = refl
+    go false (some k) e a =
+        let b = own-number calendar book table entry k e .1 in
+        let z : _≡_ {A = ℕ} 0 1 = cc in absurd (omega arith)
+
+-- ---- number 1 is given to an unfit book or a long calendar alone
+
+pub never-1-where-fit : (calendar : Calendar) (book : Book) (table : List Trade) (entry : Entry) → unfit calendar book table ≡ false → step calendar book table entry .answer .number ≡ 1 → ⊥
+unfolding step causes firstOf
+never-1-where-fit calendar book table entry u a = go (firstOf (entryCauses calendar book table entry)) refl (rw u at a)
+  where
+    go : (others : Option ℕ) → firstOf (entryCauses calendar book table entry) ≡ others → refuseOr others book table (actOn calendar book table entry) .answer .number ≡ 1 → ⊥
+    go none e a =
+        let b : accepted 1 ≡ true = ap accepted (sym a) ∙ acted-accepted calendar book table entry in
+        let z : _≡_ {A = ℕ} 0 1 = cc in omega arith
+    go (some k) e a = eqb-false k 1 (own-number calendar book table entry k e .0) a

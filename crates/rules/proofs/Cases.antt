@@ -1,0 +1,183 @@
+-- Worked cases, each computed from the definitions that the promises cite: the journal of document 01, and M1 to M10.
+-- Assumes nothing.
+use mathlib.Core.Path.{_≡_, refl}
+use mathlib.Core.List.{List, [], _∷_, map}
+use Prim.Native.Nat.{ℕ, _+_}
+use lib.IntN.{ℤ, pos, natAbs}
+use lib.ListN.{replicate}
+use Rattle.money.specs.Units.{fen, sheets, ticks}
+use Rattle.money.specs.Causes.{firstOf}
+use Rattle.money.specs.Days.{Calendar, trades, firstTrading, atOrAfter, nextAfter, earliest}
+use Rattle.money.specs.Money.{principal, income, redemption, redemptionAmount}
+use Rattle.money.specs.Collateral.{kindValue, kindWorth}
+use Rattle.rules.specs.Folds.{sumBelow, allBelow, inTurn, every}
+use Rattle.rules.specs.Book.{Status, Normal, Suspended, Terminated, Book, Answer, freshBook}
+use Rattle.rules.specs.Days.{following, paymentDay, followed}
+use Rattle.rules.specs.Trades.{Trade, noTrade, total, outstanding, onTable, differ, remaining}
+use Rattle.rules.specs.Vault.{value, headroom, outstandingOf}
+use Rattle.rules.specs.Fit.{capacityFit, securitiesFit, cashFit, allTrades, sizeFit, netsFit, withdrawalsFit, fit}
+use Rattle.rules.specs.Entry.{Own, Client, Open, FundIn, FundOut, Size, Rate, Pledge, Initial, Pay, Close, Entry, Known}
+use Rattle.rules.specs.Open.{openCauses, openedBook, openedTable, statusAtOpen, turnsTerminated}
+use Rattle.rules.specs.Funds.{fundInCauses, fundedIn, fundOutCauses, fundedOut}
+use Rattle.rules.specs.Size.{sizeCauses, sized}
+use Rattle.rules.specs.Rate.{rateCauses, rated}
+use Rattle.rules.specs.Pledge.{pledgeCauses, pledged}
+use Rattle.rules.specs.Initial.{initialCauses, initialBook, initialTable}
+use Rattle.rules.specs.Pay.{payCauses, paidBook}
+use Rattle.rules.specs.Close.{maturedTrades, maturedSheets, maturedAmount, closeCauses, allArrived, applications, evening, closedTable, isShortClose, closedBook, closeAnswer}
+use Rattle.rules.specs.Step.{eventCauses, causes, act, step}
+use Rattle.rules.specs.Run.{Seen, run, lastBook, lastTable}
+use Rattle.rules.specs.Demand3.{seenFrom}
+
+-- ---- the journal of document 01
+
+-- days 1, 2, 3, 6 and 7 trade
+abbrev pub week : Calendar
+week = 206 ∷ []
+
+abbrev pub noTrades : List Trade
+noTrades = replicate 8 noTrade
+
+abbrev pub initial : (count contract price fallback due : ℕ) → Entry
+initial count contract price fallback due =
+    Known (Initial (record { contract = record { 0 = contract }; sheets = sheets count; price = ticks price; fallback = ticks fallback; due = due }))
+
+-- up to the second Open: cover of 180 sheets, no trade yet
+abbrev pub covers : List Entry
+covers =
+    Known (Size (sheets 1000))
+    ∷ Known (FundIn Own (fen 5000000))
+    ∷ Known (FundIn Client (fen 3000000))
+    ∷ Known (Rate 0 9000)
+    ∷ Known Open
+    ∷ Known (Pledge 0 200)
+    ∷ Known Pay
+    ∷ Known Close
+    ∷ Known Open
+    ∷ []
+
+abbrev pub _then_ : List Entry → List Entry → List Entry
+[] then more = more
+(entry ∷ entries) then more = entry ∷ (entries then more)
+
+infixr 20 _then_
+abbrev pub journal : List Entry
+journal =
+    covers
+    then (initial 100 7 3650 1000 4 ∷ Known Pay ∷ Known Close ∷ Known Open ∷ [])
+    then (initial 90 8 3650 1000 6 ∷ Known Pay ∷ Known Close ∷ [])
+
+-- a line of the listing: answer, headroom, O, own, client, guarantee cash
+abbrev Line : Type 0
+Line = ℕ × ℤ × ℕ × ℕ × ℕ × ℕ
+
+abbrev lineOf : Seen → Line
+lineOf seen = (seen .left .answer .number, headroom (seen .left .book) (seen .left .table), outstandingOf (seen .left .book) (seen .left .table), seen .left .book .cash .own .0, seen .left .book .cash .client .0, seen .left .book .vault .guarantee .effective .0 + seen .left .book .vault .guarantee .arriving .0)
+
+abbrev listing : List Line
+listing =
+    (0, pos 0, 0, 0, 0, 0)
+    ∷ (0, pos 0, 0, 5000000, 0, 0)
+    ∷ (0, pos 0, 0, 5000000, 3000000, 0)
+    ∷ (0, pos 0, 0, 5000000, 3000000, 0)
+    ∷ (0, pos 0, 0, 5000000, 3000000, 0)
+    ∷ (0, pos 0, 0, 5000000, 3000000, 0)
+    ∷ (0, pos 0, 0, 5000000, 3000000, 0)
+    ∷ (0, pos 180, 0, 5000000, 3000000, 0)
+    ∷ (0, pos 180, 0, 5000000, 3000000, 0)
+    ∷ (0, pos 80, 100, 5000000, 3000000, 0)
+    ∷ (0, pos 80, 100, 5000000, 3000000, 0)
+    ∷ (0, pos 80, 100, 5000000, 3000000, 0)
+    ∷ (0, pos 80, 100, 5000000, 3000000, 0)
+    ∷ (12, pos 80, 100, 5000000, 3000000, 0)
+    ∷ (0, pos 80, 100, 6000000, 2000000, 0)
+    ∷ (0, pos 80, 100, 6000000, 2000000, 0)
+    ∷ []
+
+pub journal-gives-its-listing : map lineOf (seenFrom week noTrades journal) ≡ listing
+unfolding freshBook run step causes eventCauses act firstOf fit every capacityFit securitiesFit allBelow cashFit allTrades sizeFit netsFit differ withdrawalsFit followed following paymentDay trades firstTrading atOrAfter nextAfter earliest sizeCauses sized fundInCauses fundedIn rateCauses rated openCauses openedBook openedTable statusAtOpen turnsTerminated pledgeCauses pledged payCauses paidBook closeCauses closedBook closedTable closeAnswer maturedTrades maturedSheets maturedAmount evening applications inTurn allArrived isShortClose total outstanding remaining value sumBelow kindValue headroom initialCauses initialBook initialTable onTable principal redemption income
+journal-gives-its-listing = refl
+
+-- ---- M1 to M10
+
+-- what the definitions give, and what the paper says
+pub record Case : Type 0 where
+  pub gives : ℕ
+  pub says : ℕ
+
+abbrev pub _gives_ : ℕ → ℕ → Case
+given gives said = record { gives = given; says = said }
+
+infix 10 _gives_
+-- the book and the table after a list, from a fresh book
+abbrev pub after : Calendar → List Entry → Book
+after calendar entries = lastBook calendar freshBook noTrades entries
+
+abbrev pub tableAfter : Calendar → List Entry → List Trade
+tableAfter calendar entries = lastTable calendar freshBook noTrades entries
+
+-- the answer to one more entry
+abbrev pub answerTo : Calendar → List Entry → Entry → Answer
+answerTo calendar entries entry = step calendar (after calendar entries) (tableAfter calendar entries) entry .answer
+
+abbrev pub clearedAfter : Calendar → List Entry → ℕ
+clearedAfter calendar entries = natAbs (after calendar entries .nets .cleared)
+
+abbrev pub statusNumber : Status → ℕ
+statusNumber Normal = 0
+statusNumber Suspended = 1
+statusNumber Terminated = 2
+
+abbrev pub statusAfter : Calendar → List Entry → ℕ
+statusAfter calendar entries = statusNumber (after calendar entries .standing .status)
+
+-- day 6, paid: contract 7 was due on day 4, a holiday
+abbrev untilDay6 : List Entry
+untilDay6 = journal then (Known Open ∷ Known Pay ∷ [])
+
+-- a trade begun on day 3, paid on day 6
+abbrev fromDay3 : List Entry
+fromDay3 = covers then (Known Pay ∷ Known Close ∷ Known Open ∷ initial 100 9 3650 1000 6 ∷ Known Pay ∷ Known Close ∷ Known Open ∷ Known Pay ∷ [])
+
+-- every day trades
+abbrev pub daily : Calendar
+daily = 255 ∷ []
+
+-- the clients hold nothing, so their payment of the initial amount fails
+abbrev pub failedOnce : List Entry
+failedOnce =
+    covers
+    then (Known (FundOut Client (fen 3000000)) ∷ initial 100 7 3650 1000 6 ∷ Known Pay ∷ Known Close ∷ Known Open ∷ Known Pay ∷ Known Close ∷ [])
+
+abbrev pub failedTwice : List Entry
+failedTwice = failedOnce then (Known Open ∷ Known Pay ∷ Known Close ∷ [])
+
+abbrev pub cases : List Case
+cases =
+    -- M1 to M3: a redemption amount is rounded once, half upward
+    (redemptionAmount (sheets 100) (ticks 3650) 4 .fen .0 gives 1000400)
+    ∷ (redemptionAmount (sheets 1) (ticks 1825) 1 .fen .0 gives 10001)
+    ∷ (redemptionAmount (sheets 1) (ticks 1824) 1 .fen .0 gives 10000)
+    -- M4 to M6: each kind's value is rounded down by itself
+    ∷ (kindWorth 0 199 0 9000 .sheets .0 gives 179)
+    ∷ (kindWorth 0 5 0 9000 .sheets .0 + kindWorth 1 5 0 9000 .sheets .0 gives 8)
+    ∷ (kindWorth 32 19999 0 0 .sheets .0 gives 1)
+    -- M7, M8: headroom 180, an initial trade of 180 is done, one of 190 is 12
+    ∷ (natAbs (headroom (after week covers) (tableAfter week covers)) gives 180)
+    ∷ (answerTo week covers (initial 180 7 3650 1000 4) .number gives 0)
+    ∷ (answerTo week covers (initial 190 7 3650 1000 4) .number gives 12)
+    -- M9: contract 7 matures at the Close of day 6 over 7 - 3 = 4 days
+    ∷ (answerTo week untilDay6 (Known Close) .matured .0 gives 100)
+    ∷ (clearedAfter week (untilDay6 then (Known Close ∷ [])) gives 1000400)
+    -- and a trade begun on day 3 and due on day 6 runs over 7 - 6 = 1 day, not 3
+    ∷ (clearedAfter week (fromDay3 then (Known Close ∷ [])) gives 1000100)
+    -- M10: failed runs 1 and 2 open suspended and terminated
+    ∷ (statusAfter daily (failedOnce then (Known Open ∷ [])) gives 1)
+    ∷ (statusAfter daily (failedTwice then (Known Open ∷ [])) gives 2)
+    -- on termination contract 7 is redeemed whole at its fallback price, 1,000 ticks over 3 days, into the net that waits
+    ∷ (clearedAfter daily (failedTwice then (Known Open ∷ [])) gives 82)
+    ∷ []
+
+pub worked-cases : map (λ (c : Case). c .gives) cases ≡ map (λ (c : Case). c .says) cases
+unfolding redemptionAmount kindWorth freshBook lastBook lastTable step causes eventCauses act firstOf fit every capacityFit securitiesFit allBelow cashFit allTrades sizeFit netsFit differ withdrawalsFit followed following paymentDay trades firstTrading atOrAfter nextAfter earliest sizeCauses sized fundInCauses fundedIn fundOutCauses fundedOut rateCauses rated openCauses openedBook openedTable statusAtOpen turnsTerminated pledgeCauses pledged payCauses paidBook closeCauses closedBook closedTable closeAnswer maturedTrades maturedSheets maturedAmount evening applications inTurn allArrived isShortClose total outstanding remaining value sumBelow kindValue headroom initialCauses initialBook initialTable onTable principal redemption income
+worked-cases = refl

@@ -1,0 +1,74 @@
+-- The evening's collateral and cash stay fit: what arrives becomes effective, and applications take only unfrozen units. (01, Twelve events, 12)
+-- Assumes nothing.
+use mathlib.Core.Path.{_≡_, refl}
+use mathlib.Core.Bool.{Bool, true, false, cond, _&&_}
+use mathlib.Core.List.{List}
+use Prim.Native.Nat.{ℕ, _+_, _≤_}
+use native.Mathlib.Omega.{arith}
+use borrow.Author.Tests.{leb-true}
+use lib.Dec.{leb}
+use lib.ListN.{getD, List·getD-map}
+use Rattle.money.specs.declared.units.Fen.{Fen}
+use Rattle.money.specs.Units.{fen}
+use Rattle.rules.specs.Book.{Security, Vault, Book, noSecurity}
+use Rattle.rules.specs.Trades.{Trade, outstanding}
+use Rattle.rules.specs.Vault.{securityAt, isCash, effectiveOf, frozenOf}
+use Rattle.rules.specs.Close.{Evening, maturedTrades, securityArrived, allArrived, fewer, fewerCash, takenOut, covered, mayGo, settleOne, settled, served, applications, evening}
+use Rattle.rules.proofs.FoldLaws.{by-test, both, in-turn-keeps}
+use Rattle.rules.proofs.FitParts.{SecurityFits, SecuritiesFit, CashFits}
+use Rattle.rules.proofs.KeepsFit.{kind-set-fits}
+
+-- the vault and own cash of an evening, beside the client cash that it leaves alone
+pub record EveningFits (client : Fen) (evening : Evening) : Type 0 where
+  pub securities : SecuritiesFit (evening .vault)
+  pub cash : CashFits (record { own = evening .own; client = client }) (evening .vault .guarantee)
+
+-- ---- (c)
+
+arrived-fits : (s : Security) → SecurityFits s → SecurityFits (securityArrived s)
+arrived-fits s f = record { units = omega (arith, f .units); rate = f .rate; free = omega (arith, f .free) }
+
+pub all-arrived-fit : (client own : Fen) (vault : Vault) (done dropped : ℕ) → SecuritiesFit vault → CashFits (record { own = own; client = client }) (vault .guarantee)
+    → EveningFits client (record { own = own; vault = allArrived vault; done = done; dropped = dropped })
+unfolding allArrived
+all-arrived-fit client own vault done dropped s c = record {
+  securities = λ kind h. rw (List·getD-map securityArrived (vault .securities) kind noSecurity) (arrived-fits (securityAt vault kind) (s kind h));
+  cash = record { sum = omega (arith, c .sum); free = omega (arith, c .free) };
+}
+
+-- ---- (d)
+
+-- units that are unfrozen leave the kind fit, and cash goes to own
+taken-fits : (client own : Fen) (vault : Vault) (kind units done dropped : ℕ) → SecuritiesFit vault → CashFits (record { own = own; client = client }) (vault .guarantee)
+    → frozenOf vault kind + units ≤ effectiveOf vault kind
+    → EveningFits client (record { own = fen (cond (isCash kind) (own .0 + units) (own .0)); vault = takenOut kind units vault; done = done; dropped = dropped })
+unfolding takenOut
+taken-fits client own vault kind units done dropped s c h = record {
+  securities =
+      kind-set-fits vault kind (fewer units (securityAt vault kind)) s
+      (λ b k. let enough = rw b at h in record { units = omega (arith, s kind k .units); rate = s kind k .rate; free = omega arith });
+  cash =
+      by-test (λ b. CashFits (record { own = fen (cond b (own .0 + units) (own .0)); client = client }) (cond b (fewerCash units (vault .guarantee)) (vault .guarantee))) (isCash kind)
+      (λ b. let enough = rw b at h in record { sum = omega (arith, c .sum); free = omega arith }) (λ _. c);
+}
+
+settled-fits : (client : Fen) (served : Bool) (outstanding kind units : ℕ) (e : Evening) → EveningFits client e → EveningFits client (settled served outstanding kind units e)
+unfolding mayGo
+settled-fits client served outstanding kind units e f = go (mayGo served outstanding kind units (e .vault)) refl
+  where
+    go : (goes : Bool) → mayGo served outstanding kind units (e .vault) ≡ goes → EveningFits client (settleOne goes kind units e)
+    go true m =
+        let enough = leb (frozenOf (e .vault) kind + units) (effectiveOf (e .vault) kind) in
+        let b = both (served && enough) (covered outstanding (takenOut kind units (e .vault))) m .0 in
+        taken-fits client (e .own) (e .vault) kind units (e .done + 1) (e .dropped) (f .securities) (f .cash)
+        (leb-true (frozenOf (e .vault) kind + units) (effectiveOf (e .vault) kind) (both served enough b .1))
+    go false m = record { securities = f .securities; cash = f .cash }
+
+pub evening-fits : (book : Book) (table : List Trade) → SecuritiesFit (book .vault) → CashFits (book .cash) (book .vault .guarantee) → EveningFits (book .cash .client) (evening book table)
+unfolding evening applications
+evening-fits book table s c =
+    in-turn-keeps (EveningFits (book .cash .client)) (book .withdrawals .count)
+    (λ i. settled (served (book .standing)) (outstanding (maturedTrades book table)) (getD (book .withdrawals .kinds) i 0) (getD (book .withdrawals .units) i 0))
+    (record { own = book .cash .own; vault = allArrived (book .vault); done = 0; dropped = 0 })
+    (λ i e f. settled-fits (book .cash .client) (served (book .standing)) (outstanding (maturedTrades book table)) (getD (book .withdrawals .kinds) i 0) (getD (book .withdrawals .units) i 0) e f)
+    (all-arrived-fit (book .cash .client) (book .cash .own) (book .vault) 0 0 s c)

@@ -1,0 +1,31 @@
+-- The theorems about the rules, and the laws of their definitions.
+
+-- laws of folds, of the table and of signed sums
+pub mod FoldLaws
+pub mod TradeLaws
+pub mod Signed
+-- the number given is the smallest that applies
+pub mod Answers
+-- a fit book stays fit
+pub mod FitParts
+pub mod TableFit
+pub mod DayFit
+pub mod KeepsFit
+pub mod EveningFit
+pub mod KeepsFitDay
+pub mod StaysFit
+-- an entry looks at the slots in use and the next one
+pub mod FrontLaws
+-- demand 3 over every list of entries
+pub mod Rows
+pub mod Accepted
+pub mod CashKept
+pub mod Agree
+pub mod Kept
+pub mod Demand3Proof
+-- the worked cases
+pub mod Cases
+pub mod Slips
+-- laws of the decoder
+pub mod Bytes
+pub mod Unused

@@ -1,0 +1,166 @@
+-- What the other laws would let slip, shown case by case: the slips of document 01, the runs and the status, withdrawals and the numbers around them.
+-- Assumes nothing.
+use mathlib.Core.Path.{_≡_, refl}
+use mathlib.Core.List.{List, [], _∷_, map}
+use Prim.Native.Nat.{ℕ, _+_}
+use lib.IntN.{natAbs}
+use lib.ListN.{replicate, drop, length}
+use Rattle.money.specs.Units.{fen, sheets, ticks}
+use Rattle.money.specs.Causes.{firstOf}
+use Rattle.money.specs.Days.{Calendar, trades, firstTrading, atOrAfter, nextAfter, earliest}
+use Rattle.money.specs.Money.{principal, income, redemption}
+use Rattle.money.specs.Collateral.{kindValue}
+use Rattle.rules.specs.Folds.{sumBelow, allBelow, inTurn, every}
+use Rattle.rules.specs.Book.{Status, Normal, Suspended, Terminated, FailedRun, NotFailed, FailedOnce, FailedTwice, ShortRun, NotShort, ShortOnce, ShortTwice, ShortThrice, freshBook}
+use Rattle.rules.specs.Days.{following, paymentDay, followed}
+use Rattle.rules.specs.Trades.{total, outstanding, onTable, tradeOf, differ, takeOff, remaining}
+use Rattle.rules.specs.Vault.{value, headroom}
+use Rattle.rules.specs.Fit.{capacityFit, securitiesFit, cashFit, allTrades, sizeFit, netsFit, withdrawalsFit, fit}
+use Rattle.rules.specs.Entry.{Own, Client, Open, FundIn, FundOut, Size, Rate, Pledge, Freeze, Withdraw, Early, Pay, Close, Entry, Known, Undecodable}
+use Rattle.rules.specs.Open.{openCauses, openedBook, openedTable, statusAtOpen, turnsTerminated}
+use Rattle.rules.specs.Funds.{fundInCauses, fundedIn, fundOutCauses, fundedOut}
+use Rattle.rules.specs.Size.{sizeCauses, sized}
+use Rattle.rules.specs.Rate.{rateCauses, rated}
+use Rattle.rules.specs.Pledge.{pledgeCauses, pledged}
+use Rattle.rules.specs.Freeze.{freezeCauses, frozen}
+use Rattle.rules.specs.Withdraw.{withdrawCauses, withdrawn, applied}
+use Rattle.rules.specs.Initial.{initialCauses, initialBook, initialTable}
+use Rattle.rules.specs.Early.{earlyCauses, earlyBook, earlyTable}
+use Rattle.rules.specs.Pay.{payCauses, paidBook, failedMore}
+use Rattle.rules.specs.Close.{shortMore, maturedTrades, maturedSheets, maturedAmount, closeCauses, allArrived, takenOut, covered, mayGo, applications, evening, closedTable, isShortClose, closedBook, closeAnswer}
+use Rattle.rules.specs.Step.{eventCauses, causes, act, step}
+use Rattle.rules.specs.Run.{Seen, run}
+use Rattle.rules.specs.Demand3.{seenFrom}
+use Rattle.rules.proofs.Cases.{_then_, noTrades, daily, initial, covers, failedOnce, statusNumber}
+
+-- ---- the status at Open, over every old status and both runs (arts. 69, 70)
+
+abbrev statuses : List Status
+statuses = Normal ∷ Suspended ∷ Terminated ∷ []
+
+abbrev allFailed : List FailedRun
+allFailed = NotFailed ∷ FailedOnce ∷ FailedTwice ∷ []
+
+abbrev allShort : List ShortRun
+allShort = NotShort ∷ ShortOnce ∷ ShortTwice ∷ ShortThrice ∷ []
+
+abbrev opensAs : Status → FailedRun → List ℕ
+opensAs status failed = map (λ (short : ShortRun). statusNumber (statusAtOpen status failed short)) allShort
+
+-- by old status, then failed run; a row is the short runs 0 to 3; 0 normal, 1 suspended, 2 terminated
+pub status-of-all-36 : map (λ (status : Status). map (opensAs status) allFailed) statuses ≡
+    (((0 ∷ 1 ∷ 1 ∷ 2 ∷ []) ∷ (1 ∷ 1 ∷ 1 ∷ 2 ∷ []) ∷ (2 ∷ 2 ∷ 2 ∷ 2 ∷ []) ∷ [])
+    ∷ ((0 ∷ 1 ∷ 1 ∷ 2 ∷ []) ∷ (1 ∷ 1 ∷ 1 ∷ 2 ∷ []) ∷ (2 ∷ 2 ∷ 2 ∷ 2 ∷ []) ∷ [])
+    ∷ ((2 ∷ 2 ∷ 2 ∷ 2 ∷ []) ∷ (2 ∷ 2 ∷ 2 ∷ 2 ∷ []) ∷ (2 ∷ 2 ∷ 2 ∷ 2 ∷ []) ∷ [])
+    ∷ [])
+unfolding statusAtOpen
+status-of-all-36 = refl
+
+-- "at most to 2", "at most to 3"
+pub runs-grow-to-their-ends : (map failedMore allFailed ≡ FailedOnce ∷ FailedTwice ∷ FailedTwice ∷ []) × (map shortMore allShort ≡ ShortOnce ∷ ShortTwice ∷ ShortThrice ∷ ShortThrice ∷ [])
+runs-grow-to-their-ends = (refl, refl)
+
+-- ---- journals, told by rows: the answer's number, applications done and dropped, the size of headroom, own cash
+
+abbrev rowOf : Seen → List ℕ
+rowOf seen =
+    seen .left .answer .number
+    ∷ seen .left .answer .done
+    ∷ seen .left .answer .dropped
+    ∷ natAbs (headroom (seen .left .book) (seen .left .table))
+    ∷ seen .left .book .cash .own .0
+    ∷ []
+
+-- the rows of some entries after others; who opens this opens every rule, so that it computes
+unfoldable pub rowsAfter : Calendar → (earlier entries : List Entry) → List (List ℕ)
+unfolding freshBook run step causes eventCauses act firstOf fit every capacityFit securitiesFit allBelow cashFit allTrades sizeFit netsFit differ withdrawalsFit followed following paymentDay trades firstTrading atOrAfter nextAfter earliest sizeCauses sized fundInCauses fundedIn fundOutCauses fundedOut rateCauses rated openCauses openedBook openedTable statusAtOpen turnsTerminated pledgeCauses pledged payCauses paidBook closeCauses closedBook closedTable closeAnswer maturedTrades maturedSheets maturedAmount evening applications inTurn allArrived isShortClose total outstanding remaining value sumBelow kindValue headroom initialCauses initialBook initialTable onTable principal redemption income freezeCauses frozen withdrawCauses withdrawn applied earlyCauses earlyBook earlyTable tradeOf takeOff takenOut covered mayGo
+rowsAfter calendar earlier entries = map rowOf (drop (length earlier) (seenFrom calendar noTrades (earlier then entries)))
+
+abbrev early : (contract : ℕ) → Entry
+early contract = Known (Early (record { 0 = contract }) (sheets 10) (ticks 1825))
+
+-- frozen units do not count; kind 32 has no rate to set, kind 33 is no kind; a refused Close carries 0 for all; what does not decode is 2
+pub units-and-kinds : rowsAfter daily covers (Known (Freeze 0 50) ∷ Known (Rate 32 9000) ∷ Known (Rate 31 9000) ∷ Known (Pledge 33 1) ∷ Known Close ∷ Undecodable ∷ []) ≡
+    (0 ∷ 0 ∷ 0 ∷ 135 ∷ 5000000 ∷ [])
+    ∷ (3 ∷ 0 ∷ 0 ∷ 135 ∷ 5000000 ∷ [])
+    ∷ (0 ∷ 0 ∷ 0 ∷ 135 ∷ 5000000 ∷ [])
+    ∷ (3 ∷ 0 ∷ 0 ∷ 135 ∷ 5000000 ∷ [])
+    ∷ (4 ∷ 0 ∷ 0 ∷ 135 ∷ 5000000 ∷ [])
+    ∷ (2 ∷ 0 ∷ 0 ∷ 135 ∷ 5000000 ∷ [])
+    ∷ []
+unfolding rowsAfter
+units-and-kinds = refl
+
+-- thirteen words in which every day trades: 365 days ahead and more
+abbrev year : Calendar
+year = replicate 13 4294967295
+
+abbrev dueIn : ℕ → Entry
+dueIn days = initial 10 7 3650 1000 (1 + days)
+
+-- 15 sheets are no multiple of 10, 10 are done; due 366 days ahead does not fit, nor does today, 365 does
+pub sheets-and-terms : rowsAfter year covers (initial 15 7 3650 1000 4 ∷ initial 10 8 3650 1000 4 ∷ dueIn 366 ∷ dueIn 0 ∷ dueIn 365 ∷ []) ≡
+    (7 ∷ 0 ∷ 0 ∷ 180 ∷ 5000000 ∷ [])
+    ∷ (0 ∷ 0 ∷ 0 ∷ 170 ∷ 5000000 ∷ [])
+    ∷ (9 ∷ 0 ∷ 0 ∷ 170 ∷ 5000000 ∷ [])
+    ∷ (9 ∷ 0 ∷ 0 ∷ 170 ∷ 5000000 ∷ [])
+    ∷ (0 ∷ 0 ∷ 0 ∷ 160 ∷ 5000000 ∷ [])
+    ∷ []
+unfolding rowsAfter
+sheets-and-terms = refl
+
+-- a suspended firm begins no trade, and may redeem early what is on its table
+pub suspended : rowsAfter daily failedOnce (Known Open ∷ initial 10 8 3650 1000 6 ∷ early 9 ∷ early 7 ∷ []) ≡
+    (0 ∷ 0 ∷ 0 ∷ 80 ∷ 5000000 ∷ [])
+    ∷ (6 ∷ 0 ∷ 0 ∷ 80 ∷ 5000000 ∷ [])
+    ∷ (10 ∷ 0 ∷ 0 ∷ 80 ∷ 5000000 ∷ [])
+    ∷ (0 ∷ 0 ∷ 0 ∷ 90 ∷ 5000000 ∷ [])
+    ∷ []
+unfolding rowsAfter
+suspended = refl
+
+-- 200 units of kind 0 and 10,000 fen of guarantee cash count from day 1 on
+abbrev withCash : List Entry
+withCash =
+    Known (Size (sheets 1000))
+    ∷ Known (FundIn Own (fen 5000000))
+    ∷ Known (FundIn Client (fen 3000000))
+    ∷ Known (Rate 0 9000)
+    ∷ Known Open
+    ∷ Known (Pledge 0 200)
+    ∷ Known (Pledge 32 10000)
+    ∷ Known Pay
+    ∷ Known Close
+    ∷ Known Open
+    ∷ []
+
+-- on the due day it is too late to redeem early
+pub due : rowsAfter daily (withCash then (initial 100 7 3650 1000 2 ∷ Known Pay ∷ Known Close ∷ Known Open ∷ [])) (early 7 ∷ []) ≡
+    (9 ∷ 0 ∷ 0 ∷ 81 ∷ 4990000 ∷ [])
+    ∷ []
+unfolding rowsAfter
+due = refl
+
+-- 100 sheets stand, and three applications: the second asks for more than cover allows
+abbrev applied3 : List Entry
+applied3 = withCash then (initial 100 7 3650 1000 6 ∷ Known (Withdraw 0 50) ∷ Known (Withdraw 0 100) ∷ Known (Withdraw 32 10000) ∷ Known Pay ∷ [])
+
+-- withdrawals: done, dropped for want of cover, done; cash goes to own
+pub withdrawals : rowsAfter daily applied3 (Known Close ∷ []) ≡
+    (0 ∷ 2 ∷ 1 ∷ 35 ∷ 5000000 ∷ [])
+    ∷ []
+unfolding rowsAfter
+withdrawals = refl
+
+-- an application on a day whose payment failed
+abbrev appliedUnpaid : List Entry
+appliedUnpaid =
+    withCash
+    then (Known (FundOut Client (fen 3000000)) ∷ initial 100 7 3650 1000 6 ∷ Known Pay ∷ Known Close ∷ Known Open ∷ Known (Withdraw 0 50) ∷ Known Pay ∷ [])
+
+-- on such a day every application is dropped
+pub unpaid : rowsAfter daily appliedUnpaid (Known Close ∷ []) ≡
+    (0 ∷ 0 ∷ 1 ∷ 81 ∷ 4990000 ∷ [])
+    ∷ []
+unfolding rowsAfter
+unpaid = refl

@@ -1,0 +1,168 @@
+-- "12 Close, in Paid, or in Trading if terminated": its parts (a) to (f). (arts. 52, 53, 60, 61)
+-- Assumes nothing.
+use Prim.Native.Nat.{ℕ, _+_, _-_}
+use mathlib.Core.Bool.{Bool, true, false, cond, not, _&&_, _||_}
+use mathlib.Core.List.{List, [], _∷_, map}
+use lib.Dec.{ltb, leb}
+use lib.IntN.{ℤ, pos, natAbs, _+ℤ_}
+use lib.ListN.{length, getD, set}
+use lib.Signed.{ltZ}
+use Rattle.money.specs.Units.{fen, sheets}
+use Rattle.money.specs.declared.units.Fen.{Fen}
+use Rattle.money.specs.Causes.{Cause, _⇒_}
+use Rattle.money.specs.Days.{Calendar}
+use Rattle.rules.specs.Folds.{inTurn}
+use Rattle.rules.specs.Limits.{netLimit}
+use Rattle.rules.specs.Book.{Security, Guarantee, Vault, Closed, ShortRun, NotShort, ShortOnce, ShortTwice, ShortThrice, Standing, Withdrawals, Book, Answer, isPaid, isTrading, isTerminated, hasFailed, noApplications}
+use Rattle.rules.specs.Days.{dayNumber, paymentDay}
+use Rattle.rules.specs.Trades.{Trade, inUse, total, outstanding, maturing, maturityAmount, matured, remaining, packed}
+use Rattle.rules.specs.Vault.{securityAt, isCash, effectiveOf, frozenOf, value, headroomOf}
+
+abbrev pub mayClose : Standing → Bool
+mayClose standing = isPaid (standing .phase) || isTrading (standing .phase) && isTerminated (standing .status)
+
+-- ---- (a) "trades due today or earlier are redeemed at their price"
+
+abbrev pub today : Book → ℕ
+today book = dayNumber (book .standing .day)
+
+unfoldable pub maturedTrades : Book → List Trade → List Trade
+maturedTrades book table = map (matured (today book)) (inUse (book .trades) table)
+
+unfoldable pub maturedSheets : Book → List Trade → ℕ
+maturedSheets book table = total (maturing (today book)) (inUse (book .trades) table)
+
+unfoldable pub maturedAmount : Calendar → Book → List Trade → ℕ
+maturedAmount calendar book table =
+    total (maturityAmount (today book) (paymentDay calendar (book .standing .day))) (inUse (book .trades) table)
+
+-- ---- (b) "today's net joins the cleared net and becomes 0"
+
+abbrev pub netWithMatured : Calendar → Book → List Trade → ℤ
+netWithMatured calendar book table = book .nets .today +ℤ pos (maturedAmount calendar book table)
+
+abbrev pub clearedAtClose : Calendar → Book → List Trade → ℤ
+clearedAtClose calendar book table = book .nets .cleared +ℤ netWithMatured calendar book table
+
+-- "For Close, 14 looks at today's net as (b) begins and at the cleared net after it"
+unfoldable pub closeCauses : Calendar → Book → List Trade → List Cause
+closeCauses calendar book table =
+    (not (mayClose (book .standing)) ⇒ 4)
+    ∷ (ltb netLimit (natAbs (netWithMatured calendar book table)) || ltb netLimit (natAbs (clearedAtClose calendar book table)) ⇒ 14)
+    ∷ []
+
+-- ---- (c) "arriving becomes effective"
+
+abbrev pub securityArrived : Security → Security
+securityArrived security = record { effective = security .effective + security .arriving; arriving = 0; frozen = security .frozen; rate = security .rate }
+
+abbrev pub guaranteeArrived : Guarantee → Guarantee
+guaranteeArrived guarantee = record { effective = fen (guarantee .effective .0 + guarantee .arriving .0); arriving = fen 0; frozen = guarantee .frozen }
+
+unfoldable pub allArrived : Vault → Vault
+allArrived vault = record { guarantee = guaranteeArrived (vault .guarantee); securities = map securityArrived (vault .securities) }
+
+-- ---- (d) "applications in order"
+
+-- own cash and the vault as the evening goes on, and the applications done and dropped so far
+pub record Evening : Type 0 where
+  pub own : Fen
+  pub vault : Vault
+  pub done : ℕ
+  pub dropped : ℕ
+
+abbrev pub fewer : ℕ → Security → Security
+fewer units security = record { effective = security .effective - units; arriving = security .arriving; frozen = security .frozen; rate = security .rate }
+
+abbrev pub fewerCash : ℕ → Guarantee → Guarantee
+fewerCash units guarantee = record { effective = fen (guarantee .effective .0 - units); arriving = guarantee .arriving; frozen = guarantee .frozen }
+
+-- the vault without some units of a kind
+unfoldable pub takenOut : (kind units : ℕ) → Vault → Vault
+takenOut kind units vault = record {
+  guarantee = cond (isCash kind) (fewerCash units (vault .guarantee)) (vault .guarantee);
+  securities = cond (isCash kind) (vault .securities) (set (vault .securities) kind (fewer units (securityAt vault kind)));
+}
+
+-- "V afterwards is at least O"
+unfoldable pub covered : (outstanding : ℕ) → Vault → Bool
+covered outstanding vault = leb outstanding (value vault)
+
+-- "done if the phase was Paid with no failed run, unfrozen units suffice, and V afterwards is at least O"
+unfoldable pub mayGo : (served : Bool) → (outstanding kind units : ℕ) → Vault → Bool
+mayGo served outstanding kind units vault =
+    served && leb (frozenOf vault kind + units) (effectiveOf vault kind) && covered outstanding (takenOut kind units vault)
+
+-- "cash goes to own"
+abbrev pub doneOne : (kind units : ℕ) → Evening → Evening
+doneOne kind units evening = record {
+  own = fen (cond (isCash kind) (evening .own .0 + units) (evening .own .0));
+  vault = takenOut kind units (evening .vault);
+  done = evening .done + 1;
+  dropped = evening .dropped;
+}
+
+-- "else dropped"
+abbrev pub droppedOne : Evening → Evening
+droppedOne evening = record { own = evening .own; vault = evening .vault; done = evening .done; dropped = evening .dropped + 1 }
+
+abbrev pub settleOne : (goes : Bool) → (kind units : ℕ) → Evening → Evening
+settleOne true kind units evening = doneOne kind units evening
+settleOne false kind units evening = droppedOne evening
+
+abbrev pub settled : (served : Bool) → (outstanding kind units : ℕ) → Evening → Evening
+settled served outstanding kind units evening = settleOne (mayGo served outstanding kind units (evening .vault)) kind units evening
+
+-- "the phase was Paid with no failed run"
+abbrev pub served : Standing → Bool
+served standing = isPaid (standing .phase) && not (hasFailed (standing .failed))
+
+unfoldable pub applications : (served : Bool) → (outstanding : ℕ) → Withdrawals → Evening → Evening
+applications served outstanding withdrawals evening =
+    inTurn (withdrawals .count) (λ i. settled served outstanding (getD (withdrawals .kinds) i 0) (getD (withdrawals .units) i 0)) evening
+
+-- the evening's end: after (a) for O and after (c) for the vault
+unfoldable pub evening : Book → List Trade → Evening
+evening book table =
+    applications (served (book .standing)) (outstanding (maturedTrades book table)) (book .withdrawals)
+    (record { own = book .cash .own; vault = allArrived (book .vault); done = 0; dropped = 0 })
+
+-- ---- (e) "trades with nothing left leave the table, order kept"
+
+unfoldable pub closedTable : Book → List Trade → List Trade
+closedTable book table = packed (book .trades) (remaining (maturedTrades book table)) table
+
+-- ---- (f) "headroom below 0 lengthens the short run, at most to 3, else sets it to 0"
+
+abbrev pub shortMore : ShortRun → ShortRun
+shortMore NotShort = ShortOnce
+shortMore ShortOnce = ShortTwice
+shortMore ShortTwice = ShortThrice
+shortMore ShortThrice = ShortThrice
+
+unfoldable pub isShortClose : Book → List Trade → Bool
+isShortClose book table =
+    ltZ (headroomOf (book .size .0) (value (evening book table .vault)) (outstanding (maturedTrades book table))) (pos 0)
+
+abbrev pub shortAtClose : Bool → ShortRun → ShortRun
+shortAtClose true short = shortMore short
+shortAtClose false short = NotShort
+
+-- "Then Closed."
+abbrev pub closedStanding : ShortRun → Standing → Standing
+closedStanding short standing = record { day = standing .day; phase = Closed; status = standing .status; failed = standing .failed; short = short }
+
+unfoldable pub closedBook : Calendar → Book → List Trade → Book
+closedBook calendar book table = record {
+  nets = record { today = pos 0; cleared = clearedAtClose calendar book table };
+  cash = record { own = evening book table .own; client = book .cash .client };
+  vault = evening book table .vault;
+  size = book .size;
+  standing = closedStanding (shortAtClose (isShortClose book table) (book .standing .short)) (book .standing);
+  withdrawals = noApplications;
+  trades = length (remaining (maturedTrades book table));
+}
+
+-- "The answer carries sheets matured, applications done and dropped"
+unfoldable pub closeAnswer : Book → List Trade → Answer
+closeAnswer book table = record { number = 0; matured = sheets (maturedSheets book table); done = evening book table .done; dropped = evening book table .dropped }

@@ -1,0 +1,22 @@
+-- Headroom and O of any book, as a call answers them. (01, Collateral and headroom; Turned-down events)
+-- Assumes nothing.
+use mathlib.Core.Bool.{cond}
+use mathlib.Core.List.{List}
+use lib.IntN.{pos}
+use Rattle.money.specs.Units.{sheets}
+use Rattle.money.specs.Days.{Calendar}
+use Rattle.rules.specs.Book.{Book}
+use Rattle.rules.specs.declared.answer.Cover.{Cover}
+use Rattle.rules.specs.Trades.{Trade}
+use Rattle.rules.specs.Vault.{headroom, outstandingOf}
+use Rattle.rules.specs.Step.{unfit}
+
+abbrev pub counted : Book → List Trade → Cover
+counted book table = record { number = 0; headroom = headroom book table; outstanding = sheets (outstandingOf book table) }
+
+-- "book not fit, or calendar above 1,200 words" is 1, beside results of 0
+abbrev pub uncounted : Cover
+uncounted = record { number = 1; headroom = pos 0; outstanding = sheets 0 }
+
+unfoldable pub coverOf : Calendar → Book → List Trade → Cover
+coverOf calendar book table = cond (unfit calendar book table) uncounted (counted book table)

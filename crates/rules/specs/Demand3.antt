@@ -1,0 +1,95 @@
+-- Demand 3: a single claim about every list of entries put to a fresh book. (00, demand 3; 01, Twelve events, "Demand 3")
+-- Assumes nothing.
+use mathlib.Core.Path.{_≡_}
+use mathlib.Core.Bool.{Bool, cond, _&&_}
+use mathlib.Core.List.{List, [], _∷_, map}
+use mathlib.Core.Option.{none, some}
+use Prim.Native.Nat.{ℕ, _≤_, _<_}
+use lib.Dec.{T, eqb}
+use lib.IntN.{ℤ, pos, natAbs, _+ℤ_, _-ℤ_}
+use lib.Signed.{_≤ℤ_}
+use Rattle.money.specs.Days.{Calendar}
+use Rattle.rules.specs.Book.{Cash, freshBook}
+use Rattle.rules.specs.Trades.{Trade}
+use Rattle.rules.specs.Vault.{outstandingOf, headroom}
+use Rattle.rules.specs.Fit.{allCash}
+use Rattle.rules.specs.Entry.{Entry, codeOf}
+use Rattle.rules.specs.Pay.{payerHolds}
+use Rattle.rules.specs.Step.{accepted}
+use Rattle.rules.specs.Run.{Seen, run, lastBook, lastTable}
+use Rattle.rules.specs.Tally.{Tally, Told, blank, tell, tallyOf}
+
+-- ---- what the tally is told: the entry, its answer's number and, at an Open, the status
+
+abbrev pub isOpen : Entry → Bool
+isOpen entry = eqb (codeOf entry) 1
+
+abbrev pub isInitial : Entry → Bool
+isInitial entry = eqb (codeOf entry) 9
+
+abbrev pub isPay : Entry → Bool
+isPay entry = eqb (codeOf entry) 11
+
+abbrev pub number : Seen → ℕ
+number seen = seen .left .answer .number
+
+abbrev pub told : Seen → Told
+told seen = record { entry = seen .entry; number = number seen; status = cond (isOpen (seen .entry)) (some (seen .left .book .standing .status)) none }
+
+-- ---- the claims about one entry
+
+-- "After each accepted Initial headroom was 0 or above."
+abbrev pub InitialCovered : Seen → Type 0
+InitialCovered seen = T (isInitial (seen .entry)) → T (accepted (number seen)) → pos 0 ≤ℤ headroom (seen .left .book) (seen .left .table)
+
+-- "Exactly when the payer held at least its size, the answer was 0, own fell by the net and client rose by it; otherwise 99, and neither changed."
+pub record WholeOrNothing (net : ℤ) (before after : Cash) (number : ℕ) : Type 0 where
+  pub whole : natAbs net ≤ payerHolds net before → (number ≡ 0) × (pos (after .own .0) ≡ pos (before .own .0) -ℤ net) × (pos (after .client .0) ≡ pos (before .client .0) +ℤ net)
+  pub nothing : payerHolds net before < natAbs net → (number ≡ 99) × (after .own .0 ≡ before .own .0) × (after .client .0 ≡ before .client .0)
+
+-- "The net due at an accepted Pay is cleared less paid before it"
+abbrev pub PaymentRight : Tally → Seen → Type 0
+PaymentRight before seen =
+    T (isPay (seen .entry)) → T (accepted (number seen)) → WholeOrNothing (before .cleared -ℤ before .paid) (seen .book .cash) (seen .left .book .cash) (number seen)
+
+-- ---- the claims about the list
+
+abbrev pub All : (Seen → Type 0) → List Seen → Type 0
+All claim [] = Unit {0}
+All claim (seen ∷ more) = claim seen × All claim more
+
+-- each with the tally of what came before it
+abbrev pub AllBeside : Calendar → (Tally → Seen → Type 0) → Tally → List Seen → Type 0
+AllBeside calendar claim t [] = Unit {0}
+AllBeside calendar claim t (seen ∷ more) = claim t seen × AllBeside calendar claim (tell calendar t (told seen)) more
+
+-- "The money moved, own before less own after over accepted Pays"
+abbrev pub movedAt : Seen → ℤ
+movedAt seen = cond (isPay (seen .entry) && accepted (number seen)) (pos (seen .book .cash .own .0) -ℤ pos (seen .left .book .cash .own .0)) (pos 0)
+
+unfoldable pub moneyMoved : List Seen → ℤ
+moneyMoved [] = pos 0
+moneyMoved (seen ∷ more) = movedAt seen +ℤ moneyMoved more
+
+-- a list put to a fresh book over a lent table, and the tally beside it
+abbrev pub seenFrom : Calendar → List Trade → List Entry → List Seen
+seenFrom calendar table entries = run calendar freshBook table entries
+
+abbrev pub tallyBeside : Calendar → List Trade → List Entry → Tally
+tallyBeside calendar table entries = tallyOf calendar blank (map told (seenFrom calendar table entries))
+
+abbrev pub cashAfter : Calendar → List Trade → List Entry → ℕ
+cashAfter calendar table entries = allCash (lastBook calendar freshBook table entries .cash) (lastBook calendar freshBook table entries .vault .guarantee)
+
+abbrev pub outstandingAfter : Calendar → List Trade → List Entry → ℕ
+outstandingAfter calendar table entries = outstandingOf (lastBook calendar freshBook table entries) (lastTable calendar freshBook table entries)
+
+pub record Demand3 (calendar : Calendar) (table : List Trade) (entries : List Entry) : Type 0 where
+  -- "the three kinds of cash, arriving included, together equal funds"
+  pub cash-is-funds : pos (cashAfter calendar table entries) ≡ tallyBeside calendar table entries .funds
+  -- "and O equals begun less redeemed"
+  pub outstanding-is-begun-less-redeemed : pos (outstandingAfter calendar table entries) ≡ pos (tallyBeside calendar table entries .begun) -ℤ pos (tallyBeside calendar table entries .redeemed)
+  pub initials-covered : All InitialCovered (seenFrom calendar table entries)
+  pub payments-whole-or-nothing : AllBeside calendar PaymentRight blank (seenFrom calendar table entries)
+  -- "sums to paid"
+  pub money-moved-is-paid : moneyMoved (seenFrom calendar table entries) ≡ tallyBeside calendar table entries .paid

@@ -1,0 +1,52 @@
+-- "10 Early, in Trading: takes sheets off a trade at the price given; the amount joins today's net (art. 29)."
+-- Assumes nothing.
+use Prim.Native.Nat.{ℕ}
+use mathlib.Core.Bool.{Bool, not, _&&_}
+use mathlib.Core.List.{List, [], _∷_}
+use lib.Dec.{ltb, leb, eqb}
+use lib.IntN.{ℤ, pos, natAbs, _+ℤ_}
+use Rattle.money.specs.declared.units.Sheets.{Sheets}
+use Rattle.money.specs.declared.units.Ticks.{Ticks}
+use Rattle.money.specs.Limits.{priceLimit}
+use Rattle.money.specs.Causes.{Cause, _⇒_}
+use Rattle.money.specs.Days.{Calendar}
+use Rattle.rules.specs.Limits.{netLimit}
+use Rattle.rules.specs.Book.{Book, isTrading, isTerminated, withNets}
+use Rattle.rules.specs.Days.{dayNumber, paymentDay}
+use Rattle.rules.specs.Trades.{Contract, Trade, inUse, onTable, tradeOf, takeOff, redeemed, over}
+
+-- the trade of the contract given
+abbrev pub named : Book → List Trade → Contract → Trade
+named book table contract = tradeOf contract (inUse (book .trades) table)
+
+-- its amount, and today's net with that amount
+abbrev pub earlyAmount : Calendar → Book → List Trade → Contract → Sheets → Ticks → ℕ
+earlyAmount calendar book table contract count price =
+    redeemed (paymentDay calendar (book .standing .day)) (count .0) price (named book table contract)
+
+abbrev pub netWithEarly : Calendar → Book → List Trade → Contract → Sheets → Ticks → ℤ
+netWithEarly calendar book table contract count price = book .nets .today +ℤ pos (earlyAmount calendar book table contract count price)
+
+-- "today at or past due", of a trade that is on the table
+abbrev pub pastDue : Book → List Trade → Contract → Bool
+pastDue book table contract =
+    onTable contract (inUse (book .trades) table) && leb (named book table contract .due) (dayNumber (book .standing .day))
+
+unfoldable pub earlyCauses : Calendar → Book → List Trade → Contract → Sheets → Ticks → List Cause
+earlyCauses calendar book table contract count price =
+    (not (isTrading (book .standing .phase)) ⇒ 4)
+    ∷ (isTerminated (book .standing .status) ⇒ 5)
+    ∷ (eqb (count .0) 0 ⇒ 7)
+    ∷ (ltb priceLimit (price .0) ⇒ 8)
+    ∷ (pastDue book table contract ⇒ 9)
+    ∷ (not (onTable contract (inUse (book .trades) table)) ⇒ 10)
+    ∷ (ltb (named book table contract .sheets .0) (count .0) ⇒ 13)
+    ∷ (ltb netLimit (natAbs (netWithEarly calendar book table contract count price)) ⇒ 14)
+    ∷ []
+
+unfoldable pub earlyBook : Calendar → Book → List Trade → Contract → Sheets → Ticks → Book
+earlyBook calendar book table contract count price =
+    withNets (record { today = netWithEarly calendar book table contract count price; cleared = book .nets .cleared }) book
+
+unfoldable pub earlyTable : Book → List Trade → Contract → Sheets → List Trade
+earlyTable book table contract count = over (book .trades) (takeOff contract (count .0) (inUse (book .trades) table)) table

@@ -1,0 +1,65 @@
+-- "1 Open, in Closed: goes to the next trading day, at first the earliest." (arts. 69, 70, 72)
+-- Assumes nothing.
+use mathlib.Core.Bool.{Bool, true, false, cond, not, _&&_, _||_}
+use mathlib.Core.List.{List, [], _∷_, map}
+use lib.Dec.{ltb}
+use lib.IntN.{ℤ, pos, natAbs, _+ℤ_}
+use Rattle.money.specs.Causes.{Cause, _⇒_}
+use Rattle.money.specs.Days.{Calendar}
+use Rattle.rules.specs.Limits.{netLimit}
+use Rattle.rules.specs.Book.{Day, Trading, Status, Normal, Suspended, Terminated, FailedRun, NotFailed, FailedOnce, FailedTwice, ShortRun, NotShort, ShortOnce, ShortTwice, ShortThrice, Standing, Book, isClosed, isTerminated, hasFailed, isShort, withNets, withStanding}
+use Rattle.rules.specs.Days.{following, toDay, paymentDay, followed}
+use Rattle.rules.specs.Trades.{Trade, inUse, total, fallbackAmount, emptied, over}
+
+abbrev pub failedTwice : FailedRun → Bool
+failedTwice NotFailed = false
+failedTwice FailedOnce = false
+failedTwice FailedTwice = true
+
+abbrev pub shortThrice : ShortRun → Bool
+shortThrice NotShort = false
+shortThrice ShortOnce = false
+shortThrice ShortTwice = false
+shortThrice ShortThrice = true
+
+-- "Terminated if already so, or 2 failed payments, or 3 short closes; else suspended if either run is above 0; else normal (arts. 69, 70)."
+unfoldable pub statusAtOpen : Status → FailedRun → ShortRun → Status
+statusAtOpen status failed short =
+    cond (isTerminated status || failedTwice failed || shortThrice short) Terminated
+    (cond (hasFailed failed || isShort short) Suspended Normal)
+
+abbrev pub nextStatus : Standing → Status
+nextStatus standing = statusAtOpen (standing .status) (standing .failed) (standing .short)
+
+-- "On turning terminated"
+unfoldable pub turnsTerminated : Standing → Bool
+turnsTerminated standing = not (isTerminated (standing .status)) && isTerminated (nextStatus standing)
+
+-- the day to be opened
+abbrev pub nextDay : Calendar → Standing → Day
+nextDay calendar standing = toDay (following calendar (standing .day))
+
+-- "every trade is redeemed whole at its fallback price, the one due that day included, into the cleared net (art. 72)"
+abbrev pub netWithFallbacks : Calendar → Book → List Trade → ℤ
+netWithFallbacks calendar book table =
+    book .nets .cleared +ℤ pos (total (fallbackAmount (paymentDay calendar (nextDay calendar (book .standing)))) (inUse (book .trades) table))
+
+-- "for Open, 14 doesn't apply where 16 does"
+unfoldable pub openCauses : Calendar → Book → List Trade → List Cause
+openCauses calendar book table =
+    (not (isClosed (book .standing .phase)) ⇒ 4)
+    ∷ (followed calendar (following calendar (book .standing .day)) && turnsTerminated (book .standing) && ltb netLimit (natAbs (netWithFallbacks calendar book table)) ⇒ 14)
+    ∷ (not (followed calendar (following calendar (book .standing .day))) ⇒ 16)
+    ∷ []
+
+-- "Then Trading."
+abbrev pub openedStanding : Calendar → Standing → Standing
+openedStanding calendar standing = record { day = nextDay calendar standing; phase = Trading; status = nextStatus standing; failed = standing .failed; short = standing .short }
+
+unfoldable pub openedBook : Calendar → Book → List Trade → Book
+openedBook calendar book table =
+    withStanding (openedStanding calendar (book .standing))
+    (withNets (record { today = book .nets .today; cleared = cond (turnsTerminated (book .standing)) (netWithFallbacks calendar book table) (book .nets .cleared) }) book)
+
+unfoldable pub openedTable : Book → List Trade → List Trade
+openedTable book table = cond (turnsTerminated (book .standing)) (over (book .trades) (map emptied (inUse (book .trades) table)) table) table

@@ -1,0 +1,50 @@
+-- "11 Pay, in Trading: the whole cleared net N moves, own to client if above 0, the other way if below." (art. 62)
+-- Assumes nothing.
+use Prim.Native.Nat.{ℕ, suc, _+_, _-_}
+use mathlib.Core.Bool.{Bool, true, false, not}
+use mathlib.Core.List.{List, [], _∷_}
+use lib.Dec.{ltb}
+use lib.IntN.{ℤ, pos, negsuc, natAbs}
+use Rattle.money.specs.Units.{fen}
+use Rattle.money.specs.Causes.{Cause, _⇒_}
+use Rattle.rules.specs.Book.{Cash, Paid, FailedRun, NotFailed, FailedOnce, FailedTwice, Standing, Book, isTrading, isTerminated, withNets, withCash, withStanding}
+
+-- what the payer of a net holds
+abbrev pub payerHolds : ℤ → Cash → ℕ
+payerHolds (pos net) cash = cash .own .0
+payerHolds (negsuc net) cash = cash .client .0
+
+abbrev pub moved : ℤ → Cash → Cash
+moved (pos net) cash = record { own = fen (cash .own .0 - net); client = fen (cash .client .0 + net) }
+moved (negsuc net) cash = record { own = fen (cash .own .0 + suc net); client = fen (cash .client .0 - suc net) }
+
+-- "The payer holding less than |N|: nothing moves, answer 99"
+abbrev pub fails : Book → Bool
+fails book = ltb (payerHolds (book .nets .cleared) (book .cash)) (natAbs (book .nets .cleared))
+
+-- "the failed run grows, at most to 2"
+abbrev pub failedMore : FailedRun → FailedRun
+failedMore NotFailed = FailedOnce
+failedMore FailedOnce = FailedTwice
+failedMore FailedTwice = FailedTwice
+
+unfoldable pub payCauses : Book → List Cause
+payCauses book =
+    (not (isTrading (book .standing .phase)) ⇒ 4)
+    ∷ (isTerminated (book .standing .status) ⇒ 5)
+    ∷ []
+
+-- "Paid either way", with the failed run as it then is
+abbrev pub paidStanding : FailedRun → Standing → Standing
+paidStanding failed standing = record { day = standing .day; phase = Paid; status = standing .status; failed = failed; short = standing .short }
+
+-- "N waits for the next Pay with whatever is cleared since"; "Otherwise N and that run become 0."
+unfoldable pub paidBook : Bool → Book → Book
+paidBook true book = withStanding (paidStanding (failedMore (book .standing .failed)) (book .standing)) book
+paidBook false book =
+    withStanding (paidStanding NotFailed (book .standing))
+    (withNets (record { today = book .nets .today; cleared = pos 0 }) (withCash (moved (book .nets .cleared) (book .cash)) book))
+
+abbrev pub payNumber : Bool → ℕ
+payNumber true = 99
+payNumber false = 0

@@ -1,0 +1,33 @@
+-- A list of entries put to a book: each gets the book and the table that the last one left. (00, demand 3)
+-- Assumes nothing.
+use mathlib.Core.List.{List, [], _∷_}
+use Rattle.money.specs.Days.{Calendar}
+use Rattle.rules.specs.Book.{Book}
+use Rattle.rules.specs.Trades.{Trade}
+use Rattle.rules.specs.Entry.{Entry}
+use Rattle.rules.specs.Step.{Outcome, step}
+
+-- an entry with the book and the table that it met, and what it left
+pub record Seen : Type 0 where
+  pub book : Book
+  pub table : List Trade
+  pub entry : Entry
+  pub left : Outcome
+
+abbrev pub see : Calendar → Book → List Trade → Entry → Seen
+see calendar book table entry = record { book = book; table = table; entry = entry; left = step calendar book table entry }
+
+unfoldable pub run : Calendar → Book → List Trade → List Entry → List Seen
+run calendar book table [] = []
+run calendar book table (entry ∷ entries) =
+    see calendar book table entry
+    ∷ run calendar (step calendar book table entry .book) (step calendar book table entry .table) entries
+
+-- the book and the table after the list
+unfoldable pub lastBook : Calendar → Book → List Trade → List Entry → Book
+lastBook calendar book table [] = book
+lastBook calendar book table (entry ∷ entries) = lastBook calendar (step calendar book table entry .book) (step calendar book table entry .table) entries
+
+unfoldable pub lastTable : Calendar → Book → List Trade → List Entry → List Trade
+lastTable calendar book table [] = table
+lastTable calendar book table (entry ∷ entries) = lastTable calendar (step calendar book table entry .book) (step calendar book table entry .table) entries

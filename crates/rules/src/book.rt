@@ -1,0 +1,140 @@
+// The book and its parts, by value. Its trades stand in a table that the caller lends.
+ghost use mathlib.Core.Path.{_≡_};
+ghost use Rattle.rules.specs.Book.{freshBook};
+use money::units::Fen;
+use money::units::Sheets;
+
+// Today's net and the cleared net in fen: redemptions plus, initial trades minus.
+pub struct Nets {
+    pub today: i64,
+    pub cleared: i64,
+}
+
+// The two settlement accounts.
+pub struct Cash {
+    pub own: Fen,
+    pub client: Fen,
+}
+
+// A security's units, and its rate in ten-thousandths of a sheet a unit.
+pub struct Security {
+    pub effective: u64,
+    pub arriving: u64,
+    pub frozen: u64,
+    pub rate: u64,
+}
+
+// Guarantee cash, kind 32, whose rate number is fixed and not kept.
+pub struct Guarantee {
+    pub effective: Fen,
+    pub arriving: Fen,
+    pub frozen: Fen,
+}
+
+// All that is pledged: kinds 0 to 31 and kind 32.
+pub struct Vault {
+    pub guarantee: Guarantee,
+    pub securities: [Security; 32],
+}
+
+pub enum Day {
+    Never,
+    On(u32),
+}
+
+pub enum Phase {
+    Closed,
+    Trading,
+    Paid,
+}
+
+pub enum Status {
+    Normal,
+    Suspended,
+    Terminated,
+}
+
+// The run of failed payments, 0 to 2.
+pub enum FailedRun {
+    NotFailed,
+    FailedOnce,
+    FailedTwice,
+}
+
+// The run of short closes, 0 to 3.
+pub enum ShortRun {
+    NotShort,
+    ShortOnce,
+    ShortTwice,
+    ShortThrice,
+}
+
+// Where the firm stands: its day, phase and status, and its two runs.
+pub struct Standing {
+    pub day: Day,
+    pub phase: Phase,
+    pub status: Status,
+    pub failed: FailedRun,
+    pub short: ShortRun,
+}
+
+// The applications that stand for the evening: the first `count` of both arrays.
+pub struct Withdrawals {
+    pub kinds: [u8; 128],
+    pub units: [u64; 128],
+    pub count: usize,
+}
+
+// `size` is S, the declared size; `trades` is how many slots of the lent table are in use.
+pub struct Book {
+    pub nets: Nets,
+    pub cash: Cash,
+    pub vault: Vault,
+    pub size: Sheets,
+    pub standing: Standing,
+    pub withdrawals: Withdrawals,
+    pub trades: usize,
+}
+
+// A fresh book: Closed and normal, all numbers 0, table and applications empty.
+pub fn fresh() -> Book
+    ensures { λ r. ⌜ r ≡ freshBook ⌝ }
+{
+    Book {
+        nets: Nets {
+            today: 0,
+            cleared: 0,
+        },
+        cash: Cash {
+            own: Fen(0),
+            client: Fen(0),
+        },
+        vault: Vault {
+            guarantee: Guarantee {
+                effective: Fen(0),
+                arriving: Fen(0),
+                frozen: Fen(0),
+            },
+            securities: [Security {
+                effective: 0,
+                arriving: 0,
+                frozen: 0,
+                rate: 0,
+            }; 32],
+        },
+        size: Sheets(0),
+        standing: Standing {
+            day: Day::Never,
+            phase: Phase::Closed,
+            status: Status::Normal,
+            failed: FailedRun::NotFailed,
+            short: ShortRun::NotShort,
+        },
+        withdrawals: Withdrawals {
+            kinds: [0; 128],
+            units: [0; 128],
+            count: 0,
+        },
+        trades: 0,
+    }
+}
