@@ -17,9 +17,12 @@ pub use Rattle.book.specs.declared.trades.Gathered.{Gathered}
 abbrev pub figuresOf : Book → List Trade → Figures
 figuresOf book table = record { outstanding = outstandingOf book table; value = value (book .vault) }
 
--- of a desk with its row of securities
+-- O of a desk, and both of a desk with its row of securities
+abbrev pub outstandingAt : Desk → List Trade → ℕ
+outstandingAt desk table = outstanding (inUse (desk .trades) table)
+
 abbrev pub figuresAt : Desk → (held : List ℕ) → List Trade → Figures
-figuresAt desk held table = record { outstanding = outstanding (inUse (desk .trades) table); value = value (vaultOf (desk .guarantee) (securitiesOf held)) }
+figuresAt desk held table = record { outstanding = outstandingAt desk table; value = value (vaultOf (desk .guarantee) (securitiesOf held)) }
 
 -- what is known of them after an event that is done
 abbrev pub Moved : Event → (before after : Figures) → Type 0

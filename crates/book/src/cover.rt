@@ -66,7 +66,9 @@ pub fn cover_flat(calendar: &[u32], book: Book, table: &[u64]) -> Cover
     let held = split::held_of(vault);
     let kinds = split::kinds_of(withdrawals);
     let units = split::units_of(withdrawals);
-    if !fit::is_fit(calendar, desk, &held, &kinds, &units, table) {
+    let tested = fit::fitness_of(calendar, desk, &held, &kinds, &units, table);
+    let fits = tested.fit;
+    if !fits {
         return refused();
     }
     let figures = figures::figures_of(calendar, desk, &held, table);

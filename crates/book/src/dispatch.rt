@@ -7,6 +7,7 @@ ghost use Rattle.rules.specs.Fit.{fit};
 ghost use Rattle.rules.specs.Step.{step};
 ghost use Rattle.book.specs.Types.{Known};
 ghost use Rattle.book.specs.Flat.{rowsOf, bookOf, appliedAt, tradesOf, appliedOf};
+ghost use Rattle.book.specs.Figures.{outstandingAt};
 use crate::close;
 use crate::desk;
 use crate::desk::Desk;
@@ -29,7 +30,7 @@ use rules::book::Book;
 use rules::event::Entry;
 use rules::event::Event;
 
-// One event on a fit book, under a calendar of at most 1,200 words.
+// One event on a fit book, under a calendar of at most 1,200 words; O comes with it.
 fn event_on(
     calendar: &[u32],
     desk: Desk,
@@ -37,16 +38,17 @@ fn event_on(
     kinds: &mut [u8],
     units: &mut [u64],
     table: &mut [u64],
+    outstanding: u64,
     event: Event,
 ) -> Done
-    requires { ⌜ (length (now held) ≡ 128) × (length (now kinds) ≡ 128) × (length (now units) ≡ 128) × (length (now calendar) ≤ 1200) × (fit (now calendar) (bookOf desk (rowsOf (now held) (now kinds) (now units))) (tradesOf (now table)) ≡ true) ⌝ }
+    requires { ⌜ (length (now held) ≡ 128) × (length (now kinds) ≡ 128) × (length (now units) ≡ 128) × (length (now calendar) ≤ 1200) × (fit (now calendar) (bookOf desk (rowsOf (now held) (now kinds) (now units))) (tradesOf (now table)) ≡ true) × (outstanding ≡ outstandingAt desk (tradesOf (now table))) ⌝ }
     ensures { λ r. ⌜ (appliedAt r (rowsOf (now (held .exit)) (now (kinds .exit)) (now (units .exit))) ≡ appliedOf (step (now (calendar .entry)) (bookOf desk (rowsOf (now (held .entry)) (now (kinds .entry)) (now (units .entry)))) (tradesOf (now (table .entry))) (Known event))) × (tradesOf (now (table .exit)) ≡ step (now (calendar .entry)) (bookOf desk (rowsOf (now (held .entry)) (now (kinds .entry)) (now (units .entry)))) (tradesOf (now (table .entry))) (Known event) .table) ⌝ }
 {
     match event {
         Event::Open => open::open(calendar, desk, table),
         Event::FundIn(account, amount) => funds::fund_in(desk, account, amount),
         Event::FundOut(account, amount) => funds::fund_out(desk, account, amount),
-        Event::Size(sheets) => size::set_size(desk, &*table, sheets),
+        Event::Size(sheets) => size::set_size(desk, outstanding, sheets),
         Event::Rate(kind, rate) => rate::set_rate(desk, held, kind, rate),
         Event::Pledge(kind, amount) => pledge::pledge(desk, held, kind, amount),
         Event::Freeze(kind, amount) => freeze::freeze(desk, held, kind, amount),
@@ -58,7 +60,14 @@ fn event_on(
             kind,
             amount,
         ),
-        Event::Initial(terms) => initial::initial(calendar, desk, &*held, table, terms),
+        Event::Initial(terms) => initial::initial(
+            calendar,
+            desk,
+            &*held,
+            table,
+            outstanding,
+            terms,
+        ),
         Event::Early(contract, count, price) => early::early(
             calendar,
             desk,
@@ -80,13 +89,23 @@ pub fn entry_on(
     kinds: &mut [u8],
     units: &mut [u64],
     table: &mut [u64],
+    outstanding: u64,
     entry: Entry,
 ) -> Done
-    requires { ⌜ (length (now held) ≡ 128) × (length (now kinds) ≡ 128) × (length (now units) ≡ 128) × (length (now calendar) ≤ 1200) × (fit (now calendar) (bookOf desk (rowsOf (now held) (now kinds) (now units))) (tradesOf (now table)) ≡ true) ⌝ }
+    requires { ⌜ (length (now held) ≡ 128) × (length (now kinds) ≡ 128) × (length (now units) ≡ 128) × (length (now calendar) ≤ 1200) × (fit (now calendar) (bookOf desk (rowsOf (now held) (now kinds) (now units))) (tradesOf (now table)) ≡ true) × (outstanding ≡ outstandingAt desk (tradesOf (now table))) ⌝ }
     ensures { λ r. ⌜ (appliedAt r (rowsOf (now (held .exit)) (now (kinds .exit)) (now (units .exit))) ≡ appliedOf (step (now (calendar .entry)) (bookOf desk (rowsOf (now (held .entry)) (now (kinds .entry)) (now (units .entry)))) (tradesOf (now (table .entry))) entry)) × (tradesOf (now (table .exit)) ≡ step (now (calendar .entry)) (bookOf desk (rowsOf (now (held .entry)) (now (kinds .entry)) (now (units .entry)))) (tradesOf (now (table .entry))) entry .table) ⌝ }
 {
     match entry {
-        Entry::Known(event) => event_on(calendar, desk, held, kinds, units, table, event),
+        Entry::Known(event) => event_on(
+            calendar,
+            desk,
+            held,
+            kinds,
+            units,
+            table,
+            outstanding,
+            event,
+        ),
         Entry::Undecodable => desk::answered(2, desk),
     }
 }
@@ -104,7 +123,9 @@ pub fn apply_flat(calendar: &[u32], book: Book, table: &mut [u64], entry: Entry)
     let mut held = split::held_of(vault);
     let mut kinds = split::kinds_of(withdrawals);
     let mut units = split::units_of(withdrawals);
-    if !fit::is_fit(calendar, desk, &held, &kinds, &units, &*table) {
+    let tested = fit::fitness_of(calendar, desk, &held, &kinds, &units, &*table);
+    let fits = tested.fit;
+    if !fits {
         return step::answered(1, book);
     }
     let done = entry_on(
@@ -114,6 +135,7 @@ pub fn apply_flat(calendar: &[u32], book: Book, table: &mut [u64], entry: Entry)
         &mut kinds,
         &mut units,
         table,
+        tested.outstanding,
         entry,
     );
     let answer = done.answer;

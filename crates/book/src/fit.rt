@@ -1,5 +1,6 @@
 // When a book is fit: its tests in the order of document 01.
 ghost use mathlib.Core.Path.{_≡_};
+ghost use mathlib.Core.Bool.{true};
 ghost use mathlib.Core.List.{List, [], _∷_};
 ghost use Prim.Native.Nat.{_≤_};
 ghost use lib.ListN.{length};
@@ -8,12 +9,13 @@ ghost use Rattle.rules.specs.Trades.{differ};
 ghost use Rattle.rules.specs.Fit.{capacityFit, sizeFit, netsFit, withdrawalsFit, unopenedFit, openedFit, dayFit, fit};
 ghost use Rattle.book.specs.Types.{Trade};
 ghost use Rattle.book.specs.Flat.{rowsOf, bookOf, tradesTo, tradesOf, Kept};
-ghost use Rattle.book.specs.Figures.{latestFirst};
+ghost use Rattle.book.specs.Figures.{outstandingAt, latestFirst, gatheredOf};
 use crate::days;
 use crate::desk::Desk;
 use crate::nets;
 use crate::standing;
 use crate::trades;
+use crate::trades::Gathered;
 use crate::vault;
 use rules::book::Day;
 use rules::book::Nets;
@@ -110,21 +112,19 @@ fn others_fit(
     day_fit(calendar, standing, count, latest)
 }
 
-pub fn is_fit(
+// The tests of a table with room for its trades, from what one walk over these gathered.
+fn is_fit(
     calendar: &[u32],
     desk: Desk,
     held: &[u64],
     kinds: &[u8],
     units: &[u64],
     table: &[u64],
+    gathered: Gathered,
 ) -> bool
-    requires { ⌜ (length (now held) ≡ 128) × (length (now kinds) ≡ 128) × (length (now units) ≡ 128) × (length (now calendar) ≤ 1200) ⌝ }
+    requires { ⌜ (length (now held) ≡ 128) × (length (now kinds) ≡ 128) × (length (now units) ≡ 128) × (length (now calendar) ≤ 1200) × (capacityFit (desk .trades) (tradesOf (now table)) ≡ true) × (gathered ≡ gatheredOf (tradesTo (now table) (desk .trades))) ⌝ }
     ensures { λ r. ⌜ r ≡ fit (now (calendar .entry)) (bookOf desk (rowsOf (now (held .entry)) (now (kinds .entry)) (now (units .entry)))) (tradesOf (now (table .entry))) ⌝ }
 {
-    let count = desk.trades;
-    if !capacity_fit(count, table) {
-        return false;
-    }
     if !vault::securities_fit(held) {
         return false;
     }
@@ -133,7 +133,6 @@ pub fn is_fit(
     if !vault::cash_fit(cash, guarantee) {
         return false;
     }
-    let gathered = trades::gather(table, count);
     let within = gathered.fit;
     if !within {
         return false;
@@ -142,4 +141,35 @@ pub fn is_fit(
         return false;
     }
     others_fit(calendar, desk, kinds, units, table, gathered.latest)
+}
+
+// Whether a book is fit, and O of one that is, since the test counts it.
+pub struct Fitness {
+    pub fit: bool,
+    pub outstanding: u64,
+}
+
+pub fn fitness_of(
+    calendar: &[u32],
+    desk: Desk,
+    held: &[u64],
+    kinds: &[u8],
+    units: &[u64],
+    table: &[u64],
+) -> Fitness
+    requires { ⌜ (length (now held) ≡ 128) × (length (now kinds) ≡ 128) × (length (now units) ≡ 128) × (length (now calendar) ≤ 1200) ⌝ }
+    ensures { λ r. ⌜ (r .fit ≡ fit (now (calendar .entry)) (bookOf desk (rowsOf (now (held .entry)) (now (kinds .entry)) (now (units .entry)))) (tradesOf (now (table .entry)))) × (r .fit ≡ true → r .outstanding ≡ outstandingAt desk (tradesOf (now (table .entry)))) ⌝ }
+{
+    let count = desk.trades;
+    if !capacity_fit(count, table) {
+        return Fitness {
+            fit: false,
+            outstanding: 0,
+        };
+    }
+    let gathered = trades::gather(table, count);
+    Fitness {
+        fit: is_fit(calendar, desk, held, kinds, units, table, gathered),
+        outstanding: gathered.outstanding,
+    }
 }

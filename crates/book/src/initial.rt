@@ -10,6 +10,7 @@ ghost use Rattle.rules.specs.Trades.{onTable};
 ghost use Rattle.rules.specs.Vault.{headroom};
 ghost use Rattle.rules.specs.Initial.{badCount, badPrices, badDue, begun, roomCauses, initialCauses, initialBook, initialTable};
 ghost use Rattle.book.specs.Flat.{Rows, rowsOf, bookOf, FitsHeld, appliedAt, tradesTo, tradesOf, appliedBy, tableBy};
+ghost use Rattle.book.specs.Figures.{outstandingAt};
 use crate::days;
 use crate::desk;
 use crate::desk::Desk;
@@ -68,18 +69,31 @@ fn is_taken(table: &[u64], count: usize, contract: Contract) -> bool
 }
 
 // Whether sheets are above headroom.
-fn lacks_headroom(calendar: &[u32], desk: Desk, held: &[u64], table: &[u64], count: u64) -> bool
-    requires { ⌜ (length (now held) ≡ 128) × (FitsHeld (now calendar) desk (now held) (tradesOf (now table))) × (count ≤ 100000000) ⌝ }
+fn lacks_headroom(
+    calendar: &[u32],
+    desk: Desk,
+    held: &[u64],
+    table: &[u64],
+    outstanding: u64,
+    count: u64,
+) -> bool
+    requires { ⌜ (length (now held) ≡ 128) × (FitsHeld (now calendar) desk (now held) (tradesOf (now table))) × (outstanding ≡ outstandingAt desk (tradesOf (now table))) × (count ≤ 100000000) ⌝ }
     ensures { λ r. ⌜ ((kinds units : List ℕ) → r ≡ ltZ (headroom (bookOf desk (rowsOf (now (held .entry)) kinds units)) (tradesOf (now (table .entry)))) (pos count)) ⌝ }
 {
     let guarantee = desk.guarantee;
-    let outstanding = trades::outstanding_of(table, desk.trades);
     let value = vault::value_of(held, guarantee);
     evening::above_headroom(desk.size.0, value, outstanding, count)
 }
 
-fn room_refusal(calendar: &[u32], desk: Desk, held: &[u64], table: &[u64], terms: Terms) -> u8
-    requires { ⌜ (length (now held) ≡ 128) × (FitsHeld (now calendar) desk (now held) (tradesOf (now table))) × (terms .sheets .0 ≤ 100000000) ⌝ }
+fn room_refusal(
+    calendar: &[u32],
+    desk: Desk,
+    held: &[u64],
+    table: &[u64],
+    outstanding: u64,
+    terms: Terms,
+) -> u8
+    requires { ⌜ (length (now held) ≡ 128) × (FitsHeld (now calendar) desk (now held) (tradesOf (now table))) × (outstanding ≡ outstandingAt desk (tradesOf (now table))) × (terms .sheets .0 ≤ 100000000) ⌝ }
     ensures { λ r. ⌜ ((kinds units : List ℕ) → r ≡ numberOf (firstOf (roomCauses (bookOf desk (rowsOf (now (held .entry)) kinds units)) (tradesOf (now (table .entry))) terms))) ⌝ }
 {
     let contract = terms.contract;
@@ -89,7 +103,7 @@ fn room_refusal(calendar: &[u32], desk: Desk, held: &[u64], table: &[u64], terms
     if table.len() / 6 <= desk.trades {
         return 11;
     }
-    if lacks_headroom(calendar, desk, held, table, terms.sheets.0) {
+    if lacks_headroom(calendar, desk, held, table, outstanding, terms.sheets.0) {
         return 12;
     }
     let nets = desk.nets;
@@ -99,8 +113,15 @@ fn room_refusal(calendar: &[u32], desk: Desk, held: &[u64], table: &[u64], terms
     0
 }
 
-fn initial_refusal(calendar: &[u32], desk: Desk, held: &[u64], table: &[u64], terms: Terms) -> u8
-    requires { ⌜ (length (now held) ≡ 128) × (FitsHeld (now calendar) desk (now held) (tradesOf (now table))) × (length (now calendar) ≤ 1200) ⌝ }
+fn initial_refusal(
+    calendar: &[u32],
+    desk: Desk,
+    held: &[u64],
+    table: &[u64],
+    outstanding: u64,
+    terms: Terms,
+) -> u8
+    requires { ⌜ (length (now held) ≡ 128) × (FitsHeld (now calendar) desk (now held) (tradesOf (now table))) × (length (now calendar) ≤ 1200) × (outstanding ≡ outstandingAt desk (tradesOf (now table))) ⌝ }
     ensures { λ r. ⌜ ((kinds units : List ℕ) → r ≡ numberOf (firstOf (initialCauses (now (calendar .entry)) (bookOf desk (rowsOf (now (held .entry)) kinds units)) (tradesOf (now (table .entry))) terms))) ⌝ }
 {
     let standing = desk.standing;
@@ -125,7 +146,7 @@ fn initial_refusal(calendar: &[u32], desk: Desk, held: &[u64], table: &[u64], te
     if bad_due(calendar, days::day_number(day), terms.due) {
         return 9;
     }
-    room_refusal(calendar, desk, held, table, terms)
+    room_refusal(calendar, desk, held, table, outstanding, terms)
 }
 
 // The record of a trade that begins today.
@@ -145,11 +166,18 @@ fn begun_trade(calendar: &[u32], desk: Desk, terms: Terms) -> Trade
     }
 }
 
-pub fn initial(calendar: &[u32], desk: Desk, held: &[u64], table: &mut [u64], terms: Terms) -> Done
-    requires { ⌜ (length (now held) ≡ 128) × (FitsHeld (now calendar) desk (now held) (tradesOf (now table))) × (length (now calendar) ≤ 1200) ⌝ }
+pub fn initial(
+    calendar: &[u32],
+    desk: Desk,
+    held: &[u64],
+    table: &mut [u64],
+    outstanding: u64,
+    terms: Terms,
+) -> Done
+    requires { ⌜ (length (now held) ≡ 128) × (FitsHeld (now calendar) desk (now held) (tradesOf (now table))) × (length (now calendar) ≤ 1200) × (outstanding ≡ outstandingAt desk (tradesOf (now table))) ⌝ }
     ensures { λ r. ⌜ ((kinds units : List ℕ) → (appliedAt r (rowsOf (now (held .entry)) kinds units) ≡ appliedBy (firstOf (initialCauses (now (calendar .entry)) (bookOf desk (rowsOf (now (held .entry)) kinds units)) (tradesOf (now (table .entry))) terms)) (bookOf desk (rowsOf (now (held .entry)) kinds units)) (initialBook (bookOf desk (rowsOf (now (held .entry)) kinds units)) terms)) × (tradesOf (now (table .exit)) ≡ tableBy (firstOf (initialCauses (now (calendar .entry)) (bookOf desk (rowsOf (now (held .entry)) kinds units)) (tradesOf (now (table .entry))) terms)) (tradesOf (now (table .entry))) (initialTable (now (calendar .entry)) (bookOf desk (rowsOf (now (held .entry)) kinds units)) (tradesOf (now (table .entry))) terms))) ⌝ }
 {
-    let refusal = initial_refusal(calendar, desk, held, &*table, terms);
+    let refusal = initial_refusal(calendar, desk, held, &*table, outstanding, terms);
     if refusal != 0 {
         return desk::answered(refusal, desk);
     }

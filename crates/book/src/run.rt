@@ -62,7 +62,16 @@ fn run_event(
     ensures { λ r. ⌜ (bookOf (r .desk) (rowsOf (now (held .exit)) (now (kinds .exit)) (now (units .exit))) ≡ step (now (calendar .entry)) (bookOf desk (rowsOf (now (held .entry)) (now (kinds .entry)) (now (units .entry)))) (tradesOf (now (table .entry))) (decoded (now (bytes .entry))) .book) × (tradesOf (now (table .exit)) ≡ step (now (calendar .entry)) (bookOf desk (rowsOf (now (held .entry)) (now (kinds .entry)) (now (units .entry)))) (tradesOf (now (table .entry))) (decoded (now (bytes .entry))) .table) × (now (lines .exit) ≡ sets (now (lines .entry)) at (lineOf (step (now (calendar .entry)) (bookOf desk (rowsOf (now (held .entry)) (now (kinds .entry)) (now (units .entry)))) (tradesOf (now (table .entry))) (decoded (now (bytes .entry)))))) × (r .figures ≡ figuresAt (r .desk) (now (held .exit)) (tradesOf (now (table .exit)))) ⌝ }
 {
     let entry = decode::decode(bytes);
-    let done = dispatch::entry_on(calendar, desk, held, kinds, units, table, entry);
+    let done = dispatch::entry_on(
+        calendar,
+        desk,
+        held,
+        kinds,
+        units,
+        table,
+        figures.outstanding,
+        entry,
+    );
     let answer = done.answer;
     let after = done.desk;
     let next = figures::figures_after(
@@ -144,7 +153,9 @@ pub fn run_flat(
     let mut held = split::held_of(vault);
     let mut kinds = split::kinds_of(withdrawals);
     let mut units = split::units_of(withdrawals);
-    if !fit::is_fit(calendar, desk, &held, &kinds, &units, &*table) {
+    let tested = fit::fitness_of(calendar, desk, &held, &kinds, &units, &*table);
+    let fits = tested.fit;
+    if !fits {
         return refused(1, book);
     }
     let refusal = lengths_refusal(events.len(), lines.len());

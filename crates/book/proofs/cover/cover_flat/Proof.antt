@@ -15,13 +15,13 @@ use Rattle.book.proofs.cover.cover_flat.Statement.{statement}
 use Rattle.book.proofs.cover.cover_flat.Tie as tie
 
 -- the book as it was, taken apart
-apart : (c : tie.After-is-fit) → (let a = c .before .before .before .before .before .before .before .before .before .before .before .before .before .args in bookOf (c .before .before .before .before .before .before .before .before .before .desk-of .result) (rowsOf (c .before .before .before .before .before .before .held-of .result) (c .before .before .before .before .before .kinds-of .result) (c .before .before .before .before .units-of .result)) ≡ a .book)
+apart : (c : tie.After-fitness-of) → (let a = c .before .before .before .before .before .before .before .before .before .before .before .before .before .args in bookOf (c .before .before .before .before .before .before .before .before .before .desk-of .result) (rowsOf (c .before .before .before .before .before .before .held-of .result) (c .before .before .before .before .before .kinds-of .result) (c .before .before .before .before .units-of .result)) ≡ a .book)
 apart c = whole (c .before .before .before .before .before .before .before .before .before .before .before .before .before .args .book) _ (c .before .before .before .before .before .before .before .before .before .desk-of .ensures) (c .before .before .before .before .before .before .held-of .ensures) (c .before .before .before .before .before .kinds-of .ensures) (c .before .before .before .before .units-of .ensures)
 
-tested : (c : tie.After-is-fit) → (let a = c .before .before .before .before .before .before .before .before .before .before .before .before .before .args in c .is-fit .result ≡ fit (a .calendar .now) (a .book) (tradesOf (a .table .now)))
+tested : (c : tie.After-fitness-of) → (let a = c .before .before .before .before .before .before .before .before .before .before .before .before .before .args in c .fitness-of .result .fit ≡ fit (a .calendar .now) (a .book) (tradesOf (a .table .now)))
 tested c =
     let a = c .before .before .before .before .before .before .before .before .before .before .before .before .before .args in
-    c .is-fit .ensures ∙ ap (λ (book : Book). fit (a .calendar .now) book (tradesOf (a .table .now))) (apart c)
+    c .fitness-of .ensures .0 ∙ ap (λ (book : Book). fit (a .calendar .now) book (tradesOf (a .table .now))) (apart c)
 
 refused-requires : tie.Need-refused-requires
 refused-requires c κs = search needs
@@ -41,17 +41,17 @@ kinds-of-requires c κs = search needs
 units-of-requires : tie.Need-units-of-requires
 units-of-requires c κs = search needs
 
-slice-aggregate-is-fit : tie.Need-slice-aggregate-is-fit
-slice-aggregate-is-fit c = search needs
+slice-aggregate-fitness-of : tie.Need-slice-aggregate-fitness-of
+slice-aggregate-fitness-of c = search needs
 
-slice-aggregate-is-fit-2 : tie.Need-slice-aggregate-is-fit-2
-slice-aggregate-is-fit-2 c = search needs
+slice-aggregate-fitness-of-2 : tie.Need-slice-aggregate-fitness-of-2
+slice-aggregate-fitness-of-2 c = search needs
 
-slice-aggregate-is-fit-3 : tie.Need-slice-aggregate-is-fit-3
-slice-aggregate-is-fit-3 c = search needs
+slice-aggregate-fitness-of-3 : tie.Need-slice-aggregate-fitness-of-3
+slice-aggregate-fitness-of-3 c = search needs
 
-is-fit-requires : tie.Need-is-fit-requires
-is-fit-requires c κs = (search needs, search needs, search needs, c .before .before .before .before .before .before .before .before .before .if1 .left)
+fitness-of-requires : tie.Need-fitness-of-requires
+fitness-of-requires c κs = (search needs, search needs, search needs, c .before .before .before .before .before .before .before .before .before .if1 .left)
 
 refused-requires-2 : tie.Need-refused-requires-2
 refused-requires-2 c κs = search needs
@@ -64,11 +64,11 @@ slice-aggregate-figures-of c = search needs
 
 figures-of-requires : tie.Need-figures-of-requires
 figures-of-requires c κs =
-    (search needs, record { kinds = c .before .before .before .before .before .before .before .kinds-of .result; units = c .before .before .before .before .before .before .units-of .result; fits = sym (c .before .before .is-fit .ensures) ∙ not-false _ (c .before .if2 .left) })
+    (search needs, record { kinds = c .before .before .before .before .before .before .before .kinds-of .result; units = c .before .before .before .before .before .before .units-of .result; fits = sym (c .before .before .fitness-of .ensures .0) ∙ not-false _ (c .before .if2 .left) })
 
 cover-from-requires : tie.Need-cover-from-requires
 cover-from-requires c κs =
-    let size = fit-parts _ _ _ (sym (c .before .before .before .is-fit .ensures) ∙ not-false _ (c .before .before .if2 .left)) .size in
+    let size = fit-parts _ _ _ (sym (c .before .before .before .fitness-of .ensures .0) ∙ not-false _ (c .before .before .if2 .left)) .size in
     (size .within, rw (c .figures-of .ensures) (omega (arith, size .within, size .covers)))
 
 returns-3 : tie.Need-returns-3
@@ -91,10 +91,10 @@ cover-flat-spec =
     held-of-requires
     kinds-of-requires
     units-of-requires
-    slice-aggregate-is-fit
-    slice-aggregate-is-fit-2
-    slice-aggregate-is-fit-3
-    is-fit-requires
+    slice-aggregate-fitness-of
+    slice-aggregate-fitness-of-2
+    slice-aggregate-fitness-of-3
+    fitness-of-requires
     refused-requires-2
     returns-2
     slice-aggregate-figures-of

@@ -9,17 +9,17 @@ use Rattle.book.proofs.SplitLaws.{whole}
 use Rattle.book.proofs.dispatch.apply_flat.Statement.{statement}
 use Rattle.book.proofs.dispatch.apply_flat.Tie as tie
 
-abbrev start : tie.After-is-fit → tie.Start
+abbrev start : tie.After-fitness-of → tie.Start
 start c = c .before .before .before .before .before .before .before .before .before .before .before .before .before .before
 
 -- the book as it was, taken apart
-apart : (c : tie.After-is-fit) → bookOf (c .before .before .before .before .before .before .before .before .before .before .desk-of .result) (rowsOf (c .before .before .before .before .before .before .before .held-of .result) (c .before .before .before .before .before .before .kinds-of .result) (c .before .before .before .before .before .units-of .result)) ≡ start c .args .book
+apart : (c : tie.After-fitness-of) → bookOf (c .before .before .before .before .before .before .before .before .before .before .desk-of .result) (rowsOf (c .before .before .before .before .before .before .before .held-of .result) (c .before .before .before .before .before .before .kinds-of .result) (c .before .before .before .before .before .units-of .result)) ≡ start c .args .book
 apart c = whole (start c .args .book) _ (c .before .before .before .before .before .before .before .before .before .before .desk-of .ensures) (c .before .before .before .before .before .before .before .held-of .ensures) (c .before .before .before .before .before .before .kinds-of .ensures) (c .before .before .before .before .before .units-of .ensures)
 
-tested : (c : tie.After-is-fit) → (let a = start c .args in c .is-fit .result ≡ fit (a .calendar .now) (a .book) (tradesOf (a .table .now)))
+tested : (c : tie.After-fitness-of) → (let a = start c .args in c .fitness-of .result .fit ≡ fit (a .calendar .now) (a .book) (tradesOf (a .table .now)))
 tested c =
     let a = start c .args in
-    c .is-fit .ensures ∙ ap (λ (book : Book). fit (a .calendar .now) book (tradesOf (a .table .now))) (apart c)
+    c .fitness-of .ensures .0 ∙ ap (λ (book : Book). fit (a .calendar .now) book (tradesOf (a .table .now))) (apart c)
 
 answered-requires : tie.Need-answered-requires
 answered-requires c κs = search needs
@@ -39,17 +39,17 @@ kinds-of-requires c κs = search needs
 units-of-requires : tie.Need-units-of-requires
 units-of-requires c κs = search needs
 
-slice-aggregate-is-fit : tie.Need-slice-aggregate-is-fit
-slice-aggregate-is-fit c = search needs
+slice-aggregate-fitness-of : tie.Need-slice-aggregate-fitness-of
+slice-aggregate-fitness-of c = search needs
 
-slice-aggregate-is-fit-2 : tie.Need-slice-aggregate-is-fit-2
-slice-aggregate-is-fit-2 c = search needs
+slice-aggregate-fitness-of-2 : tie.Need-slice-aggregate-fitness-of-2
+slice-aggregate-fitness-of-2 c = search needs
 
-slice-aggregate-is-fit-3 : tie.Need-slice-aggregate-is-fit-3
-slice-aggregate-is-fit-3 c = search needs
+slice-aggregate-fitness-of-3 : tie.Need-slice-aggregate-fitness-of-3
+slice-aggregate-fitness-of-3 c = search needs
 
-is-fit-requires : tie.Need-is-fit-requires
-is-fit-requires c κs = (search needs, search needs, search needs, c .before .before .before .before .before .before .before .before .before .before .if1 .left)
+fitness-of-requires : tie.Need-fitness-of-requires
+fitness-of-requires c κs = (search needs, search needs, search needs, c .before .before .before .before .before .before .before .before .before .before .if1 .left)
 
 answered-requires-2 : tie.Need-answered-requires-2
 answered-requires-2 c = search needs
@@ -70,7 +70,7 @@ slice-aggregate-entry-on-3 : tie.Need-slice-aggregate-entry-on-3
 slice-aggregate-entry-on-3 c = search needs
 
 entry-on-requires : tie.Need-entry-on-requires
-entry-on-requires c κs = (search needs, search needs, search needs, c .before .before .before .before .before .before .before .before .before .before .before .before .before .before .before .before .if1 .left, sym (c .before .before .before .before .before .is-fit .ensures) ∙ not-false _ (c .before .before .before .before .if2 .left))
+entry-on-requires c κs = (search needs, search needs, search needs, c .before .before .before .before .before .before .before .before .before .before .before .before .before .before .before .before .if1 .left, sym (c .before .before .before .before .before .fitness-of .ensures .0) ∙ not-false _ (c .before .before .before .before .if2 .left), c .before .before .before .before .before .fitness-of .ensures .1 (not-false _ (c .before .before .before .before .if2 .left)))
 
 slice-aggregate-book-of : tie.Need-slice-aggregate-book-of
 slice-aggregate-book-of c = search needs
@@ -96,10 +96,10 @@ apply-flat-spec =
     held-of-requires
     kinds-of-requires
     units-of-requires
-    slice-aggregate-is-fit
-    slice-aggregate-is-fit-2
-    slice-aggregate-is-fit-3
-    is-fit-requires
+    slice-aggregate-fitness-of
+    slice-aggregate-fitness-of-2
+    slice-aggregate-fitness-of-3
+    fitness-of-requires
     answered-requires-2
     same-length
     returns-2

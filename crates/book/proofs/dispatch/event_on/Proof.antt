@@ -68,9 +68,7 @@ enum-known-event-3 : tie.Need-enum-known-event-3
 enum-known-event-3 c = search needs
 
 set-size-requires : tie.Need-set-size-requires
-set-size-requires c κs =
-    let s = c .before .before .before .before .before .before .before .before .before in
-    fit-keeps _ _ _ (s .pre .4)
+set-size-requires c κs = search needs
 
 enum-known-event-4 : tie.Need-enum-known-event-4
 enum-known-event-4 c = search needs
@@ -110,7 +108,7 @@ enum-known-event-8 c = search needs
 initial-requires : tie.Need-initial-requires
 initial-requires c κs =
     let s = c .before .before .before .before .before .before .before .before .before .before in
-    (s .pre .0, record { kinds = s .args .kinds .now; units = s .args .units .now; fits = s .pre .4 }, s .pre .3)
+    (s .pre .0, record { kinds = s .args .kinds .now; units = s .args .units .now; fits = s .pre .4 }, s .pre .3, s .pre .5)
 
 enum-known-event-9 : tie.Need-enum-known-event-9
 enum-known-event-9 c = search needs
@@ -134,7 +132,7 @@ enum-told-3 c = search needs
 close-requires : tie.Need-close-requires
 close-requires c κs =
     let s = c .before .before .before .before .before .before .before .before .before .before .before in
-    s .pre
+    (s .pre .0, s .pre .1, s .pre .2, s .pre .3, s .pre .4)
 
 same-length : tie.Need-same-length
 same-length c = search needs
@@ -157,17 +155,14 @@ returns-3 c =
     let s = c .before .before .before .before .before .before .before .before .before in
     rw (c .before .before .event2 .given .1) (leaves-table _ (book s) (table s) (s .pre .4) (s .pre .3) _ _ refl _ (c .fund-out .ensures (rows s)))
 
-same-length-2 : tie.Need-same-length-2
-same-length-2 c = search needs
-
 returns-4 : tie.Need-returns-4
 unfolding eventCauses act
 returns-4 c =
-    let s = c .before .before .before .before .before .before .before .before .before .before in
-    rw (c .before .before .before .event3 .given .1) (leaves-table _ (book s) (table s) (s .pre .4) (s .pre .3) _ _ refl _ (c .set-size .ensures (rows s)))
+    let s = c .before .before .before .before .before .before .before .before .before in
+    rw (c .before .before .event3 .given .1) (leaves-table _ (book s) (table s) (s .pre .4) (s .pre .3) _ _ refl _ (c .set-size .ensures (rows s) (table s) (s .pre .5)))
 
-same-length-3 : tie.Need-same-length-3
-same-length-3 c = search needs
+same-length-2 : tie.Need-same-length-2
+same-length-2 c = search needs
 
 returns-5 : tie.Need-returns-5
 unfolding eventCauses act
@@ -175,8 +170,8 @@ returns-5 c =
     let s = c .before .before .before .before .before .before .before .before .before .before .before .before in
     rw (c .before .before .before .before .before .event4 .given .1) (leaves-table _ (book s) (table s) (s .pre .4) (s .pre .3) _ _ refl _ (c .before .before .set-rate .ensures (s .args .kinds .now) (s .args .units .now)))
 
-same-length-4 : tie.Need-same-length-4
-same-length-4 c = search needs
+same-length-3 : tie.Need-same-length-3
+same-length-3 c = search needs
 
 returns-6 : tie.Need-returns-6
 unfolding eventCauses act
@@ -184,8 +179,8 @@ returns-6 c =
     let s = c .before .before .before .before .before .before .before .before .before .before .before .before in
     rw (c .before .before .before .before .before .event5 .given .1) (leaves-table _ (book s) (table s) (s .pre .4) (s .pre .3) _ _ refl _ (c .before .before .pledge .ensures (s .args .kinds .now) (s .args .units .now)))
 
-same-length-5 : tie.Need-same-length-5
-same-length-5 c = search needs
+same-length-4 : tie.Need-same-length-4
+same-length-4 c = search needs
 
 returns-7 : tie.Need-returns-7
 unfolding eventCauses act
@@ -193,14 +188,14 @@ returns-7 c =
     let s = c .before .before .before .before .before .before .before .before .before .before .before .before in
     rw (c .before .before .before .before .before .event6 .given .1) (leaves-table _ (book s) (table s) (s .pre .4) (s .pre .3) _ _ refl _ (c .before .before .freeze .ensures (s .args .kinds .now) (s .args .units .now)))
 
+same-length-5 : tie.Need-same-length-5
+same-length-5 c = search needs
+
 same-length-6 : tie.Need-same-length-6
 same-length-6 c = search needs
 
 same-length-7 : tie.Need-same-length-7
 same-length-7 c = search needs
-
-same-length-8 : tie.Need-same-length-8
-same-length-8 c = search needs
 
 returns-8 : tie.Need-returns-8
 unfolding eventCauses act
@@ -208,11 +203,11 @@ returns-8 c =
     let s = c .before .before .before .before .before .before .before .before .before .before .before .before .before .before .before .before in
     rw (c .before .before .before .before .before .before .before .before .before .event7 .given .1) (leaves-table _ (book s) (table s) (s .pre .4) (s .pre .3) _ _ refl _ (c .before .before .before .before .withdraw .ensures))
 
+same-length-8 : tie.Need-same-length-8
+same-length-8 c = search needs
+
 same-length-9 : tie.Need-same-length-9
 same-length-9 c = search needs
-
-same-length-10 : tie.Need-same-length-10
-same-length-10 c = search needs
 
 returns-9 : tie.Need-returns-9
 unfolding eventCauses act
@@ -220,8 +215,8 @@ returns-9 c =
     let s = c .before .before .before .before .before .before .before .before .before .before .before .before .before in
     rw (c .before .before .before .before .before .before .event8 .given .1) (changes-table _ (book s) (table s) (s .pre .4) (s .pre .3) _ _ _ refl _ _ (c .before .before .initial .ensures (s .args .kinds .now) (s .args .units .now)))
 
-same-length-11 : tie.Need-same-length-11
-same-length-11 c = search needs
+same-length-10 : tie.Need-same-length-10
+same-length-10 c = search needs
 
 returns-10 : tie.Need-returns-10
 unfolding eventCauses act
@@ -235,6 +230,9 @@ returns-11 c =
     let s = c .before .before .before .before .before .before .before .before in
     rw (c .before .enum-told2 .given .1) (pays _ (book s) (table s) (s .pre .4) (s .pre .3) _ refl _ (c .pay .ensures (rows s)))
 
+same-length-11 : tie.Need-same-length-11
+same-length-11 c = search needs
+
 same-length-12 : tie.Need-same-length-12
 same-length-12 c = search needs
 
@@ -243,9 +241,6 @@ same-length-13 c = search needs
 
 same-length-14 : tie.Need-same-length-14
 same-length-14 c = search needs
-
-same-length-15 : tie.Need-same-length-15
-same-length-15 c = search needs
 
 returns-12 : tie.Need-returns-12
 unfolding eventCauses act
@@ -285,26 +280,25 @@ event-on-spec =
     returns
     returns-2
     returns-3
-    same-length-2
     returns-4
-    same-length-3
+    same-length-2
     returns-5
-    same-length-4
+    same-length-3
     returns-6
-    same-length-5
+    same-length-4
     returns-7
+    same-length-5
     same-length-6
     same-length-7
-    same-length-8
     returns-8
+    same-length-8
     same-length-9
-    same-length-10
     returns-9
-    same-length-11
+    same-length-10
     returns-10
     returns-11
+    same-length-11
     same-length-12
     same-length-13
     same-length-14
-    same-length-15
     returns-12)

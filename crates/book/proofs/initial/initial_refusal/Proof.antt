@@ -55,7 +55,7 @@ returns-6 c kinds units = passes _ _ _ (denied-not (c .before .before .before .b
 room-refusal-requires : tie.Need-room-refusal-requires
 room-refusal-requires c κs =
     let s = c .before .before .before .before .before .before .before .before .before .before .before .before .before .before .before .before .before .before .before in
-    (s .pre .0, s .pre .1, count-within _ (asked-not (c .before .before .before .before .before .before .before .before .bad-count .ensures) (c .before .before .before .before .before .before .before .if4 .left)))
+    (s .pre .0, s .pre .1, s .pre .3, count-within _ (asked-not (c .before .before .before .before .before .before .before .before .bad-count .ensures) (c .before .before .before .before .before .before .before .if4 .left)))
 
 returns-7 : tie.Need-returns-7
 unfolding initialCauses

@@ -55,10 +55,10 @@ returns-3 c kinds units =
     passes _ _ _ (asked-not (taken (c .before .before .before .before .before)) (c .before .before .before .before .if1 .left)) (passes _ _ _ (full (c .before .before)) (applies _ _ (asked (c .before .lacks-headroom .ensures kinds units) (c .if3 .taken))))
 
 mul-today-less : tie.Need-mul-today-less
-mul-today-less c = omega (arith, c .before .before .before .before .before .before .before .before .before .before .before .before .pre .2)
+mul-today-less c = omega (arith, c .before .before .before .before .before .before .before .before .before .before .before .before .pre .3)
 
 today-less-requires : tie.Need-today-less-requires
-today-less-requires c κs = (fit-net _ _ _ (c .before .before .before .before .before .before .before .before .before .before .before .before .pre .1 .fits), omega (arith, c .before .before .before .before .before .before .before .before .before .before .before .before .pre .2))
+today-less-requires c κs = (fit-net _ _ _ (c .before .before .before .before .before .before .before .before .before .before .before .before .pre .1 .fits), omega (arith, c .before .before .before .before .before .before .before .before .before .before .before .before .pre .3))
 
 today-fit-requires : tie.Need-today-fit-requires
 today-fit-requires c κs = search needs

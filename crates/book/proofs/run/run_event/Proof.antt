@@ -9,6 +9,7 @@ use Rattle.rules.specs.Entry.{decoded}
 use Rattle.rules.specs.Step.{Outcome, step}
 use Rattle.rules.specs.Cover.{counted}
 use Rattle.rules.proofs.FitParts.{fit-parts}
+use Rattle.book.specs.Figures.{Figures}
 use Rattle.book.specs.Flat.{Rows, rowsOf, bookOf, appliedAt, tradesOf, appliedOf}
 use Rattle.book.proofs.CoverLaws.{headroom-size}
 use Rattle.book.proofs.FigureLaws.{moved-after, counted-from}
@@ -44,7 +45,9 @@ decode-requires : tie.Need-decode-requires
 decode-requires c κs = search needs
 
 entry-on-requires : tie.Need-entry-on-requires
-entry-on-requires c κs = search needs
+entry-on-requires c κs =
+    let s = c .before .before .before .before .before .before .before .before .before .before .before .before in
+    (s .pre .0, s .pre .1, s .pre .2, s .pre .3, s .pre .4, ap (λ (f : Figures). f .outstanding) (s .pre .5))
 
 figures-after-requires : tie.Need-figures-after-requires
 figures-after-requires c κs =
