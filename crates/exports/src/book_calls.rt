@@ -2,7 +2,31 @@
 ghost use mathlib.Core.Path.{_≡_};
 ghost use lib.ListN.{length};
 ghost use Rattle.money.specs.Causes.{firstOf, numberOf};
-ghost use Rattle.rules.specs.Listing.{listingOf, listingCauses, writtenBy};
+ghost use Rattle.book.specs.Entry.{decoded};
+ghost use Rattle.book.specs.Step.{step};
+ghost use Rattle.book.specs.Listing.{listingOf, listingCauses, writtenBy};
+ghost use Rattle.exports.specs.Page.{bookOn, pageOf};
+use crate::page;
+use crate::page::Page;
+use book::answer::Answer;
+use book::trade::Trade;
+
+// One event, as its 40 bytes, on any book and any table.
+#[no_mangle]
+pub extern "C" fn book_apply(
+    calendar: &[u32],
+    page: &mut Page,
+    table: &mut [Trade],
+    event: &[u8],
+) -> Answer
+    ensures { λ r. ⌜ (r ≡ step (now (calendar .entry)) (bookOn (now (page .entry))) (now (table .entry)) (decoded (now (event .entry))) .answer) × (now (page .exit) ≡ pageOf (step (now (calendar .entry)) (bookOn (now (page .entry))) (now (table .entry)) (decoded (now (event .entry))) .book)) × (now (table .exit) ≡ step (now (calendar .entry)) (bookOn (now (page .entry))) (now (table .entry)) (decoded (now (event .entry))) .table) ⌝ }
+{
+    let book = page::book_on(*page);
+    let entry = book::decode::decode(event);
+    let applied = book::table::apply(calendar, book, table, entry);
+    *page = page::page_after(applied);
+    page::answer_of(applied)
+}
 
 // The run of a journal's events on a fresh book, seven numbers an event.
 #[no_mangle]

@@ -1,10 +1,12 @@
-// The proved calls under C names, for Rust and C: each gives what the call that it names gives, with the same promise.
+// The proved calls under C names, for Rust and C: each gives what the call that it names gives, with the same promise. A book
+// crosses as its page.
 
 // Days and money.
 pub mod money_calls;
 
-// The book.
+// The book, and a book in plain numbers.
 pub mod book_calls;
+pub mod page;
 
 // The journal.
 pub mod journal_calls;

@@ -3,6 +3,7 @@ use crate::book::Book;
 use money::units::Sheets;
 
 // The number; of an accepted Close also the sheets matured and the applications done and dropped, of any other 0.
+#[repr(C)]
 pub struct Answer {
     pub number: u8,
     pub matured: Sheets,
@@ -24,6 +25,7 @@ pub struct Ran {
 }
 
 // Headroom and O of a book: the number, and beside a refusal 0 for both.
+#[repr(C)]
 pub struct Cover {
     pub number: u8,
     pub headroom: i64,

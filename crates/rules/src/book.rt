@@ -5,18 +5,21 @@ use money::units::Fen;
 use money::units::Sheets;
 
 // Today's net and the cleared net in fen: redemptions plus, initial trades minus.
+#[repr(C)]
 pub struct Nets {
     pub today: i64,
     pub cleared: i64,
 }
 
 // The two settlement accounts.
+#[repr(C)]
 pub struct Cash {
     pub own: Fen,
     pub client: Fen,
 }
 
 // A security's units, and its rate in ten-thousandths of a sheet a unit.
+#[repr(C)]
 pub struct Security {
     pub effective: u64,
     pub arriving: u64,
@@ -25,6 +28,7 @@ pub struct Security {
 }
 
 // Guarantee cash, kind 32, whose rate number is fixed and not kept.
+#[repr(C)]
 pub struct Guarantee {
     pub effective: Fen,
     pub arriving: Fen,
@@ -32,6 +36,7 @@ pub struct Guarantee {
 }
 
 // All that is pledged: kinds 0 to 31 and kind 32.
+#[repr(C)]
 pub struct Vault {
     pub guarantee: Guarantee,
     pub securities: [Security; 32],
@@ -79,6 +84,7 @@ pub struct Standing {
 }
 
 // The applications that stand for the evening: the first `count` of both arrays.
+#[repr(C)]
 pub struct Withdrawals {
     pub kinds: [u8; 128],
     pub units: [u64; 128],

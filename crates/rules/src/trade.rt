@@ -3,9 +3,11 @@ use money::units::Sheets;
 use money::units::Ticks;
 
 // A contract's identity: two contracts are the same where these numbers agree.
+#[repr(C)]
 pub struct Contract(pub u64);
 
 // `first` is the payment day of the initial trade, as planned.
+#[repr(C)]
 pub struct Trade {
     pub contract: Contract,
     pub sheets: Sheets,

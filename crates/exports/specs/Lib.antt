@@ -1,0 +1,2 @@
+-- What crosses to C in another form than it has here.
+pub mod Page

@@ -1,0 +1,108 @@
+-- A book in plain numbers: no enum crosses to C, so each of its cases is told by its place, from 0. A number past the last place is read as the last.
+-- Assumes nothing.
+use Prim.Native.Nat.{ℕ}
+use mathlib.Core.Bool.{Bool, true, false, cond}
+use lib.Dec.{eqb}
+use Rattle.book.specs.declared.book.Book.{Book}
+use Rattle.book.specs.declared.book.Standing.{Standing}
+use Rattle.book.specs.declared.book.Day.{Day}
+use Rattle.book.specs.declared.book.Day.the-variants.{Never, On}
+use Rattle.book.specs.declared.book.Phase.{Phase}
+use Rattle.book.specs.declared.book.Phase.the-variants.{Closed, Trading, Paid}
+use Rattle.book.specs.declared.book.Status.{Status}
+use Rattle.book.specs.declared.book.Status.the-variants.{Normal, Suspended, Terminated}
+use Rattle.book.specs.declared.book.FailedRun.{FailedRun}
+use Rattle.book.specs.declared.book.FailedRun.the-variants.{NotFailed, FailedOnce, FailedTwice}
+use Rattle.book.specs.declared.book.ShortRun.{ShortRun}
+use Rattle.book.specs.declared.book.ShortRun.the-variants.{NotShort, ShortOnce, ShortTwice, ShortThrice}
+use Rattle.exports.specs.declared.page.Marks.{Marks}
+use Rattle.exports.specs.declared.page.Page.{Page}
+
+-- ---- a book from its page
+
+unfoldable pub dayAt : Bool → ℕ → Day
+dayAt dated day = cond dated (On day) Never
+
+unfoldable pub phaseAt : ℕ → Phase
+phaseAt place = cond (eqb place 0) Closed (cond (eqb place 1) Trading Paid)
+
+unfoldable pub statusAt : ℕ → Status
+statusAt place = cond (eqb place 0) Normal (cond (eqb place 1) Suspended Terminated)
+
+unfoldable pub failedAt : ℕ → FailedRun
+failedAt place = cond (eqb place 0) NotFailed (cond (eqb place 1) FailedOnce FailedTwice)
+
+unfoldable pub shortAt : ℕ → ShortRun
+shortAt place = cond (eqb place 0) NotShort (cond (eqb place 1) ShortOnce (cond (eqb place 2) ShortTwice ShortThrice))
+
+abbrev pub standingAt : Marks → Standing
+standingAt marks = record {
+  day = dayAt (marks .dated) (marks .day);
+  phase = phaseAt (marks .phase);
+  status = statusAt (marks .status);
+  failed = failedAt (marks .failed);
+  short = shortAt (marks .short);
+}
+
+unfoldable pub bookOn : Page → Book
+bookOn page = record {
+  nets = page .nets;
+  cash = page .cash;
+  vault = page .vault;
+  size = page .size;
+  standing = standingAt (page .marks);
+  withdrawals = page .withdrawals;
+  trades = page .trades;
+}
+
+-- ---- the page of a book; where there is no day its number is 0
+
+abbrev pub isDated : Day → Bool
+isDated Never = false
+isDated (On day) = true
+
+abbrev pub dayNumber : Day → ℕ
+dayNumber Never = 0
+dayNumber (On day) = day
+
+abbrev pub phaseNumber : Phase → ℕ
+phaseNumber Closed = 0
+phaseNumber Trading = 1
+phaseNumber Paid = 2
+
+abbrev pub statusNumber : Status → ℕ
+statusNumber Normal = 0
+statusNumber Suspended = 1
+statusNumber Terminated = 2
+
+abbrev pub failedNumber : FailedRun → ℕ
+failedNumber NotFailed = 0
+failedNumber FailedOnce = 1
+failedNumber FailedTwice = 2
+
+abbrev pub shortNumber : ShortRun → ℕ
+shortNumber NotShort = 0
+shortNumber ShortOnce = 1
+shortNumber ShortTwice = 2
+shortNumber ShortThrice = 3
+
+abbrev pub marksOf : Standing → Marks
+marksOf standing = record {
+  dated = isDated (standing .day);
+  day = dayNumber (standing .day);
+  phase = phaseNumber (standing .phase);
+  status = statusNumber (standing .status);
+  failed = failedNumber (standing .failed);
+  short = shortNumber (standing .short);
+}
+
+unfoldable pub pageOf : Book → Page
+pageOf book = record {
+  nets = book .nets;
+  cash = book .cash;
+  vault = book .vault;
+  size = book .size;
+  marks = marksOf (book .standing);
+  withdrawals = book .withdrawals;
+  trades = book .trades;
+}

@@ -1,0 +1,231 @@
+// A book in plain numbers, and back: no enum crosses to C, so each of its cases is told by its place, from 0.
+ghost use mathlib.Core.Path.{_≡_};
+ghost use Rattle.exports.specs.Page.{dayAt, phaseAt, statusAt, failedAt, shortAt, standingAt, bookOn, isDated, dayNumber, phaseNumber, statusNumber, failedNumber, shortNumber, marksOf, pageOf};
+use book::answer::Answer;
+use book::answer::Applied;
+use book::book::Book;
+use book::book::Cash;
+use book::book::Day;
+use book::book::FailedRun;
+use book::book::Nets;
+use book::book::Phase;
+use book::book::ShortRun;
+use book::book::Standing;
+use book::book::Status;
+use book::book::Vault;
+use book::book::Withdrawals;
+use money::units::Sheets;
+
+// Where the firm stands. `day` counts where `dated`.
+#[repr(C)]
+pub struct Marks {
+    pub dated: bool,
+    pub day: u32,
+    pub phase: u8,
+    pub status: u8,
+    pub failed: u8,
+    pub short: u8,
+}
+
+#[repr(C)]
+pub struct Page {
+    pub nets: Nets,
+    pub cash: Cash,
+    pub vault: Vault,
+    pub size: Sheets,
+    pub marks: Marks,
+    pub withdrawals: Withdrawals,
+    pub trades: usize,
+}
+
+fn day_at(dated: bool, day: u32) -> Day
+    ensures { λ r. ⌜ r ≡ dayAt dated day ⌝ }
+{
+    if dated {
+        return Day::On(day);
+    }
+    Day::Never
+}
+
+fn phase_at(place: u8) -> Phase
+    ensures { λ r. ⌜ r ≡ phaseAt place ⌝ }
+{
+    match place {
+        0 => Phase::Closed,
+        1 => Phase::Trading,
+        _ => Phase::Paid,
+    }
+}
+
+fn status_at(place: u8) -> Status
+    ensures { λ r. ⌜ r ≡ statusAt place ⌝ }
+{
+    match place {
+        0 => Status::Normal,
+        1 => Status::Suspended,
+        _ => Status::Terminated,
+    }
+}
+
+fn failed_at(place: u8) -> FailedRun
+    ensures { λ r. ⌜ r ≡ failedAt place ⌝ }
+{
+    match place {
+        0 => FailedRun::NotFailed,
+        1 => FailedRun::FailedOnce,
+        _ => FailedRun::FailedTwice,
+    }
+}
+
+fn short_at(place: u8) -> ShortRun
+    ensures { λ r. ⌜ r ≡ shortAt place ⌝ }
+{
+    match place {
+        0 => ShortRun::NotShort,
+        1 => ShortRun::ShortOnce,
+        2 => ShortRun::ShortTwice,
+        _ => ShortRun::ShortThrice,
+    }
+}
+
+fn standing_at(marks: Marks) -> Standing
+    ensures { λ r. ⌜ r ≡ standingAt marks ⌝ }
+{
+    Standing {
+        day: day_at(marks.dated, marks.day),
+        phase: phase_at(marks.phase),
+        status: status_at(marks.status),
+        failed: failed_at(marks.failed),
+        short: short_at(marks.short),
+    }
+}
+
+pub fn book_on(page: Page) -> Book
+    ensures { λ r. ⌜ r ≡ bookOn page ⌝ }
+{
+    let nets = page.nets;
+    let cash = page.cash;
+    let vault = page.vault;
+    let size = page.size;
+    let withdrawals = page.withdrawals;
+    Book {
+        nets,
+        cash,
+        vault,
+        size,
+        standing: standing_at(page.marks),
+        withdrawals,
+        trades: page.trades,
+    }
+}
+
+fn is_dated(day: Day) -> bool
+    ensures { λ r. ⌜ r ≡ isDated day ⌝ }
+{
+    match day {
+        Day::Never => false,
+        Day::On(_) => true,
+    }
+}
+
+fn day_number(day: Day) -> u32
+    ensures { λ r. ⌜ r ≡ dayNumber day ⌝ }
+{
+    match day {
+        Day::Never => 0,
+        Day::On(number) => number,
+    }
+}
+
+fn phase_number(phase: Phase) -> u8
+    ensures { λ r. ⌜ r ≡ phaseNumber phase ⌝ }
+{
+    match phase {
+        Phase::Closed => 0,
+        Phase::Trading => 1,
+        Phase::Paid => 2,
+    }
+}
+
+fn status_number(status: Status) -> u8
+    ensures { λ r. ⌜ r ≡ statusNumber status ⌝ }
+{
+    match status {
+        Status::Normal => 0,
+        Status::Suspended => 1,
+        Status::Terminated => 2,
+    }
+}
+
+fn failed_number(failed: FailedRun) -> u8
+    ensures { λ r. ⌜ r ≡ failedNumber failed ⌝ }
+{
+    match failed {
+        FailedRun::NotFailed => 0,
+        FailedRun::FailedOnce => 1,
+        FailedRun::FailedTwice => 2,
+    }
+}
+
+fn short_number(short: ShortRun) -> u8
+    ensures { λ r. ⌜ r ≡ shortNumber short ⌝ }
+{
+    match short {
+        ShortRun::NotShort => 0,
+        ShortRun::ShortOnce => 1,
+        ShortRun::ShortTwice => 2,
+        ShortRun::ShortThrice => 3,
+    }
+}
+
+fn marks_of(standing: Standing) -> Marks
+    ensures { λ r. ⌜ r ≡ marksOf standing ⌝ }
+{
+    let day = standing.day;
+    let phase = standing.phase;
+    let status = standing.status;
+    let failed = standing.failed;
+    let short = standing.short;
+    Marks {
+        dated: is_dated(day),
+        day: day_number(day),
+        phase: phase_number(phase),
+        status: status_number(status),
+        failed: failed_number(failed),
+        short: short_number(short),
+    }
+}
+
+fn page_of(book: Book) -> Page
+    ensures { λ r. ⌜ r ≡ pageOf book ⌝ }
+{
+    let nets = book.nets;
+    let cash = book.cash;
+    let vault = book.vault;
+    let size = book.size;
+    let standing = book.standing;
+    let withdrawals = book.withdrawals;
+    Page {
+        nets,
+        cash,
+        vault,
+        size,
+        marks: marks_of(standing),
+        withdrawals,
+        trades: book.trades,
+    }
+}
+
+// What an event leaves, in two parts: the proof of the call over a lent table only hands it on.
+pub fn page_after(applied: Applied) -> Page
+    ensures { λ r. ⌜ r ≡ pageOf (applied .book) ⌝ }
+{
+    let book = applied.book;
+    page_of(book)
+}
+
+pub fn answer_of(applied: Applied) -> Answer
+    ensures { λ r. ⌜ r ≡ applied .answer ⌝ }
+{
+    applied.answer
+}
