@@ -1,17 +1,19 @@
 //! The proved calls of the archive, each behind a safe function. The
 //! declarations repeat `crates/exports`; nothing checks one against the other.
 
+pub mod book;
+
 use model::event::EVENT_BYTES;
 use model::journal::Line;
 
 #[repr(C)]
-#[derive(Clone, Copy)]
+#[derive(Clone, Copy, Debug, PartialEq, Eq)]
 struct Fen(u64);
 #[repr(C)]
-#[derive(Clone, Copy)]
+#[derive(Clone, Copy, Debug, PartialEq, Eq)]
 struct Sheets(u64);
 #[repr(C)]
-#[derive(Clone, Copy)]
+#[derive(Clone, Copy, Debug, PartialEq, Eq)]
 struct Ticks(u32);
 
 #[repr(C)]

@@ -1,0 +1,75 @@
+//! Single calls on a book and its lent table against the model: the answer with
+//! its figures, the whole book and the whole table after every event.
+
+use compare::proved::book::{apply, table, Page};
+use model::answer::Answer;
+use model::book::{Book, Trade};
+use model::event::{Event, EVENT_BYTES};
+use model::generator::{corpus, generate_as, Profile};
+use model::journal::parse;
+use model::limits::{CAPACITY, CASH, NET, RATE, SIZE};
+use model::step;
+
+/// One event on both sides, which have to answer and to leave the same.
+fn both(calendar: &[u32], book: &mut Book, trades: &mut [Trade], event: &[u8; EVENT_BYTES]) -> Answer {
+    let (mut page, mut lent) = (Page::from(&*book), table(trades));
+    let got = apply(calendar, &mut page, &mut lent, event);
+    let wanted = step::apply(calendar, book, trades, event);
+    assert_eq!(got, wanted);
+    assert_eq!(page, Page::from(&*book));
+    assert_eq!(lent, table(trades));
+    got
+}
+
+#[test]
+fn journals_event_by_event_agree_on_tables_of_many_lengths() {
+    let mut accepted = 0;
+    for (place, (_, bytes)) in (0..).zip(corpus(20_000..20_400)) {
+        let Ok(journal) = parse(&bytes) else { continue };
+        let slots = [0, 1, 3, 40, 300, CAPACITY][place % 6];
+        let (mut book, mut trades) = (Book::fresh(), vec![Trade::default(); slots]);
+        for event in journal.events {
+            let answer = both(&journal.calendar, &mut book, &mut trades, event);
+            accepted += u32::from(answer.is_accepted());
+        }
+    }
+    assert!(accepted > 10_000, "only {accepted} events were accepted");
+}
+
+/// A change that makes a book, or its table, unfit.
+type Damage = fn(&mut Book, &mut Vec<Trade>);
+
+const DAMAGES: [Damage; 12] = [
+    |_, trades| trades.resize(CAPACITY + 1, Trade::default()),
+    |book, trades| trades.truncate(book.trades - 1),
+    |_, trades| trades[1].contract = trades[0].contract,
+    |_, trades| trades[0].first_payment = u32::MAX,
+    |book, _| book.size = SIZE + 1,
+    |book, _| book.size = 0,
+    |book, _| book.own = CASH + 1,
+    |book, _| book.rates[31] = RATE + 1,
+    |book, _| book.holdings[7].frozen = book.holdings[7].effective + 1,
+    |book, _| book.cleared_net = -NET - 1,
+    |book, _| book.applications = 129,
+    |book, _| book.day = None,
+];
+
+#[test]
+fn an_unfit_book_is_answered_1_and_left() {
+    let bytes = generate_as(Profile::FullTable, 1);
+    let journal = parse(&bytes).expect("no damage in this profile");
+    let (mut book, mut trades) = (Book::fresh(), vec![Trade::default(); 300]);
+    let until = journal.events.iter().position(|event| {
+        step::apply(&journal.calendar, &mut book, &mut trades, event);
+        book.trades == 200
+    });
+    assert!(until.is_some(), "the journal makes 200 trades");
+    for damage in DAMAGES {
+        let (mut book, mut trades) = (book.clone(), trades.clone());
+        damage(&mut book, &mut trades);
+        let answer = both(&journal.calendar, &mut book, &mut trades, &Event::Pay.encode());
+        assert_eq!(answer.number, 1);
+    }
+    let long = [u32::MAX; 1_201];
+    assert_eq!(both(&long, &mut book, &mut trades, &Event::Pay.encode()).number, 1);
+}
