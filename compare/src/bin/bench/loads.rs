@@ -21,19 +21,19 @@ fn load(name: &'static str, events: Vec<Event>) -> Load {
 }
 
 /// Two years of five days in seven.
-fn weekdays() -> Vec<u32> {
+pub fn weekdays() -> Vec<u32> {
     let word =
         |first: u32| (0..32).filter(|bit| (first + bit) % 7 < 5).fold(0, |word, bit| word | 1 << bit);
     (0..23).map(|place| word(32 * place)).collect()
 }
 
 /// The trading day that stands at `place` of the calendar.
-fn day(place: u32) -> u32 {
+pub fn day(place: u32) -> u32 {
     place / 5 * 7 + place % 5
 }
 
 /// Funds, size, rates of all securities, and units of every kind pledged on the first day.
-fn set_up(units: u64) -> Vec<Event> {
+pub fn set_up(units: u64) -> Vec<Event> {
     let mut events = vec![
         Event::Size { sheets: SIZE },
         Event::FundIn { account: Account::Own, fen: 4_000_000_000_000 },
@@ -46,7 +46,7 @@ fn set_up(units: u64) -> Vec<Event> {
     events
 }
 
-fn trade(random: &mut Random, contract: u64, due: u32) -> Event {
+pub fn trade(random: &mut Random, contract: u64, due: u32) -> Event {
     let sheets = 10 * random.between(1, 500);
     let price = random.between(1_500, 3_000) as u32;
     Event::Initial(Terms { contract, sheets, price, fallback: 300, due })

@@ -1,0 +1,181 @@
+//! Single calls to measure: fitness, one event, its answer and the table
+//! written, on books with more and more trades.
+
+use std::hint::black_box;
+use std::ops::Range;
+
+use compare::proved;
+use model::answer::Answer;
+use model::book::{Book, Trade};
+use model::event::{Account, Event, EVENT_BYTES};
+use model::generator::random::Random;
+use model::limits::{CAPACITY, DAYS_AHEAD};
+use model::step;
+
+use crate::loads;
+
+#[derive(Clone, Copy, PartialEq)]
+enum Kind {
+    FundIn,
+    Initial,
+    Close,
+}
+
+/// Which event, and on what table.
+#[derive(Clone, Copy)]
+pub struct Shape {
+    kind: Kind,
+    pub trades: usize,
+    pub slots: usize,
+    /// Contracts in rising order: easier to sort than drawn ones.
+    rising: bool,
+}
+
+/// All single calls, those of one event together.
+pub fn shapes() -> impl Iterator<Item = Shape> {
+    [Kind::FundIn, Kind::Initial, Kind::Close].into_iter().flat_map(|kind| {
+        let tight = [16, 256, 1_024, CAPACITY].map(|trades| Shape::tight(kind, trades));
+        let roomy = [16, 256].map(|trades| Shape { slots: CAPACITY, ..Shape::tight(kind, trades) });
+        let rising = [Shape { rising: true, ..Shape::tight(kind, CAPACITY) }];
+        tight.into_iter().chain(roomy).chain(rising)
+    })
+}
+
+impl Shape {
+    /// A table with one slot to spare, where one may be so large.
+    fn tight(kind: Kind, trades: usize) -> Shape {
+        Shape { kind, trades, slots: CAPACITY.min(trades + 1), rising: false }
+    }
+
+    fn is_tight(&self) -> bool {
+        self.slots <= self.trades + 1 && !self.rising
+    }
+
+    /// Whether the two differ in their trades alone.
+    pub fn grows_to(&self, larger: &Shape) -> bool {
+        self.kind == larger.kind && self.trades < larger.trades && self.is_tight() && larger.is_tight()
+    }
+
+    pub fn name(&self) -> String {
+        let kind = match self.kind {
+            Kind::FundIn => "fund",
+            Kind::Initial => "initial",
+            Kind::Close => "close",
+        };
+        let more = match (self.is_tight(), self.rising) {
+            (true, _) => String::new(),
+            (_, true) => "-rising".to_string(),
+            (_, false) => format!("-of-{}", self.slots),
+        };
+        format!("{kind}-{}{more}", self.trades)
+    }
+
+    /// An Initial needs a slot, so the largest table has one trade less for it.
+    pub fn in_use(&self) -> usize {
+        match self.kind {
+            Kind::Initial => self.trades.min(self.slots - 1),
+            Kind::FundIn | Kind::Close => self.trades,
+        }
+    }
+
+    fn event(&self) -> Event {
+        match self.kind {
+            Kind::FundIn => Event::FundIn { account: Account::Own, fen: 1 },
+            Kind::Initial => loads::trade(&mut Random::new(5), u64::MAX, loads::day(3)),
+            Kind::Close => Event::Close,
+        }
+    }
+
+    /// Up to the day after the trades were made, one in four of them due; for a
+    /// Close up to that day's Pay, with applications.
+    fn history(&self) -> Vec<Event> {
+        let mut random = Random::new(4);
+        let mut events = loads::set_up(1_000_000_000);
+        events.push(Event::Open);
+        events.extend((0..self.in_use()).map(|place| {
+            let due = if place % 4 == 0 { loads::day(2) } else { loads::day(1) + DAYS_AHEAD };
+            let contract = if self.rising { place as u64 } else { random.any() };
+            loads::trade(&mut random, contract, due)
+        }));
+        events.extend([Event::Pay, Event::Close, Event::Open]);
+        if self.kind == Kind::Close {
+            events.extend((0..8).map(|kind| Event::Withdraw { kind, units: 1_000 }));
+            events.push(Event::Pay);
+        }
+        events
+    }
+}
+
+/// One event on one book, on both sides.
+pub struct Call {
+    calendar: Vec<u32>,
+    event: [u8; EVENT_BYTES],
+    pub proved: Desk<proved::book::Page, proved::book::Trade>,
+    pub model: Desk<Book, Trade>,
+}
+
+impl Call {
+    /// Sees both sides accept the event and leave the same.
+    pub fn new(shape: Shape) -> Call {
+        let (calendar, mut book, mut table) =
+            (loads::weekdays(), Book::fresh(), vec![Trade::default(); shape.slots]);
+        let history: Vec<_> = shape.history().iter().map(Event::encode).collect();
+        step::run(&calendar, &mut book, &mut table, &history, |_, answer, _, _| {
+            assert_eq!(answer.number, 0);
+        });
+        let mut call = Call {
+            calendar,
+            event: shape.event().encode(),
+            proved: Desk::new((&book).into(), proved::book::table(&table)),
+            model: Desk::new(book, table),
+        };
+        let answer = call.model_answer();
+        assert_eq!(answer.number, 0);
+        assert_eq!(call.proved_answer(), answer);
+        assert_eq!(call.proved.book, (&call.model.book).into());
+        assert_eq!(call.proved.table, proved::book::table(&call.model.table));
+        call.proved.note_changes();
+        call.model.note_changes();
+        call
+    }
+
+    pub fn proved_answer(&mut self) -> Answer {
+        let Desk { book, table, .. } = &mut self.proved;
+        proved::book::apply(&self.calendar, book, table, &self.event)
+    }
+
+    pub fn model_answer(&mut self) -> Answer {
+        let Desk { book, table, .. } = &mut self.model;
+        step::apply(&self.calendar, book, table, &self.event)
+    }
+}
+
+/// A book and its table, and what they were before the call.
+pub struct Desk<B, T> {
+    book: B,
+    table: Vec<T>,
+    book_before: B,
+    table_before: Vec<T>,
+    changed: Range<usize>,
+}
+
+impl<B: Clone, T: Copy + PartialEq> Desk<B, T> {
+    fn new(book: B, table: Vec<T>) -> Desk<B, T> {
+        Desk { book_before: book.clone(), table_before: table.clone(), book, table, changed: 0..0 }
+    }
+
+    /// Only slots that the call changes are put back, so that a small call is
+    /// not lost in copying a large table.
+    fn note_changes(&mut self) {
+        let changed = |slot: &usize| self.table[*slot] != self.table_before[*slot];
+        let mut slots = (0..self.table.len()).filter(changed);
+        self.changed = slots.next().map_or(0..0, |first| first..slots.next_back().unwrap_or(first) + 1);
+    }
+
+    pub fn restore(&mut self) {
+        self.book.clone_from(&self.book_before);
+        let changed = self.changed.clone();
+        self.table[changed.clone()].copy_from_slice(&self.table_before[changed]);
+        black_box(&mut self.table);
+    }
+}
