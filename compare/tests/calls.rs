@@ -1,7 +1,8 @@
 //! Single calls on a book and its lent table against the model: the answer with
-//! its figures, the whole book and the whole table after every event.
+//! its figures, the whole book and the whole table after every event, and then
+//! headroom and O.
 
-use compare::proved::book::{apply, table, Page};
+use compare::proved::book::{apply, cover, table, Page};
 use model::answer::Answer;
 use model::book::{Book, Trade};
 use model::event::{Event, EVENT_BYTES};
@@ -18,7 +19,17 @@ fn both(calendar: &[u32], book: &mut Book, trades: &mut [Trade], event: &[u8; EV
     assert_eq!(got, wanted);
     assert_eq!(page, Page::from(&*book));
     assert_eq!(lent, table(trades));
+    assert_eq!(cover(calendar, &page, &lent), counted(calendar, book, trades));
     got
+}
+
+/// Headroom and O, or 1 and nothing for an unfit book.
+fn counted(calendar: &[u32], book: &Book, trades: &[Trade]) -> (u32, i64, u64) {
+    if book.is_fit(calendar, trades) {
+        (0, book.headroom(trades), book.outstanding(trades))
+    } else {
+        (1, 0, 0)
+    }
 }
 
 #[test]

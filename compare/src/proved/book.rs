@@ -93,6 +93,13 @@ struct Answer {
     dropped: u32,
 }
 
+#[repr(C)]
+struct Cover {
+    number: u8,
+    headroom: i64,
+    outstanding: Sheets,
+}
+
 extern "C" {
     fn book_apply(
         calendar: *const u32,
@@ -103,6 +110,13 @@ extern "C" {
         event: *const u8,
         bytes: usize,
     ) -> Answer;
+    fn book_cover(
+        calendar: *const u32,
+        words: usize,
+        page: *const Page,
+        table: *const Trade,
+        slots: usize,
+    ) -> Cover;
 }
 
 /// One event on a book and its table.
@@ -124,6 +138,13 @@ pub fn apply(
         )
     };
     answer::Answer { number: number.into(), matured: matured.0, done, dropped }
+}
+
+/// Headroom and O of a book over its table, beside the number.
+pub fn cover(calendar: &[u32], page: &Page, table: &[Trade]) -> (u32, i64, u64) {
+    let Cover { number, headroom, outstanding } =
+        unsafe { book_cover(calendar.as_ptr(), calendar.len(), page, table.as_ptr(), table.len()) };
+    (number.into(), headroom, outstanding.0)
 }
 
 impl From<&Book> for Page {

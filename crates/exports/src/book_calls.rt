@@ -4,11 +4,13 @@ ghost use lib.ListN.{length};
 ghost use Rattle.money.specs.Causes.{firstOf, numberOf};
 ghost use Rattle.book.specs.Entry.{decoded};
 ghost use Rattle.book.specs.Step.{step};
+ghost use Rattle.book.specs.Cover.{coverOf};
 ghost use Rattle.book.specs.Listing.{listingOf, listingCauses, writtenBy};
 ghost use Rattle.exports.specs.Page.{bookOn, pageOf};
 use crate::page;
 use crate::page::Page;
 use book::answer::Answer;
+use book::answer::Cover;
 use book::trade::Trade;
 
 // One event, as its 40 bytes, on any book and any table.
@@ -26,6 +28,15 @@ pub extern "C" fn book_apply(
     let applied = book::table::apply(calendar, book, table, entry);
     *page = page::page_after(applied);
     page::answer_of(applied)
+}
+
+// Headroom and O of any book over any table.
+#[no_mangle]
+pub extern "C" fn book_cover(calendar: &[u32], page: &Page, table: &[Trade]) -> Cover
+    ensures { λ r. ⌜ r ≡ coverOf (now (calendar .entry)) (bookOn (now (page .entry))) (now (table .entry)) ⌝ }
+{
+    let book = page::book_on(*page);
+    book::table::cover(calendar, book, table)
 }
 
 // The run of a journal's events on a fresh book, seven numbers an event.

@@ -70,7 +70,7 @@ use Rattle.exports.specs.declared.page.Page.{Page}
 use Rattle.exports.specs.Page.{bookOn, pageOf}
 use Rattle.exports.proofs.page.Page as Pg
 use Rattle.exports.proofs.page.Page.Laws as Pg′
-use Rattle.exports.proofs.page.book_on as book-on
+use Rattle.exports.proofs.WalkPage.{page-val, book-val, BookOn, to-book-on, goes-book-on, GetsBook, gets-book}
 use Rattle.exports.proofs.page.book_on.Symbol as book-on-def
 use Rattle.exports.proofs.page.book_on.Symbol.{name as #book-on}
 use Rattle.exports.proofs.page.book_on.Met as book-on-thm
@@ -93,9 +93,6 @@ stayed = (stay-none-slice (0 ∷ []) tt (plain (λ _. u32)) yes, (stay-ref (1 �
 
 -- the contracts that the walk cites
 module _ {M : Type 1} (𝓤 : URA M) (H : Heap 𝓤) (A : Atoms 𝓤) (mem : Memory → SProp 𝓤) (run : Routine → Fun 𝓤) where
-  abbrev BookOn : Contract 𝓤
-  BookOn = tripleOf 𝓤 H A book-on.signature (book-on.spec 𝓤 H A mem run)
-
   abbrev Decode : Contract 𝓤
   Decode = tripleOf 𝓤 H A decode.signature (decode.spec 𝓤 H A mem run)
 
@@ -141,12 +138,6 @@ module _ {M : Type 1} (𝓤 : URA M) (H : Heap 𝓤) (A : Atoms 𝓤) (W : Given
   abbrev dv : Val
   dv = sliceVal (event .ptr) (length (event .now))
 
-  abbrev pv : Page → Val
-  pv page = LL.val Pg.the-type Pg′.the-laws page
-
-  abbrev kv : Book → Val
-  kv book = LL.val Bk.the-type Bk′.the-laws book
-
   abbrev ev : Val
   ev = EL.val Ev.the-type Ev′.the-laws en
 
@@ -180,16 +171,6 @@ module _ {M : Type 1} (𝓤 : URA M) (H : Heap 𝓤) (A : Atoms 𝓤) (W : Given
       -- [obs; the borrow; the table; what calendar owns; what event owns]
       nothing ! $ move ! (5 ∷ 0 ∷ []) $ fjoin ! $ move ! (3 ∷ 0 ∷ []) $ fjoin ! $ move ! (1 ∷ 2 ∷ []) $ feqI ! (List Val) (vptr b₁ o₁ ∷ []) (vptr b₁ o₁ ∷ []) refl $ fjoin3 ! $ fjoin ! $ move ! (1 ∷ 0 ∷ []) $ fjoin ! $ frame ! $
       owned ! An.the-row (Is An.the-row) (LL.makes An.the-type An′.the-plain 𝓤 H A) (left .answer) _ ga $ done !
-
-  -- ---- the call of `book_on`
-  abbrev to-book-on : BookOn 𝓤 H A mem run .Ghost
-  to-book-on = ((tt, tt, tt, (pg, tt), (pv pg ∷ [], tt)), tt)
-
-  goes-book-on : Is Pg.the-row pg (pv pg ∷ []) → ent 𝓤 (sem 𝓤 H A ftrue) (BookOn 𝓤 H A mem run .pre to-book-on)
-  goes-book-on gp = qed W (‵ ftrue ∷ []) ∵ nothing ! $ owned ! Pg.the-row (Is Pg.the-row) (LL.makes Pg.the-type Pg′.the-plain 𝓤 H A) pg _ gp $ fjoin ! $ move ! (1 ∷ 0 ∷ []) $ join ! $ frame ! $ done !
-
-  book-on-said : (r : Book) → ent 𝓤 (ensured 𝓤 H A book-on.ended (book-on.clauses 𝓤 H A mem run) tt (pg, tt) tt r) (fact 𝓤 (r ≡ bk))
-  book-on-said r = exE 𝓤 _ (λ ws. snd∗ 𝓤 (sem 𝓤 H A (lasts book-on.ended tt (pg, tt) ws)) (fact 𝓤 (r ≡ bk)))
 
   -- ---- the call of `decode`
   abbrev to-decode : Decode 𝓤 H A mem run .Ghost
@@ -229,12 +210,12 @@ module _ {M : Type 1} (𝓤 : URA M) (H : Heap 𝓤) (A : Atoms 𝓤) (W : Given
     args = (cal, (bk, (slice-at b o δ ys, (en, tt))))
 
     abbrev to-apply : Apply 𝓤 H A mem run .Ghost
-    to-apply = (((κ, (ν ∷ [], tt)), (q, (fullShare, tt)), tt, args, (cv ∷ [], (kv bk ∷ [], (sliceVal (b, o) n ∷ [], (ev ∷ [], tt))))), tt)
+    to-apply = (((κ, (ν ∷ [], tt)), (q, (fullShare, tt)), tt, args, (cv ∷ [], (book-val bk ∷ [], (sliceVal (b, o) n ∷ [], (ev ∷ [], tt))))), tt)
 
     abbrev Takes : List (Item 𝓤)
     Takes = (‵ (Slice T.the-row (ν ∷ []) b o n δ ys) ⊛ ‵ (flft (ν ∷ []) fullShare)) ∷ (‵ (flft κ q) ⊛ ‵ Own) ∷ []
 
-    goes-apply : Is Bk.the-row bk (kv bk ∷ []) → Is Ev.the-row en (ev ∷ []) → ent 𝓤 (⋆ 𝓤 H A Takes) (Apply 𝓤 H A mem run .pre to-apply)
+    goes-apply : Is Bk.the-row bk (book-val bk ∷ []) → Is Ev.the-row en (ev ∷ []) → ent 𝓤 (⋆ 𝓤 H A Takes) (Apply 𝓤 H A mem run .pre to-apply)
     goes-apply gb ge =
         qed W Takes ∵ split ! $ move ! (2 ∷ []) $ split ! $
         -- [calendar's token; what it owns; the table; ν's token]
@@ -286,11 +267,11 @@ module _ {M : Type 1} (𝓤 : URA M) (H : Heap 𝓤) (A : Atoms 𝓤) (W : Given
     -- [the table; its token; calendar's token; what it owns; event's token; what it owns; the page's cell; the open borrow; obs; auth; _10 at 10; …; _i at 30 - 2 · i; …; _0 at 30]
     abbrev Open : List Trade → List (Item 𝓤) → List (Item 𝓤)
     Open ts rest = ‵ (Slice T.the-row κ₂ b o n γ ts) ∷ ‵ (flft κ₂ q₂) ∷ ‵ (flft κ q) ∷ ‵ Own ∷ ‵ (flft κ₃ q₃) ∷ ‵ OwnE
-        ∷ ‵ (cellAt fullShare (Pg.the-row .mir) (pv pg ∷ []) b₁ o₁) ∷ ‵ (fobor κ₁ q₁ (Body (memory-of Pg.the-row) b₁ o₁ γ₁)) ∷ ‵ (fobs γ₁ (Pg.the-row .coded .code pg)) ∷ ‵ (fauth γ₁ (Pg.the-row .coded .code pg)) ∷ rest
+        ∷ ‵ (cellAt fullShare (Pg.the-row .mir) (page-val pg ∷ []) b₁ o₁) ∷ ‵ (fobor κ₁ q₁ (Body (memory-of Pg.the-row) b₁ o₁ γ₁)) ∷ ‵ (fobs γ₁ (Pg.the-row .coded .code pg)) ∷ ‵ (fauth γ₁ (Pg.the-row .coded .code pg)) ∷ rest
 
     -- the locals where `apply` has returned, with _8 at a page
     abbrev Applied-locals : Page → List (Item 𝓤)
-    Applied-locals page = Locals (‵ (fat fullShare Bk′.mir l₅ 0 (kv bk))) (‵ (fat fullShare Ev′.mir l₆ 0 ev)) (‵ (fat fullShare Ap′.mir l₇ 0 av)) (‵ (fat fullShare Pg′.mir l₈ 0 (pv page))) (‵ (fat fullShare tabMut l₉ 0 (vptr b o))) (‵ (fat fullShare (sliceTy tabMut) l₁₀ 0 (sliceVal (b, o) n))) []
+    Applied-locals page = Locals (‵ (fat fullShare Bk′.mir l₅ 0 (book-val bk))) (‵ (fat fullShare Ev′.mir l₆ 0 ev)) (‵ (fat fullShare Ap′.mir l₇ 0 av)) (‵ (fat fullShare Pg′.mir l₈ 0 (page-val page))) (‵ (fat fullShare tabMut l₉ 0 (vptr b o))) (‵ (fat fullShare (sliceTy tabMut) l₁₀ 0 (sliceVal (b, o) n))) []
 
     -- from `answer_of` on: [obs; the borrow; its token; the table; …; _10 at 9; …; _0 at 29]
     answers : Is Ap.the-row result (av ∷ []) → (ts : List Trade) → length ts ≡ n → ts ≡ left .table → Sq W (Left ts (Applied-locals pg′)) (runs C Λ En mirs.t-9 (atRet En Post))
@@ -318,20 +299,20 @@ module _ {M : Type 1} (𝓤 : URA M) (H : Heap 𝓤) (A : Atoms 𝓤) (W : Given
         land ! (from ! (stop !)) (store ! 14 refl (LL.lawful Pg.the-type Pg′.the-laws 𝓤 H A W .typed pg′ _ (good r w e′ is) .0)) $
         rewrite ! 14 (λ (v : Val). ‵ (fat fullShare Pg′.mir l₈ 0 v)) (ap only (LL.tells Pg.the-type Pg′.the-laws pg′ (w ∷ []) (good r w e′ is))) refl $
         assigns ! (of-opd ! (loads ! (from ! (stop !)) (look ! 14 refl))) (from ! (hop ! (look ! 26 refl) (stop !))) (store-raw ! 6 refl (LL.lawful Pg.the-type Pg′.the-laws 𝓤 H A W .typed pg′ _ (spelled r w e′ is) .0)) $
-        move ! (6 ∷ 7 ∷ 8 ∷ 9 ∷ []) $ owned ! Pg.the-row (Is Pg.the-row) (LL.makes Pg.the-type Pg′.the-plain 𝓤 H A) pg′ _ (spelled r w e′ is) $ move ! (1 ∷ 0 ∷ []) $ closes ! tt Pg.the-row pg′ (pv pg′ ∷ []) b₁ o₁ $
+        move ! (6 ∷ 7 ∷ 8 ∷ 9 ∷ []) $ owned ! Pg.the-row (Is Pg.the-row) (LL.makes Pg.the-type Pg′.the-plain 𝓤 H A) pg′ _ (spelled r w e′ is) $ move ! (1 ∷ 0 ∷ []) $ closes ! tt Pg.the-row pg′ (page-val pg′ ∷ []) b₁ o₁ $
         answers ga ts lt e))))
       where
         good : (r : Page) (w : Val) → r ≡ pg′ → Is Pg.the-row r (w ∷ []) → Is Pg.the-row pg′ (w ∷ [])
         good r w e′ is = subst (λ (y : Page). Is Pg.the-row y (w ∷ [])) e′ is
 
-        spelled : (r : Page) (w : Val) → r ≡ pg′ → Is Pg.the-row r (w ∷ []) → Is Pg.the-row pg′ (pv pg′ ∷ [])
+        spelled : (r : Page) (w : Val) → r ≡ pg′ → Is Pg.the-row r (w ∷ []) → Is Pg.the-row pg′ (page-val pg′ ∷ [])
         spelled r w e′ is = subst (Is Pg.the-row pg′) (LL.tells Pg.the-type Pg′.the-laws pg′ (w ∷ []) (good r w e′ is)) (good r w e′ is)
 
     -- from the table's address on
     abbrev Decoded : List (Item 𝓤)
-    Decoded = Open ys (Locals (‵ (fat fullShare Bk′.mir l₅ 0 (kv bk))) (‵ (fat fullShare Ev′.mir l₆ 0 ev)) (‵ (froom Ap′.mir l₇ 0)) (‵ (fat fullShare Pg′.mir l₈ 0 (pv pg))) (‵ (froom tabMut l₉ 0)) (‵ (froom (sliceTy tabMut) l₁₀ 0)) [])
+    Decoded = Open ys (Locals (‵ (fat fullShare Bk′.mir l₅ 0 (book-val bk))) (‵ (fat fullShare Ev′.mir l₆ 0 ev)) (‵ (froom Ap′.mir l₇ 0)) (‵ (fat fullShare Pg′.mir l₈ 0 (page-val pg))) (‵ (froom tabMut l₉ 0)) (‵ (froom (sliceTy tabMut) l₁₀ 0)) [])
 
-    applies : Is Bk.the-row bk (kv bk ∷ []) → Is Ev.the-row en (ev ∷ []) → Sq W Decoded (runs C Λ En mirs.t-4 (atRet En Post))
+    applies : Is Bk.the-row bk (book-val bk ∷ []) → Is Ev.the-row en (ev ∷ []) → Sq W Decoded (runs C Λ En mirs.t-4 (atRet En Post))
     applies gb ge =
         assigns ! (addr ! (from ! (fld ! refl (hop ! (look-in ! 24 (sub ! 0 refl (whole !))) (stop !))))) (from ! (stop !)) (init ! 12 refl (tt, tt)) $
         assigns ! (agg ! (and-then ! (loads ! (from ! (stop !)) (look ! 12 refl)) (and-then ! (loads ! (from ! (fld ! refl (stop !))) (look-in ! 24 (sub ! 1 refl (whole !)))) (no-more !)))) (from ! (stop !)) (init ! 10 refl (tt, (tt, (record { fits = room .0 }, tt)))) $
@@ -353,31 +334,27 @@ module _ {M : Type 1} (𝓤 : URA M) (H : Heap 𝓤) (A : Atoms 𝓤) (W : Given
     abbrev Begun : List (Item 𝓤)
     Begun = Open ys (Locals (‵ (froom Bk′.mir l₅ 0)) (‵ (froom Ev′.mir l₆ 0)) (‵ (froom Ap′.mir l₇ 0)) (‵ (froom Pg′.mir l₈ 0)) (‵ (froom tabMut l₉ 0)) (‵ (froom (sliceTy tabMut) l₁₀ 0)) [])
 
-    reads : Is Pg.the-row pg (pv pg ∷ []) → Sq W Begun (runs C Λ En mirs.t-1 (atRet En Post))
+    reads : Is Pg.the-row pg (page-val pg ∷ []) → Sq W Begun (runs C Λ En mirs.t-1 (atRet En Post))
     reads gp =
         assigns ! (of-opd ! (loads ! (from ! (hop ! (look ! 26 refl) (stop !))) (look-raw ! 6 refl))) (from ! (stop !)) (init ! 14 refl (LL.lawful Pg.the-type Pg′.the-laws 𝓤 H A W .typed pg _ gp .0)) $
-        nothing ! $ use1 W (raw (BookOn 𝓤 H A mem run .pre to-book-on)) (goes-book-on gp) $
-        calls-at ! fm (BookOn 𝓤 H A mem run) known-book-on to-book-on (and-then ! (loads ! (from ! (stop !)) (look ! 15 refl)) (no-more !)) (λ w.
-        use1 W (later (some (λ (r : Book). (‵ ftrue ⊛ ‵ (Bk.the-row .own r (w ∷ []))) ⊛ raw (ensured 𝓤 H A book-on.ended (book-on.clauses 𝓤 H A mem run) tt (pg, tt) tt r)))) (id⊢ 𝓤 _) $ await ! tt $ pick ! (λ r.
-        split ! $ move ! (1 ∷ []) $ use1 W (raw (fact 𝓤 (r ≡ bk))) (book-on-said r) $ heard ! (r ≡ bk) (λ e. split ! $ drop ! $ peeks ! Bk.the-row (Is Bk.the-row) (shows 𝓤 H A Bk.the-row) r (w ∷ []) (λ is. drop ! $
-        land ! (from ! (stop !)) (init ! 20 refl (LL.lawful Bk.the-type Bk′.the-laws 𝓤 H A W .typed bk _ (good-book r w e is) .0)) $
-        rewrite ! 20 (λ (v : Val). ‵ (fat fullShare Bk′.mir l₅ 0 v)) (ap only (LL.tells Bk.the-type Bk′.the-laws bk (w ∷ []) (good-book r w e is))) refl $
+        nothing ! $ use1 W (raw (BookOn 𝓤 H A mem run .pre (to-book-on 𝓤 H A W mem run pg))) (goes-book-on 𝓤 H A W mem run pg gp) $
+        calls-at ! fm (BookOn 𝓤 H A mem run) known-book-on (to-book-on 𝓤 H A W mem run pg) (and-then ! (loads ! (from ! (stop !)) (look ! 15 refl)) (no-more !)) (λ w.
+        use1 W (later (GetsBook 𝓤 H A W mem run pg w)) (gets-book 𝓤 H A W mem run pg w) $ await ! tt $ learn ! (λ is. drop ! $
+        land ! (from ! (stop !)) (init ! 20 refl (LL.lawful Bk.the-type Bk′.the-laws 𝓤 H A W .typed bk _ is .0)) $
+        rewrite ! 20 (λ (v : Val). ‵ (fat fullShare Bk′.mir l₅ 0 v)) (ap only (LL.tells Bk.the-type Bk′.the-laws bk (w ∷ []) is)) refl $
         move ! (4 ∷ 5 ∷ []) $ use2 W (raw (Decode 𝓤 H A mem run .pre to-decode) ⊛ ‵ OwnE) goes-decode $ split ! $
         -- [pre; what event owns; the table; its token; calendar's token; what it owns; the cell; …; _10 at 10; …; _4 at 22]
         calls-at ! fm (Decode 𝓤 H A mem run) known-decode to-decode (and-then ! (loads ! (from ! (stop !)) (look ! 22 refl)) (no-more !)) (λ u.
         use1 W (later (some (λ (d : Entry). ((‵ (flft κ₃ q₃) ⊛ ‵ ftrue) ⊛ ‵ (Ev.the-row .own d (u ∷ []))) ⊛ raw (ensured 𝓤 H A decode.ended (decode.clauses 𝓤 H A mem run) (κ₃, tt) (event, tt) tt d)))) (id⊢ 𝓤 _) $ await ! tt $ pick ! (λ d.
-        split ! $ move ! (1 ∷ []) $ use1 W (raw (fact 𝓤 (d ≡ en))) (decode-said d) $ heard ! (d ≡ en) (λ e′. split ! $ move ! (1 ∷ []) $ peeks ! Ev.the-row (Is Ev.the-row) (shows 𝓤 H A Ev.the-row) d (u ∷ []) (λ is′. drop ! $ split ! $ move ! (1 ∷ []) $ drop ! $
+        split ! $ move ! (1 ∷ []) $ use1 W (raw (fact 𝓤 (d ≡ en))) (decode-said d) $ heard ! (d ≡ en) (λ e. split ! $ move ! (1 ∷ []) $ peeks ! Ev.the-row (Is Ev.the-row) (shows 𝓤 H A Ev.the-row) d (u ∷ []) (λ is′. drop ! $ split ! $ move ! (1 ∷ []) $ drop ! $
         -- [event's token; what it owns; the table; its token; calendar's token; what it owns; the cell; …]
         move ! (2 ∷ 3 ∷ 4 ∷ 5 ∷ 0 ∷ 1 ∷ []) $
-        land ! (from ! (stop !)) (init ! 18 refl (EL.lawful Ev.the-type Ev′.the-laws 𝓤 H A W tt .typed en _ (good-entry d u e′ is′) .0)) $
-        rewrite ! 18 (λ (v : Val). ‵ (fat fullShare Ev′.mir l₆ 0 v)) (ap only (EL.tells Ev.the-type Ev′.the-laws en (u ∷ []) (good-entry d u e′ is′))) refl $
-        applies (subst (Is Bk.the-row bk) (LL.tells Bk.the-type Bk′.the-laws bk (w ∷ []) (good-book r w e is)) (good-book r w e is)) (subst (Is Ev.the-row en) (EL.tells Ev.the-type Ev′.the-laws en (u ∷ []) (good-entry d u e′ is′)) (good-entry d u e′ is′))))))))))
+        land ! (from ! (stop !)) (init ! 18 refl (EL.lawful Ev.the-type Ev′.the-laws 𝓤 H A W tt .typed en _ (good d u e is′) .0)) $
+        rewrite ! 18 (λ (v : Val). ‵ (fat fullShare Ev′.mir l₆ 0 v)) (ap only (EL.tells Ev.the-type Ev′.the-laws en (u ∷ []) (good d u e is′))) refl $
+        applies (subst (Is Bk.the-row bk) (LL.tells Bk.the-type Bk′.the-laws bk (w ∷ []) is) is) (subst (Is Ev.the-row en) (EL.tells Ev.the-type Ev′.the-laws en (u ∷ []) (good d u e is′)) (good d u e is′))))))))
       where
-        good-book : (r : Book) (w : Val) → r ≡ bk → Is Bk.the-row r (w ∷ []) → Is Bk.the-row bk (w ∷ [])
-        good-book r w e is = subst (λ (y : Book). Is Bk.the-row y (w ∷ [])) e is
-
-        good-entry : (d : Entry) (u : Val) → d ≡ en → Is Ev.the-row d (u ∷ []) → Is Ev.the-row en (u ∷ [])
-        good-entry d u e is = subst (λ (y : Entry). Is Ev.the-row y (u ∷ [])) e is
+        good : (d : Entry) (u : Val) → d ≡ en → Is Ev.the-row d (u ∷ []) → Is Ev.the-row en (u ∷ [])
+        good d u e is = subst (λ (y : Entry). Is Ev.the-row y (u ∷ [])) e is
 
     abbrev Start : List (Item 𝓤)
     Start = Locals (‵ (froom Bk′.mir l₅ 0)) (‵ (froom Ev′.mir l₆ 0)) (‵ (froom Ap′.mir l₇ 0)) (‵ (froom Pg′.mir l₈ 0)) (‵ (froom tabMut l₉ 0)) (‵ (froom (sliceTy tabMut) l₁₀ 0)) ((‵ (flft κ q) ⊛ ‵ (flft κ₁ q₁) ⊛ ‵ (flft κ₂ q₂) ⊛ ‵ (flft κ₃ q₃) ⊛ ‵ ftrue) ∷ ‵ (owns (ShrSlice (named 0) κ u32 ∷ MutRef (named 1) κ₁ Pg.the-row ∷ MutSlice (named 2) κ₂ T.the-row ∷ ShrSlice (named 3) κ₃ u8 ∷ []) x at) ∷ [])
@@ -390,7 +367,7 @@ module _ {M : Type 1} (𝓤 : URA M) (H : Heap 𝓤) (A : Atoms 𝓤) (W : Given
         -- [event's token; the table's; the page's; calendar's; what event owns; the table; the page; what calendar owns; _10 at 8; …]
         move ! (6 ∷ []) $ fsplit3 ! $ drop ! $ move ! (0 ∷ 1 ∷ 4 ∷ []) $
         opens ! tt Pg.the-row {h = pg} b₁ o₁ (λ vs. spelt ! Pg.the-row (Is Pg.the-row) (shows 𝓤 H A Pg.the-row) (LL.vals Pg.the-type Pg′.the-laws) (LL.tells Pg.the-type Pg′.the-laws) fullShare pg vs b₁ o₁ $
-        move ! (1 ∷ []) $ peeks ! Pg.the-row (Is Pg.the-row) (shows 𝓤 H A Pg.the-row) pg (pv pg ∷ []) (λ gp. drop ! $
+        move ! (1 ∷ []) $ peeks ! Pg.the-row (Is Pg.the-row) (shows 𝓤 H A Pg.the-row) pg (page-val pg ∷ []) (λ gp. drop ! $
         -- [the cell; the open borrow; obs; auth; event's token; the table's; calendar's; what event owns; the table; what calendar owns; _10 at 10; …]
         move ! (8 ∷ 5 ∷ 6 ∷ 9 ∷ 4 ∷ 7 ∷ 0 ∷ 1 ∷ 2 ∷ 3 ∷ []) $ reads gp))
 

@@ -1,0 +1,2 @@
+-- What the walks by hand of the calls on a page share.
+pub mod WalkPage
