@@ -18,9 +18,9 @@ use denote.Struct.Laws as LL
 use denote.Triple.Clauses.{ensured, lasts}
 use denote.Triple.Spec.{tripleOf}
 use denote.Triple.Statement.{Contract}
-use Rattle.book.specs.declared.book.Book.{Book}
-use Rattle.book.proofs.book.Book as Bk
-use Rattle.book.proofs.book.Book.Laws as Bk′
+use Rattle.rules.specs.declared.book.Book.{Book}
+use Rattle.rules.proofs.book.Book as Bk
+use Rattle.rules.proofs.book.Book.Laws as Bk′
 use Rattle.exports.specs.declared.page.Page.{Page}
 use Rattle.exports.specs.Page.{bookOn}
 use Rattle.exports.proofs.page.Page as Pg

@@ -3,18 +3,18 @@
 use Prim.Native.Nat.{ℕ}
 use mathlib.Core.Bool.{Bool, true, false, cond}
 use lib.Dec.{eqb}
-use Rattle.book.specs.declared.book.Book.{Book}
-use Rattle.book.specs.declared.book.Standing.{Standing}
-use Rattle.book.specs.declared.book.Day.{Day}
-use Rattle.book.specs.declared.book.Day.the-variants.{Never, On}
-use Rattle.book.specs.declared.book.Phase.{Phase}
-use Rattle.book.specs.declared.book.Phase.the-variants.{Closed, Trading, Paid}
-use Rattle.book.specs.declared.book.Status.{Status}
-use Rattle.book.specs.declared.book.Status.the-variants.{Normal, Suspended, Terminated}
-use Rattle.book.specs.declared.book.FailedRun.{FailedRun}
-use Rattle.book.specs.declared.book.FailedRun.the-variants.{NotFailed, FailedOnce, FailedTwice}
-use Rattle.book.specs.declared.book.ShortRun.{ShortRun}
-use Rattle.book.specs.declared.book.ShortRun.the-variants.{NotShort, ShortOnce, ShortTwice, ShortThrice}
+use Rattle.rules.specs.declared.book.Book.{Book}
+use Rattle.rules.specs.declared.book.Standing.{Standing}
+use Rattle.rules.specs.declared.book.Day.{Day}
+use Rattle.rules.specs.declared.book.Day.the-variants.{Never, On}
+use Rattle.rules.specs.declared.book.Phase.{Phase}
+use Rattle.rules.specs.declared.book.Phase.the-variants.{Closed, Trading, Paid}
+use Rattle.rules.specs.declared.book.Status.{Status}
+use Rattle.rules.specs.declared.book.Status.the-variants.{Normal, Suspended, Terminated}
+use Rattle.rules.specs.declared.book.FailedRun.{FailedRun}
+use Rattle.rules.specs.declared.book.FailedRun.the-variants.{NotFailed, FailedOnce, FailedTwice}
+use Rattle.rules.specs.declared.book.ShortRun.{ShortRun}
+use Rattle.rules.specs.declared.book.ShortRun.the-variants.{NotShort, ShortOnce, ShortTwice, ShortThrice}
 use Rattle.exports.specs.declared.page.Marks.{Marks}
 use Rattle.exports.specs.declared.page.Page.{Page}
 

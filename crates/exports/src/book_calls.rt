@@ -2,16 +2,16 @@
 ghost use mathlib.Core.Path.{_≡_};
 ghost use lib.ListN.{length};
 ghost use Rattle.money.specs.Causes.{firstOf, numberOf};
-ghost use Rattle.book.specs.Entry.{decoded};
-ghost use Rattle.book.specs.Step.{step};
-ghost use Rattle.book.specs.Cover.{coverOf};
-ghost use Rattle.book.specs.Listing.{listingOf, listingCauses, writtenBy};
+ghost use Rattle.rules.specs.Entry.{decoded};
+ghost use Rattle.rules.specs.Step.{step};
+ghost use Rattle.rules.specs.Cover.{coverOf};
+ghost use Rattle.rules.specs.Listing.{listingOf, listingCauses, writtenBy};
 ghost use Rattle.exports.specs.Page.{bookOn, pageOf};
 use crate::page;
 use crate::page::Page;
-use book::answer::Answer;
-use book::answer::Cover;
-use book::trade::Trade;
+use rules::answer::Answer;
+use rules::answer::Cover;
+use rules::trade::Trade;
 
 // One event, as its 40 bytes, on any book and any table.
 #[no_mangle]

@@ -1,19 +1,19 @@
 // A book in plain numbers, and back: no enum crosses to C, so each of its cases is told by its place, from 0.
 ghost use mathlib.Core.Path.{_≡_};
 ghost use Rattle.exports.specs.Page.{dayAt, phaseAt, statusAt, failedAt, shortAt, standingAt, bookOn, isDated, dayNumber, phaseNumber, statusNumber, failedNumber, shortNumber, marksOf, pageOf};
-use book::answer::Answer;
-use book::answer::Applied;
-use book::book::Book;
-use book::book::Cash;
-use book::book::Day;
-use book::book::FailedRun;
-use book::book::Nets;
-use book::book::Phase;
-use book::book::ShortRun;
-use book::book::Standing;
-use book::book::Status;
-use book::book::Vault;
-use book::book::Withdrawals;
+use rules::answer::Answer;
+use rules::answer::Applied;
+use rules::book::Book;
+use rules::book::Cash;
+use rules::book::Day;
+use rules::book::FailedRun;
+use rules::book::Nets;
+use rules::book::Phase;
+use rules::book::ShortRun;
+use rules::book::Standing;
+use rules::book::Status;
+use rules::book::Vault;
+use rules::book::Withdrawals;
 use money::units::Sheets;
 
 // Where the firm stands. `day` counts where `dated`.

@@ -40,24 +40,24 @@ use denote.Triple.Statement.{Contract, Triple}
 use denote.Triple.Table.{entered, cited}
 use denote.Triple.Walked.{says, Stays, stay-none-slice, stay-slice, stay-ref, walkOf, Walks, ends-at, walked, goes-none-slice, goes-slice, goes-ref, walk-meets}
 use denote.Exit.{yes}
-use Rattle.book.specs.declared.book.Book.{Book}
-use Rattle.book.specs.declared.trade.Trade.{Trade}
-use Rattle.book.specs.declared.event.Entry.{Entry}
-use Rattle.book.specs.declared.answer.Answer.{Answer}
-use Rattle.book.specs.declared.answer.Applied.{Applied}
-use Rattle.book.specs.Entry.{decoded}
-use Rattle.book.specs.Step.{Outcome, step}
+use Rattle.rules.specs.declared.book.Book.{Book}
+use Rattle.rules.specs.declared.trade.Trade.{Trade}
+use Rattle.rules.specs.declared.event.Entry.{Entry}
+use Rattle.rules.specs.declared.answer.Answer.{Answer}
+use Rattle.rules.specs.declared.answer.Applied.{Applied}
+use Rattle.rules.specs.Entry.{decoded}
+use Rattle.rules.specs.Step.{Outcome, step}
 use Rattle.book.specs.Flat.{appliedOf}
 use Rattle.book.proofs.WalkAgain.{slice-at, Slice, lends, comes-home}
-use Rattle.book.proofs.trade.Trade as T
-use Rattle.book.proofs.book.Book as Bk
-use Rattle.book.proofs.book.Book.Laws as Bk′
-use Rattle.book.proofs.event.Entry as Ev
-use Rattle.book.proofs.event.Entry.Laws as Ev′
-use Rattle.book.proofs.answer.Answer as An
-use Rattle.book.proofs.answer.Answer.Laws as An′
-use Rattle.book.proofs.answer.Applied as Ap
-use Rattle.book.proofs.answer.Applied.Laws as Ap′
+use Rattle.rules.proofs.trade.Trade as T
+use Rattle.rules.proofs.book.Book as Bk
+use Rattle.rules.proofs.book.Book.Laws as Bk′
+use Rattle.rules.proofs.event.Entry as Ev
+use Rattle.rules.proofs.event.Entry.Laws as Ev′
+use Rattle.rules.proofs.answer.Answer as An
+use Rattle.rules.proofs.answer.Answer.Laws as An′
+use Rattle.rules.proofs.answer.Applied as Ap
+use Rattle.rules.proofs.answer.Applied.Laws as Ap′
 use Rattle.book.proofs.decode.decode as decode
 use Rattle.book.proofs.decode.decode.Symbol as decode-def
 use Rattle.book.proofs.decode.decode.Symbol.{name as #decode}

@@ -37,15 +37,15 @@ use denote.Triple.Statement.{Contract, Triple}
 use denote.Triple.Table.{entered, cited}
 use denote.Triple.Walked.{says, Stays, stay-none-slice, stay-none-ref, walkOf, Walks, ends-at, walked, goes-none-slice, goes-none-ref, walk-meets}
 use denote.Exit.{yes}
-use Rattle.book.specs.declared.book.Book.{Book}
-use Rattle.book.specs.declared.trade.Trade.{Trade}
-use Rattle.book.specs.declared.answer.Cover.{Cover}
-use Rattle.book.specs.Cover.{coverOf}
-use Rattle.book.proofs.trade.Trade as T
-use Rattle.book.proofs.book.Book as Bk
-use Rattle.book.proofs.book.Book.Laws as Bk′
-use Rattle.book.proofs.answer.Cover as Co
-use Rattle.book.proofs.answer.Cover.Laws as Co′
+use Rattle.rules.specs.declared.book.Book.{Book}
+use Rattle.rules.specs.declared.trade.Trade.{Trade}
+use Rattle.rules.specs.declared.answer.Cover.{Cover}
+use Rattle.rules.specs.Cover.{coverOf}
+use Rattle.rules.proofs.trade.Trade as T
+use Rattle.rules.proofs.book.Book as Bk
+use Rattle.rules.proofs.book.Book.Laws as Bk′
+use Rattle.rules.proofs.answer.Cover as Co
+use Rattle.rules.proofs.answer.Cover.Laws as Co′
 use Rattle.book.proofs.table.cover as cover
 use Rattle.book.proofs.table.cover.Symbol as cover-def
 use Rattle.book.proofs.table.cover.Symbol.{name as #cover}
