@@ -40,6 +40,9 @@ pub mod ListingLaws
 -- walks by hand of the functions over a lent table
 pub mod TableLaws
 pub mod WalkAgain
+pub mod WalkFront
+pub mod WalkApply
+pub mod WalkRoom
 pub mod WalkArray
 pub mod WalkCopies
 pub mod WalkLoop

@@ -36,7 +36,7 @@ abbrev pub Shared : (R : RattleType) → Lft → ℕ → ℕ → ℕ → GName �
 Shared R κ b o m δ us = ShrSlice (named 0) κ R .own (slice-at b o δ us) (sliceVal (b, o) m ∷ [])
 
 -- what the holder keeps while the slice is lent on: its own borrow, open, and the lender's part
-abbrev Opened : (R : RattleType) → Lft → Share → GName → ℕ → ℕ → List (R .Denot) → Fml
+abbrev pub Opened : (R : RattleType) → Lft → Share → GName → ℕ → ℕ → List (R .Denot) → Fml
 Opened R κ q γ b o ys = fsep (fobor κ q (Held R (length ys) b o γ)) (fsep (fobs γ (codedHoleys R .code (heres R ys))) (fauth γ (codedHoleys R .code (heres R ys))))
 
 abbrev pub LentOn : (R : RattleType) → Lft → Lft → Share → GName → ℕ → ℕ → GName → List (R .Denot) → Fml
@@ -45,7 +45,7 @@ LentOn R κ κ′ q γ b o δ ys = fsep (flent κ′ (Held R (length ys) b o δ)
 abbrev pub SharedOut : (R : RattleType) → Lft → Lft → Share → GName → ℕ → ℕ → List (R .Denot) → Fml
 SharedOut R κ κ′ q γ b o ys = fsep (flent κ′ (arr-parts (shares R) (length ys) .part fullShare ys b o)) (Opened R κ q γ b o ys)
 
-at-count : (R : RattleType) (b o m : ℕ) (zs : List (R .Denot)) → length zs ≡ m → Room R m → (sliceVal (b, o) m ∷ [] ≡ sliceVal (b, o) (length zs) ∷ []) × Room R (length zs)
+pub at-count : (R : RattleType) (b o m : ℕ) (zs : List (R .Denot)) → length zs ≡ m → Room R m → (sliceVal (b, o) m ∷ [] ≡ sliceVal (b, o) (length zs) ∷ []) × Room R (length zs)
 at-count R b o m zs e room = (ap (λ (j : ℕ). sliceVal (b, o) j ∷ []) (sym e), subst (Room R) (sym e) room)
 
 module _ {M : Type 1} {𝓤 : URA M} {H : Heap 𝓤} {A : Atoms 𝓤} {K : Type 0} {W : Given 𝓤 H A} {Γ : List (Item 𝓤)} {G : Goal 𝓤 H} where

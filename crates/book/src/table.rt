@@ -1,7 +1,8 @@
 // The calls on a book and its lent table: the trades are copied to the core's numbers, the core acts on these, and its trades are
-// copied back. A table of more than 4,096 slots is answered 1 before anything is copied: no book on it is fit.
+// copied back. An entry looks at the slots in use and at the next one, so `apply` copies no more than those. A table of more than
+// 4,096 slots is answered 1 before anything is copied: no book on it is fit.
 ghost use mathlib.Core.Path.{_≡_};
-ghost use Prim.Native.Nat.{_*_, _≤_};
+ghost use Prim.Native.Nat.{_+_, _*_, _≤_, min};
 ghost use lib.ListN.{length};
 ghost use Rattle.rules.specs.Step.{step};
 ghost use Rattle.rules.specs.Cover.{coverOf};
@@ -52,15 +53,35 @@ fn apply_by(
     applied
 }
 
+// One entry by way of numbers of its own.
+fn apply_front(calendar: &[u32], book: Book, table: &mut [Trade], entry: Entry) -> Applied
+    requires { ⌜ length (now table) ≤ 4096 ⌝ }
+    ensures { λ r. ⌜ (r ≡ appliedOf (step (now (calendar .entry)) book (now (table .entry)) entry)) × (now (table .exit) ≡ step (now (calendar .entry)) book (now (table .entry)) entry .table) ⌝ }
+{
+    let mut flat = copies::zeros();
+    apply_by(calendar, book, table, &mut flat, entry)
+}
+
+// Those in use and the next one: no entry looks at more.
+fn slots_used(book: Book, slots: usize) -> usize
+    ensures { λ r. ⌜ r ≡ min (book .trades + 1) slots ⌝ }
+{
+    if book.trades < slots {
+        return book.trades + 1;
+    }
+    slots
+}
+
 // One entry on any book and any table.
 pub fn apply(calendar: &[u32], book: Book, table: &mut [Trade], entry: Entry) -> Applied
     ensures { λ r. ⌜ (r ≡ appliedOf (step (now (calendar .entry)) book (now (table .entry)) entry)) × (now (table .exit) ≡ step (now (calendar .entry)) book (now (table .entry)) entry .table) ⌝ }
 {
-    if table.len() > 4_096 {
+    let slots = table.len();
+    if slots > 4_096 {
         return step::answered(1, book);
     }
-    let mut flat = copies::zeros();
-    apply_by(calendar, book, table, &mut flat, entry)
+    let used = slots_used(book, slots);
+    apply_front(calendar, book, &mut table[..used], entry)
 }
 
 // The core on the first `count` trades of a longer row of numbers.
