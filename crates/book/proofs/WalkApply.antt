@@ -31,20 +31,17 @@ use denote.Triple.Spec.{tripleOf}
 use denote.Triple.Statement.{Contract}
 use denote.Triple.Walked.{says, Stays, stay-none-slice, stay-slice, stay-none, walkOf, ends-at}
 use denote.Exit.{yes}
-use Rattle.book.specs.Book.{Book}
-use Rattle.book.specs.Trades.{Trade}
-use Rattle.book.specs.Entry.{Entry}
-use Rattle.book.specs.declared.answer.Applied.{Applied}
-use Rattle.book.specs.Step.{Outcome, step}
+use Rattle.rules.specs.Step.{Outcome, step}
+use Rattle.rules.proofs.trade.Trade as T
+use Rattle.rules.proofs.book.Book as Bk
+use Rattle.rules.proofs.book.Book.Laws as Bk′
+use Rattle.rules.proofs.event.Entry as Ev
+use Rattle.rules.proofs.event.Entry.Laws as Ev′
+use Rattle.rules.proofs.answer.Applied as B
+use Rattle.rules.proofs.answer.Applied.Laws as B′
+use Rattle.book.specs.Types.{Book, Trade, Entry, Applied}
 use Rattle.book.specs.Flat.{appliedOf}
 use Rattle.book.proofs.WalkAgain.{slice-at, Slice}
-use Rattle.book.proofs.trade.Trade as T
-use Rattle.book.proofs.book.Book as Bk
-use Rattle.book.proofs.book.Book.Laws as Bk′
-use Rattle.book.proofs.event.Entry as Ev
-use Rattle.book.proofs.event.Entry.Laws as Ev′
-use Rattle.book.proofs.answer.Applied as B
-use Rattle.book.proofs.answer.Applied.Laws as B′
 use Rattle.book.proofs.table.apply as apply
 
 -- ---- the types of the parameters, and of a table that is lent on

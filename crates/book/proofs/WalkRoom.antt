@@ -39,23 +39,20 @@ use denote.Triple.Spec.{Meets, tripleOf}
 use denote.Triple.Statement.{Contract, Triple}
 use denote.Triple.Walked.{says, needs, Walks, walked, goes-none-slice, goes-slice, goes-none, walk-meets}
 use denote.Exit.{yes}
-use Rattle.book.specs.Book.{Book}
-use Rattle.book.specs.Trades.{Trade}
-use Rattle.book.specs.Entry.{Entry}
-use Rattle.book.specs.declared.answer.Applied.{Applied}
-use Rattle.book.specs.Step.{Outcome, step}
+use Rattle.rules.specs.Step.{Outcome, step}
+use Rattle.rules.proofs.trade.Trade as T
+use Rattle.rules.proofs.trade.Trade.Laws as T′
+use Rattle.rules.proofs.book.Book as Bk
+use Rattle.rules.proofs.book.Book.Laws as Bk′
+use Rattle.rules.proofs.event.Entry as Ev
+use Rattle.rules.proofs.event.Entry.Laws as Ev′
+use Rattle.rules.proofs.answer.Applied as B
+use Rattle.rules.proofs.answer.Applied.Laws as B′
+use Rattle.book.specs.Types.{Book, Trade, Entry, Applied}
 use Rattle.book.specs.Flat.{appliedOf}
 use Rattle.book.proofs.WalkAgain.{slice-at, Slice, lends, comes-home}
 use Rattle.book.proofs.WalkArray.{arrTy, lends-array, array-home}
 use Rattle.book.proofs.WalkApply.{calTy, tabTy, tabMut, calVal, bookVal, entryVal, clauses, stayed, OwnCal, args, passed, Post, Params, exits}
-use Rattle.book.proofs.trade.Trade as T
-use Rattle.book.proofs.trade.Trade.Laws as T′
-use Rattle.book.proofs.book.Book as Bk
-use Rattle.book.proofs.book.Book.Laws as Bk′
-use Rattle.book.proofs.event.Entry as Ev
-use Rattle.book.proofs.event.Entry.Laws as Ev′
-use Rattle.book.proofs.answer.Applied as B
-use Rattle.book.proofs.answer.Applied.Laws as B′
 use Rattle.book.proofs.table.apply as apply
 
 -- ---- the contracts that the walk cites: `width` numbers are made, whatever they are, and `apply_by` gets them. The functions are private to table.rt, so their contracts are written here, and the proofs of table.rt see that they are these

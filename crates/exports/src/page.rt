@@ -1,6 +1,7 @@
 // A book in plain numbers, and back: no enum crosses to C, so each of its cases is told by its place, from 0.
 ghost use mathlib.Core.Path.{_≡_};
 ghost use Rattle.exports.specs.Page.{dayAt, phaseAt, statusAt, failedAt, shortAt, standingAt, bookOn, isDated, dayNumber, phaseNumber, statusNumber, failedNumber, shortNumber, marksOf, pageOf};
+use money::units::Sheets;
 use rules::answer::Answer;
 use rules::answer::Applied;
 use rules::book::Book;
@@ -14,7 +15,6 @@ use rules::book::Standing;
 use rules::book::Status;
 use rules::book::Vault;
 use rules::book::Withdrawals;
-use money::units::Sheets;
 
 // Where the firm stands. `day` counts where `dated`.
 #[repr(C)]

@@ -42,24 +42,22 @@ use denote.Triple.Table.{entered, cited}
 use denote.Triple.Walked.{Walks, walked, goes-none-slice, goes-slice, goes-none, walk-meets}
 use denote.Exit.{yes}
 use borrow.Table.Elements.{same-len}
-use Rattle.book.specs.Book.{Book, answer}
-use Rattle.book.specs.Trades.{Trade}
-use Rattle.book.specs.Entry.{Entry}
-use Rattle.book.specs.declared.answer.Applied.{Applied}
-use Rattle.book.specs.Step.{Outcome, outcome, step}
+use Rattle.rules.specs.Book.{answer}
+use Rattle.rules.specs.Step.{Outcome, outcome, step}
+use Rattle.rules.proofs.trade.Trade as T
+use Rattle.rules.proofs.book.Book as Bk
+use Rattle.rules.proofs.book.Book.Laws as Bk′
+use Rattle.rules.proofs.event.Entry as Ev
+use Rattle.rules.proofs.event.Entry.Laws as Ev′
+use Rattle.rules.proofs.answer.Applied as B
+use Rattle.rules.proofs.answer.Applied.Laws as B′
+use Rattle.book.specs.Types.{Book, Trade, Entry, Applied}
 use Rattle.book.specs.Flat.{appliedOf}
 use Rattle.book.proofs.TableLaws.{long-step}
-use Rattle.book.proofs.FrontLaws.{withRest, step-used}
+use Rattle.rules.proofs.FrontLaws.{withRest, step-used}
 use Rattle.book.proofs.WalkFront.{lends-front, front-home}
 use Rattle.book.proofs.WalkArray.{big-lit}
 use Rattle.book.proofs.WalkApply.{calTy, tabTy, tabMut, calVal, bookVal, entryVal, UpTo, stayed, OwnCal, args, passed, Post, Params, exits, to, goes, Gets, gets}
-use Rattle.book.proofs.trade.Trade as T
-use Rattle.book.proofs.book.Book as Bk
-use Rattle.book.proofs.book.Book.Laws as Bk′
-use Rattle.book.proofs.event.Entry as Ev
-use Rattle.book.proofs.event.Entry.Laws as Ev′
-use Rattle.book.proofs.answer.Applied as B
-use Rattle.book.proofs.answer.Applied.Laws as B′
 use Rattle.book.proofs.step.answered as answered
 use Rattle.book.proofs.step.answered.Symbol as answered-def
 use Rattle.book.proofs.step.answered.Symbol.{name as #answered}
