@@ -41,8 +41,13 @@ pub mod ListingLaws
 pub mod TableLaws
 pub mod WalkAgain
 pub mod WalkFront
-pub mod WalkApply
-pub mod WalkRoom
 pub mod WalkArray
 pub mod WalkCopies
 pub mod WalkLoop
+pub mod WalkBook
+pub mod WalkApply
+pub mod WalkApplyRoom
+pub mod WalkApplyChoice
+pub mod WalkCover
+pub mod WalkCoverRoom
+pub mod WalkCoverChoice

@@ -1,4 +1,4 @@
-// The lent table's trades as the core's numbers, and back: the two loops over a slice of trades.
+// The lent table's trades as the core's numbers, and back: room for them, and the two loops over a slice of trades.
 ghost use mathlib.Core.Path.{_≡_};
 ghost use Prim.Native.Nat.{_*_, _≤_};
 ghost use lib.ListN.{length};
@@ -6,8 +6,16 @@ ghost use Rattle.book.specs.Flat.{tradesTo};
 use crate::flat;
 use rules::trade::Trade;
 
-// Room for 4,096 trades.
-pub fn zeros() -> [u64; 24_576] {
+// Room for as many trades as the name says, six numbers each.
+pub fn zeros_128() -> [u64; 768] {
+    [0; 768]
+}
+
+pub fn zeros_1024() -> [u64; 6_144] {
+    [0; 6_144]
+}
+
+pub fn zeros_4096() -> [u64; 24_576] {
     [0; 24_576]
 }
 

@@ -1,6 +1,6 @@
 // The calls on a book and its lent table: the trades are copied to the core's numbers, the core acts on these, and its trades are
-// copied back. An entry looks at the slots in use and at the next one, so `apply` copies no more than those. A table of more than
-// 4,096 slots is answered 1 before anything is copied: no book on it is fit.
+// copied back. An entry looks at the slots in use and at the next one, so `apply` and `cover` copy no more than those. A table of
+// more than 4,096 slots is answered 1 before anything is copied: no book on it is fit.
 ghost use mathlib.Core.Path.{_≡_};
 ghost use Prim.Native.Nat.{_+_, _*_, _≤_, min};
 ghost use lib.ListN.{length};
@@ -53,13 +53,50 @@ fn apply_by(
     applied
 }
 
-// One entry by way of numbers of its own.
+// With numbers of its own. To clear them is most of the work where few trades are in use, so there are three sizes.
+fn apply_128(calendar: &[u32], book: Book, table: &mut [Trade], entry: Entry) -> Applied
+    requires { ⌜ length (now table) ≤ 128 ⌝ }
+    ensures { λ r. ⌜ (r ≡ appliedOf (step (now (calendar .entry)) book (now (table .entry)) entry)) × (now (table .exit) ≡ step (now (calendar .entry)) book (now (table .entry)) entry .table) ⌝ }
+{
+    let mut flat = copies::zeros_128();
+    apply_by(calendar, book, table, &mut flat, entry)
+}
+
+fn apply_1024(calendar: &[u32], book: Book, table: &mut [Trade], entry: Entry) -> Applied
+    requires { ⌜ length (now table) ≤ 1024 ⌝ }
+    ensures { λ r. ⌜ (r ≡ appliedOf (step (now (calendar .entry)) book (now (table .entry)) entry)) × (now (table .exit) ≡ step (now (calendar .entry)) book (now (table .entry)) entry .table) ⌝ }
+{
+    let mut flat = copies::zeros_1024();
+    apply_by(calendar, book, table, &mut flat, entry)
+}
+
+fn apply_4096(calendar: &[u32], book: Book, table: &mut [Trade], entry: Entry) -> Applied
+    requires { ⌜ length (now table) ≤ 4096 ⌝ }
+    ensures { λ r. ⌜ (r ≡ appliedOf (step (now (calendar .entry)) book (now (table .entry)) entry)) × (now (table .exit) ≡ step (now (calendar .entry)) book (now (table .entry)) entry .table) ⌝ }
+{
+    let mut flat = copies::zeros_4096();
+    apply_by(calendar, book, table, &mut flat, entry)
+}
+
+// One entry with as few numbers as will do.
+fn apply_more(calendar: &[u32], book: Book, table: &mut [Trade], entry: Entry) -> Applied
+    requires { ⌜ length (now table) ≤ 4096 ⌝ }
+    ensures { λ r. ⌜ (r ≡ appliedOf (step (now (calendar .entry)) book (now (table .entry)) entry)) × (now (table .exit) ≡ step (now (calendar .entry)) book (now (table .entry)) entry .table) ⌝ }
+{
+    if table.len() <= 1_024 {
+        return apply_1024(calendar, book, table, entry);
+    }
+    apply_4096(calendar, book, table, entry)
+}
+
 fn apply_front(calendar: &[u32], book: Book, table: &mut [Trade], entry: Entry) -> Applied
     requires { ⌜ length (now table) ≤ 4096 ⌝ }
     ensures { λ r. ⌜ (r ≡ appliedOf (step (now (calendar .entry)) book (now (table .entry)) entry)) × (now (table .exit) ≡ step (now (calendar .entry)) book (now (table .entry)) entry .table) ⌝ }
 {
-    let mut flat = copies::zeros();
-    apply_by(calendar, book, table, &mut flat, entry)
+    if table.len() <= 128 {
+        return apply_128(calendar, book, table, entry);
+    }
+    apply_more(calendar, book, table, entry)
 }
 
 // Those in use and the next one: no entry looks at more.
@@ -103,15 +140,61 @@ fn cover_by(calendar: &[u32], book: Book, table: &[Trade], flat: &mut [u64]) -> 
     cover_first(calendar, book, &*flat, n)
 }
 
+// With numbers of its own, of three sizes as for an entry.
+fn cover_128(calendar: &[u32], book: Book, table: &[Trade]) -> Cover
+    requires { ⌜ length (now table) ≤ 128 ⌝ }
+    ensures { λ r. ⌜ r ≡ coverOf (now (calendar .entry)) book (now (table .entry)) ⌝ }
+{
+    let mut flat = copies::zeros_128();
+    cover_by(calendar, book, table, &mut flat)
+}
+
+fn cover_1024(calendar: &[u32], book: Book, table: &[Trade]) -> Cover
+    requires { ⌜ length (now table) ≤ 1024 ⌝ }
+    ensures { λ r. ⌜ r ≡ coverOf (now (calendar .entry)) book (now (table .entry)) ⌝ }
+{
+    let mut flat = copies::zeros_1024();
+    cover_by(calendar, book, table, &mut flat)
+}
+
+fn cover_4096(calendar: &[u32], book: Book, table: &[Trade]) -> Cover
+    requires { ⌜ length (now table) ≤ 4096 ⌝ }
+    ensures { λ r. ⌜ r ≡ coverOf (now (calendar .entry)) book (now (table .entry)) ⌝ }
+{
+    let mut flat = copies::zeros_4096();
+    cover_by(calendar, book, table, &mut flat)
+}
+
+fn cover_more(calendar: &[u32], book: Book, table: &[Trade]) -> Cover
+    requires { ⌜ length (now table) ≤ 4096 ⌝ }
+    ensures { λ r. ⌜ r ≡ coverOf (now (calendar .entry)) book (now (table .entry)) ⌝ }
+{
+    if table.len() <= 1_024 {
+        return cover_1024(calendar, book, table);
+    }
+    cover_4096(calendar, book, table)
+}
+
+fn cover_front(calendar: &[u32], book: Book, table: &[Trade]) -> Cover
+    requires { ⌜ length (now table) ≤ 4096 ⌝ }
+    ensures { λ r. ⌜ r ≡ coverOf (now (calendar .entry)) book (now (table .entry)) ⌝ }
+{
+    if table.len() <= 128 {
+        return cover_128(calendar, book, table);
+    }
+    cover_more(calendar, book, table)
+}
+
 // Headroom and O of any book over any table.
 pub fn cover(calendar: &[u32], book: Book, table: &[Trade]) -> Cover
     ensures { λ r. ⌜ r ≡ coverOf (now (calendar .entry)) book (now (table .entry)) ⌝ }
 {
-    if table.len() > 4_096 {
+    let slots = table.len();
+    if slots > 4_096 {
         return cover::refused();
     }
-    let mut flat = copies::zeros();
-    cover_by(calendar, book, table, &mut flat)
+    let used = slots_used(book, slots);
+    cover_front(calendar, book, &table[..used])
 }
 
 // The core on the first `count` trades of a longer row of numbers.
@@ -162,6 +245,6 @@ pub fn run(
     if table.len() > 4_096 {
         return run::refused(1, book);
     }
-    let mut flat = copies::zeros();
+    let mut flat = copies::zeros_4096();
     run_by(calendar, book, table, &mut flat, events, lines)
 }

@@ -1,7 +1,7 @@
 -- `apply` meets its contract, by a walk of its MIR. A table that is too long is answered at once; else the slots that the entry looks at are lent to `apply_front`, and the rest stays.
 -- Assumes nothing.
 use mathlib.Core.Path.{_≡_, refl, sym, _∙_, ap, subst}
-use Prim.Native.Nat.{ℕ, _+_, _≤_, min}
+use Prim.Native.Nat.{ℕ, _≤_}
 use native.Mathlib.Omega.{arith}
 use mathlib.Core.List.{List, [], _∷_, _++_}
 use lib.ListN.{length, take, drop as after}
@@ -26,7 +26,7 @@ use types.Run.{look, init, forget, stop, hop, fld, from, load as loads, addr, li
 use denote.RattleType.{owns}
 use denote.Laws.{Is, shows}
 use denote.Plain.{uint-makes, uint-lawful}
-use denote.Builtin.{u8, u32, usize}
+use denote.Builtin.{u8, u32}
 use denote.Ref.{RefT, now}
 use denote.Slice.{sliceTy, sliceVal, MutSlice, ShrSlice, Room, slice-vals, mut-slice-tells, shr-slice-tells, shr-slice-lawful, shr-slice-copy}
 use denote.Signature.{plain}
@@ -57,12 +57,12 @@ use Rattle.book.proofs.TableLaws.{long-step}
 use Rattle.rules.proofs.FrontLaws.{withRest, step-used}
 use Rattle.book.proofs.WalkFront.{lends-front, front-home}
 use Rattle.book.proofs.WalkArray.{big-lit}
-use Rattle.book.proofs.WalkApply.{calTy, tabTy, tabMut, calVal, bookVal, entryVal, UpTo, stayed, OwnCal, args, passed, Post, Params, exits, to, goes, Gets, gets}
+use Rattle.book.proofs.WalkBook.{calTy, calVal, bookVal, OwnCal, IsUsed, within, Used, calls-used}
+use Rattle.book.proofs.WalkApply.{tabTy, tabMut, entryVal, UpTo, stayed, args, passed, Post, Params, exits, to, goes, Gets, gets}
 use Rattle.book.proofs.step.answered as answered
 use Rattle.book.proofs.step.answered.Symbol as answered-def
 use Rattle.book.proofs.step.answered.Symbol.{name as #answered}
 use Rattle.book.proofs.step.answered.Met as answered-thm
-use Rattle.book.proofs.table.slots_used as used
 use Rattle.book.proofs.table.slots_used.Symbol as used-def
 use Rattle.book.proofs.table.slots_used.Symbol.{name as #used}
 use Rattle.book.proofs.table.slots_used.Met as used-thm
@@ -79,9 +79,6 @@ use Rattle.book.proofs.table.apply.Code.Mir as mirs
 module _ {M : Type 1} (𝓤 : URA M) (H : Heap 𝓤) (A : Atoms 𝓤) (mem : Memory → SProp 𝓤) (run : Routine → Fun 𝓤) where
   abbrev Answered : Contract 𝓤
   Answered = tripleOf 𝓤 H A answered.signature (answered.spec 𝓤 H A mem run)
-
-  abbrev Used : Contract 𝓤
-  Used = tripleOf 𝓤 H A used.signature (used.spec 𝓤 H A mem run)
 
   abbrev Front : Contract 𝓤
   Front = UpTo 𝓤 H A mem run 4096
@@ -117,29 +114,11 @@ module _ {M : Type 1} (𝓤 : URA M) (H : Heap 𝓤) (A : Atoms 𝓤) (W : Given
   answered-said : (r : Applied) → ent 𝓤 (ensured 𝓤 H A answered.ended (answered.clauses 𝓤 H A mem run) tt (1, (bk, tt)) tt r) (fact 𝓤 (r ≡ refused))
   answered-said r = exE 𝓤 _ (λ ws. snd∗ 𝓤 (sem 𝓤 H A (lasts answered.ended tt (1, (bk, tt)) ws)) (fact 𝓤 (r ≡ refused)))
 
-  -- ---- the call of `slots_used`
-  abbrev to-used : Used 𝓤 H A mem run .Ghost
-  to-used = ((tt, tt, tt, (bk, (n, tt)), (bookVal bk ∷ [], (vint w64 n ∷ [], tt))), tt)
-
-  goes-used : Is Bk.the-row bk (bookVal bk ∷ []) → Room T.the-row n → ent 𝓤 (sem 𝓤 H A ftrue) (Used 𝓤 H A mem run .pre to-used)
-  goes-used gb room =
-      qed W (‵ ftrue ∷ []) ∵ nothing ! $ owned ! usize (Is usize) (uint-makes 𝓤 H A W w64) n _ (refl, room .0) $ fjoin ! $
-      owned ! Bk.the-row (Is Bk.the-row) (LL.makes Bk.the-type Bk′.the-plain 𝓤 H A) bk _ gb $ fjoin ! $ move ! (1 ∷ 0 ∷ []) $ join ! $ frame ! $ done !
-
-  abbrev IsUsed : ℕ → Type 0
-  IsUsed k = k ≡ min (bk .trades + 1) n
-
-  used-said : (k : ℕ) → ent 𝓤 (ensured 𝓤 H A used.ended (used.clauses 𝓤 H A mem run) tt (bk, (n, tt)) tt k) (fact 𝓤 (IsUsed k))
-  used-said k = exE 𝓤 _ (λ ws. snd∗ 𝓤 (sem 𝓤 H A (lasts used.ended tt (bk, (n, tt)) ws)) (fact 𝓤 (IsUsed k)))
-
-  within : (k : ℕ) → IsUsed k → k ≤ n
-  within k e = omega (arith, e)
-
   -- what the front leaves, with the rest behind it
-  whole-is : n ≤ 4096 → (k : ℕ) → IsUsed k → left ≡ withRest (step (now cal) bk (take k ys) en) (after k ys)
+  whole-is : n ≤ 4096 → (k : ℕ) → IsUsed bk n k → left ≡ withRest (step (now cal) bk (take k ys) en) (after k ys)
   whole-is few k e = step-used (now cal) bk ys few k e en
 
-  module _ (C : Calls 𝓤 H) (Λ : Loops 𝓤 H) (fm : FmC 𝓤 H (W .laws) C) (known-answered : Triple 𝓤 (C #answered) (Answered 𝓤 H A mem run)) (known-used : Triple 𝓤 (C #used) (Used 𝓤 H A mem run)) (known-front : Triple 𝓤 (C #front) (Front 𝓤 H A mem run))
+  module _ (C : Calls 𝓤 H) (Λ : Loops 𝓤 H) (fm : FmC 𝓤 H (W .laws) C) (known-answered : Triple 𝓤 (C #answered) (Answered 𝓤 H A mem run)) (known-used : Triple 𝓤 (C #used) (Used 𝓤 H A)) (known-front : Triple 𝓤 (C #front) (Front 𝓤 H A mem run))
       (room : Room T.the-row n) (gb : Is Bk.the-row bk (bookVal bk ∷ [])) (ge : Is Ev.the-row en (entryVal en ∷ []))
       (l₀ l₁ l₂ l₃ l₄ l₅ l₆ l₇ l₈ l₉ : ℕ) where
     abbrev word : Ty
@@ -162,44 +141,41 @@ module _ {M : Type 1} (𝓤 : URA M) (H : Heap 𝓤) (A : Atoms 𝓤) (W : Given
     -- the table is short enough: from `slots_used` on
     fronts : n ≤ 4096 → Sq W Tested (runs C Λ En mirs.t-4 (atRet En Ends))
     fronts few =
-        nothing ! $ use1 W (raw (Used 𝓤 H A mem run .pre to-used)) (goes-used gb room) $
-        calls-at ! fm (Used 𝓤 H A mem run) known-used to-used (and-then ! (loads ! (from ! (stop !)) (look ! 19 refl)) (and-then ! (loads ! (from ! (stop !)) (look ! 13 refl)) (no-more !))) (λ u.
-        use1 W (later (some (λ (k : ℕ). (‵ ftrue ⊛ ‵ (usize .own k (u ∷ []))) ⊛ raw (ensured 𝓤 H A used.ended (used.clauses 𝓤 H A mem run) tt (bk, (n, tt)) tt k)))) (id⊢ 𝓤 _) $ await ! tt $ pick ! (λ k.
-        split ! $ move ! (1 ∷ []) $ use1 W (raw (fact 𝓤 (IsUsed k))) (used-said k) $ heard ! (IsUsed k) (λ here. split ! $ drop ! $ peeks ! usize (Is usize) (shows 𝓤 H A usize) k (u ∷ []) (λ is. drop ! $
+        calls-used 𝓤 H A W bk n ! fm known-used gb (room .0) (and-then ! (loads ! (from ! (stop !)) (look ! 19 refl)) (and-then ! (loads ! (from ! (stop !)) (look ! 13 refl)) (no-more !))) (λ u k here is.
         land ! (from ! (stop !)) (init ! 10 refl (uint-lawful 𝓤 H A W w64 .typed k (u ∷ []) is .0)) $ rewrite ! 10 (λ (v : Val). ‵ (fat fullShare word l₆ 0 v)) (ap only (is .0)) refl $
         assigns ! (addr ! (from ! (fld ! refl (hop ! (look-in ! 16 (sub ! 0 refl (whole !))) (stop !))))) (from ! (stop !)) (init ! 6 refl (tt, tt)) $
         assigns ! (agg ! (and-then ! (loads ! (from ! (stop !)) (look ! 6 refl)) (and-then ! (loads ! (from ! (stop !)) (look ! 10 refl)) (no-more !)))) (from ! (stop !)) (init ! 4 refl (tt, (tt, (record { fits = is .1 }, tt)))) $
         -- the front is lent
-        lends-front ! tt T.the-row κ₁ q₁ γ b o n ys refl room k (within k here) (λ ν δ.
+        lends-front ! tt T.the-row κ₁ q₁ γ b o n ys refl room k (within bk n k here) (λ ν δ.
         -- [the front; ν's token; what is kept of the table; calendar's token; what it owns; _9 at 5; …]
-        move ! (4 ∷ []) $ use1 W (‵ (OwnCal 𝓤 H A W mem run κ q cal bk en) ⊛ ‵ (OwnCal 𝓤 H A W mem run κ q cal bk en)) (shr-slice-copy 𝓤 H A W (named 0) κ u32 .twice cal (calVal cal ∷ [])) $ split ! $ move ! (5 ∷ 0 ∷ []) $ join ! $ move ! (2 ∷ 3 ∷ []) $ join ! $
+        move ! (4 ∷ []) $ use1 W (‵ (OwnCal κ cal) ⊛ ‵ (OwnCal κ cal)) (shr-slice-copy 𝓤 H A W (named 0) κ u32 .twice cal (calVal cal ∷ [])) $ split ! $ move ! (5 ∷ 0 ∷ []) $ join ! $ move ! (2 ∷ 3 ∷ []) $ join ! $
         use2 W (raw (Front 𝓤 H A mem run .pre (to-front k ν δ))) (goes 𝓤 H A W mem run κ q cal bk en 4096 ν δ b o k (take k ys) gb ge (short few k here)) $
         -- [pre; what calendar owns; what is kept of the table; _9 at 3; …; _i at 21 - 2 · i; …]
         calls-at ! fm (Front 𝓤 H A mem run) known-front (to-front k ν δ)
         (and-then ! (loads ! (from ! (stop !)) (look ! 19 refl)) (and-then ! (loads ! (from ! (stop !)) (look ! 17 refl)) (and-then ! (loads ! (from ! (stop !)) (look ! 3 refl)) (and-then ! (loads ! (from ! (stop !)) (look ! 13 refl)) (no-more !))))) (λ w.
         use1 W (later (some (Gets 𝓤 H A W mem run κ q cal bk en 4096 ν δ b o k (take k ys) w))) (gets 𝓤 H A W mem run κ q cal bk en 4096 ν δ b o k (take k ys) w) $ await ! tt $ pick ! (λ zs. learn ! (λ e. split ! $ move ! (1 ∷ []) $ split ! $
         -- [the last front; calendar's token; ν's token; what calendar owns; what is kept of the table; _9 at 5; …]
-        move ! (2 ∷ 4 ∷ 0 ∷ []) $ front-home ! tt T.the-row κ₁ q₁ γ b o n ys refl room k (within k here) ν δ zs (many k here zs (e .1 .0)) $
+        move ! (2 ∷ 4 ∷ 0 ∷ []) $ front-home ! tt T.the-row κ₁ q₁ γ b o n ys refl room k (within bk n k here) ν δ zs (many k here zs (e .1 .0)) $
         -- [the table; its token; calendar's token; what it owns; _9 at 4; …; _0 at 22]
         land ! (from ! (stop !)) (init ! 22 refl (LL.lawful B.the-type B′.the-laws 𝓤 H A W .typed result _ (good few k here w (e .1 .1)) .0)) $
         rewrite ! 22 (λ (r : Val). ‵ (fat fullShare B′.mir l₀ 0 r)) (ap only (LL.tells B.the-type B′.the-laws result (w ∷ []) (good few k here w (e .1 .1)))) refl $
         returns ! (look ! 22 refl) $ forget ! 4 refl $ forget ! 6 refl $ forget ! 8 refl $ forget ! 10 refl $ forget ! 12 refl $ forget ! 14 refl $ forget ! 16 refl $ forget ! 18 refl $ forget ! 20 refl $ forget ! 22 refl $
         move ! (22 ∷ 23 ∷ []) $ free1 ! $ move ! (20 ∷ 21 ∷ []) $ free1 ! $ move ! (18 ∷ 19 ∷ []) $ free1 ! $ move ! (16 ∷ 17 ∷ []) $ free1 ! $ move ! (14 ∷ 15 ∷ []) $ free1 ! $ move ! (12 ∷ 13 ∷ []) $ free1 ! $ move ! (10 ∷ 11 ∷ []) $ free1 ! $ move ! (8 ∷ 9 ∷ []) $ free1 ! $ move ! (6 ∷ 7 ∷ []) $ free1 ! $ move ! (4 ∷ 5 ∷ []) $ free1 ! $ free0 ! $
-        by ! (exits 𝓤 H A W mem run κ q cal bk en κ₁ q₁ b o γ ys gb ge (subst (Is B.the-row result) (LL.tells B.the-type B′.the-laws result (w ∷ []) (good few k here w (e .1 .1))) (good few k here w (e .1 .1))) (zs ++ after k ys) (same-len k ys zs (e .1 .0)) (last few k here zs (e .0)))))))))))
+        by ! (exits 𝓤 H A W mem run κ q cal bk en κ₁ q₁ b o γ ys gb ge (subst (Is B.the-row result) (LL.tells B.the-type B′.the-laws result (w ∷ []) (good few k here w (e .1 .1))) (good few k here w (e .1 .1))) (zs ++ after k ys) (same-len k ys zs (e .1 .0)) (last few k here zs (e .0))))))))
       where
         to-front : (k ν : ℕ) (δ : GName) → Front 𝓤 H A mem run .Ghost
         to-front k ν δ = to 𝓤 H A W mem run κ q cal bk en 4096 ν δ b o k (take k ys)
 
-        short : n ≤ 4096 → (k : ℕ) → IsUsed k → length (take k ys) ≤ 4096
-        short few k here = omega (arith, few, within k here, length-take-le k ys (within k here))
+        short : n ≤ 4096 → (k : ℕ) → IsUsed bk n k → length (take k ys) ≤ 4096
+        short few k here = omega (arith, few, within bk n k here, length-take-le k ys (within bk n k here))
 
-        many : (k : ℕ) → IsUsed k → (zs : List Trade) → length zs ≡ length (take k ys) → length zs ≡ k
-        many k here zs e = e ∙ length-take-le k ys (within k here)
+        many : (k : ℕ) → IsUsed bk n k → (zs : List Trade) → length zs ≡ length (take k ys) → length zs ≡ k
+        many k here zs e = e ∙ length-take-le k ys (within bk n k here)
 
-        good : n ≤ 4096 → (k : ℕ) → IsUsed k → (w : Val) → Is B.the-row (appliedOf (step (now cal) bk (take k ys) en)) (w ∷ []) → Is B.the-row result (w ∷ [])
+        good : n ≤ 4096 → (k : ℕ) → IsUsed bk n k → (w : Val) → Is B.the-row (appliedOf (step (now cal) bk (take k ys) en)) (w ∷ []) → Is B.the-row result (w ∷ [])
         good few k here w is = subst (λ (y : Applied). Is B.the-row y (w ∷ [])) (sym (ap appliedOf (whole-is few k here))) is
 
-        last : n ≤ 4096 → (k : ℕ) → IsUsed k → (zs : List Trade) → zs ≡ step (now cal) bk (take k ys) en .table → zs ++ after k ys ≡ left .table
+        last : n ≤ 4096 → (k : ℕ) → IsUsed bk n k → (zs : List Trade) → zs ≡ step (now cal) bk (take k ys) en .table → zs ++ after k ys ≡ left .table
         last few k here zs e = ap (λ (l : List Trade). l ++ after k ys) e ∙ sym (ap (λ (z : Outcome). z .table) (whole-is few k here))
 
     -- the test, and a table that is too long
@@ -235,7 +211,7 @@ module _ {M : Type 1} (𝓤 : URA M) (H : Heap 𝓤) (A : Atoms 𝓤) (W : Given
         move ! (22 ∷ []) $ split ! $ move ! (1 ∷ []) $ split ! $ move ! (1 ∷ []) $ drop ! $ move ! (2 ∷ 0 ∷ 1 ∷ 3 ∷ []) $ tests
 
   module _ (C : Calls 𝓤 H) (Λ : Loops 𝓤 H) where
-    walk : FmC 𝓤 H (W .laws) C → Triple 𝓤 (C #answered) (Answered 𝓤 H A mem run) → Triple 𝓤 (C #used) (Used 𝓤 H A mem run) → Triple 𝓤 (C #front) (Front 𝓤 H A mem run)
+    walk : FmC 𝓤 H (W .laws) C → Triple 𝓤 (C #answered) (Answered 𝓤 H A mem run) → Triple 𝓤 (C #used) (Used 𝓤 H A) → Triple 𝓤 (C #front) (Front 𝓤 H A mem run)
         → Is (ShrSlice (named 0) κ u32) cal (calVal cal ∷ []) → Room T.the-row n → Is Bk.the-row bk (bookVal bk ∷ []) → Is Ev.the-row en (entryVal en ∷ [])
         → ent 𝓤 (onEntry 𝓤 H A apply.signature (κ, (κ₁, tt)) (q, (q₁, tt)) (args 𝓤 H A W mem run κ q cal bk en κ₁ q₁ b o γ ys) (passed 𝓤 H A W mem run κ q cal bk en κ₁ q₁ b o γ ys)) (WpFn 𝓤 H C Λ code.function (calVal cal ∷ bookVal bk ∷ sliceVal (b, o) n ∷ entryVal en ∷ []) Ends)
     walk fm known-answered known-used known-front gc room gb ge =
@@ -245,7 +221,7 @@ module _ {M : Type 1} (𝓤 : URA M) (H : Heap 𝓤) (A : Atoms 𝓤) (W : Given
         pass1 ! (init ! 12 refl (tt, (tt, (record { fits = room .0 }, tt)))) $ pass1 ! (init ! 10 refl (EL.lawful Ev.the-type Ev′.the-laws 𝓤 H A W tt .typed en _ ge .0)) $ pass0 ! $
         starts C Λ fm known-answered known-used known-front room gb ge l₀ l₁ l₂ l₃ l₄ l₅ l₆ l₇ l₈ l₉))))))))))
 
-module _ {M : Type 1} (𝓤 : URA M) (H : Heap 𝓤) (A : Atoms 𝓤) (W : Given 𝓤 H A) (mem : Memory → SProp 𝓤) (run : Routine → Fun 𝓤) (𝓣 : Tables 𝓤 H) (known-answered : Triple 𝓤 (𝓣 .C #answered) (Answered 𝓤 H A mem run)) (known-used : Triple 𝓤 (𝓣 .C #used) (Used 𝓤 H A mem run)) (known-front : Triple 𝓤 (𝓣 .C #front) (Front 𝓤 H A mem run)) where
+module _ {M : Type 1} (𝓤 : URA M) (H : Heap 𝓤) (A : Atoms 𝓤) (W : Given 𝓤 H A) (mem : Memory → SProp 𝓤) (run : Routine → Fun 𝓤) (𝓣 : Tables 𝓤 H) (known-answered : Triple 𝓤 (𝓣 .C #answered) (Answered 𝓤 H A mem run)) (known-used : Triple 𝓤 (𝓣 .C #used) (Used 𝓤 H A)) (known-front : Triple 𝓤 (𝓣 .C #front) (Front 𝓤 H A mem run)) where
   apply-walks : Walks 𝓤 H A apply.ended stayed (WpFn 𝓤 H (𝓣 .C) (𝓣 .Λ) code.function) (apply.clauses 𝓤 H A mem run)
   apply-walks = walked 𝓤 H A apply.ended stayed (apply.clauses 𝓤 H A mem run) (WpFn 𝓤 H (𝓣 .C) (𝓣 .Λ) code.function)
       (λ κs. (slice-vals, (LL.vals Bk.the-type Bk′.the-laws, (slice-vals, (EL.vals Ev.the-type Ev′.the-laws, tt)))))
@@ -266,5 +242,5 @@ apply-spec 𝓤 H 𝓜 𝓖 𝓡 =
     (tables 𝓤 H 𝓜 𝓡 code.env .C) (tables 𝓤 H 𝓜 𝓡 code.env .Λ) #apply code.function (code.unfolded 𝓤 H 𝓜 𝓡)
     (apply-meets 𝓤 H (𝓖 .A) (givenOf 𝓤 H 𝓜 𝓖) (𝓜 .mem) (𝓡 .run) (tablesOf 𝓤 H 𝓜 (tables 𝓤 H 𝓜 𝓡 code.env))
     (cited 𝓤 H (Answered 𝓤 H (𝓖 .A) (𝓜 .mem) (𝓡 .run)) 𝓜 𝓡 code.env #answered answered-def.routine code.calls-book·step·answered (answered-thm.met 𝓤 H 𝓜 𝓖 𝓡))
-    (cited 𝓤 H (Used 𝓤 H (𝓖 .A) (𝓜 .mem) (𝓡 .run)) 𝓜 𝓡 code.env #used used-def.routine code.calls-book·table·slots-used (used-thm.met 𝓤 H 𝓜 𝓖 𝓡))
+    (cited 𝓤 H (Used 𝓤 H (𝓖 .A)) 𝓜 𝓡 code.env #used used-def.routine code.calls-book·table·slots-used (used-thm.met 𝓤 H 𝓜 𝓖 𝓡))
     (cited 𝓤 H (Front 𝓤 H (𝓖 .A) (𝓜 .mem) (𝓡 .run)) 𝓜 𝓡 code.env #front front-def.routine code.calls-book·table·apply-front (front-thm.met 𝓤 H 𝓜 𝓖 𝓡)))

@@ -56,10 +56,10 @@ use Rattle.book.proofs.run.refused as refused
 use Rattle.book.proofs.run.refused.Symbol as refused-def
 use Rattle.book.proofs.run.refused.Symbol.{name as #refused}
 use Rattle.book.proofs.run.refused.Met as refused-thm
-use Rattle.book.proofs.copies.zeros as zeros
-use Rattle.book.proofs.copies.zeros.Symbol as zeros-def
-use Rattle.book.proofs.copies.zeros.Symbol.{name as #zeros}
-use Rattle.book.proofs.copies.zeros.Met as zeros-thm
+use Rattle.book.proofs.copies.zeros_4096 as zeros
+use Rattle.book.proofs.copies.zeros_4096.Symbol as zeros-def
+use Rattle.book.proofs.copies.zeros_4096.Symbol.{name as #zeros}
+use Rattle.book.proofs.copies.zeros_4096.Met as zeros-thm
 use Rattle.book.proofs.table.run_by as run-by
 use Rattle.book.proofs.table.run_by.Symbol as run-by-def
 use Rattle.book.proofs.table.run_by.Symbol.{name as #run-by}
@@ -372,5 +372,5 @@ run-spec 𝓤 H 𝓜 𝓖 𝓡 =
     (tables 𝓤 H 𝓜 𝓡 code.env .C) (tables 𝓤 H 𝓜 𝓡 code.env .Λ) #run code.function (code.unfolded 𝓤 H 𝓜 𝓡)
     (run-meets 𝓤 H (𝓖 .A) (givenOf 𝓤 H 𝓜 𝓖) (𝓜 .mem) (𝓡 .run) (tablesOf 𝓤 H 𝓜 (tables 𝓤 H 𝓜 𝓡 code.env))
     (cited 𝓤 H (Refusing 𝓤 H (𝓖 .A) (𝓜 .mem) (𝓡 .run)) 𝓜 𝓡 code.env #refused refused-def.routine code.calls-book·run·refused (refused-thm.met 𝓤 H 𝓜 𝓖 𝓡))
-    (cited 𝓤 H (Zeros 𝓤 H (𝓖 .A) (𝓜 .mem) (𝓡 .run)) 𝓜 𝓡 code.env #zeros zeros-def.routine code.calls-book·copies·zeros (zeros-thm.met 𝓤 H 𝓜 𝓖 𝓡))
+    (cited 𝓤 H (Zeros 𝓤 H (𝓖 .A) (𝓜 .mem) (𝓡 .run)) 𝓜 𝓡 code.env #zeros zeros-def.routine code.calls-book·copies·zeros-4096 (zeros-thm.met 𝓤 H 𝓜 𝓖 𝓡))
     (cited 𝓤 H (By 𝓤 H (𝓖 .A) (𝓜 .mem) (𝓡 .run)) 𝓜 𝓡 code.env #run-by run-by-def.routine code.calls-book·table·run-by (run-by-thm.met 𝓤 H 𝓜 𝓖 𝓡)))
