@@ -114,8 +114,13 @@ pub fn run_into(calendar: &[u32], events: &[u8], lines: &mut [u64]) -> u8 {
 
 /// The run of encoded events on a fresh book, event by event, or its refusal.
 pub fn run_listing(calendar: &[u32], events: &[u8]) -> Result<Vec<Line>, u8> {
+    lines_of(events, |lines| run_into(calendar, events, lines))
+}
+
+/// What a run writes into lines lent for so many events.
+fn lines_of(events: &[u8], run: impl FnOnce(&mut [u64]) -> u8) -> Result<Vec<Line>, u8> {
     let mut lines = vec![0; LINE_NUMBERS * (events.len() / EVENT_BYTES)];
-    match run_into(calendar, events, &mut lines) {
+    match run(&mut lines) {
         0 => Ok(lines.chunks(LINE_NUMBERS).map(line).collect()),
         number => Err(number),
     }

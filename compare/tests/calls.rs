@@ -1,13 +1,13 @@
-//! Single calls on a book and its lent table against the model: the answer with
-//! its figures, the whole book and the whole table after every event, and then
-//! headroom and O.
+//! Calls on a book and its lent table against the model. Single ones: the answer
+//! with its figures, the whole book and the whole table after every event, and
+//! then headroom and O. Runs: every line, and the book and the table at the end.
 
-use compare::proved::book::{apply, cover, table, Page};
+use compare::proved::book::{apply, cover, run, table, Page};
 use model::answer::Answer;
 use model::book::{Book, Trade};
 use model::event::{Event, EVENT_BYTES};
 use model::generator::{corpus, generate_as, Profile};
-use model::journal::parse;
+use model::journal::{parse, Line};
 use model::limits::{CAPACITY, CASH, NET, RATE, SIZE};
 use model::step;
 
@@ -47,6 +47,25 @@ fn journals_event_by_event_agree_on_tables_of_many_lengths() {
     assert!(accepted > 10_000, "only {accepted} events were accepted");
 }
 
+#[test]
+fn runs_go_on_where_the_last_one_ended() {
+    for (_, bytes) in corpus(20_400..20_800) {
+        let Ok(journal) = parse(&bytes) else { continue };
+        let (mut book, mut trades) = (Book::fresh(), vec![Trade::default(); 300]);
+        let (mut page, mut lent) = (Page::from(&book), table(&trades));
+        for events in journal.events.chunks(70) {
+            let mut lines = Vec::new();
+            step::run(&journal.calendar, &mut book, &mut trades, events, |_, answer, book, table| {
+                lines.push(Line::after(answer, book, table));
+            });
+            let got = run(&journal.calendar, &mut page, &mut lent, events.as_flattened());
+            assert_eq!(got, Ok(lines));
+            assert_eq!(page, Page::from(&book));
+            assert_eq!(lent, table(&trades));
+        }
+    }
+}
+
 /// A change that makes a book, or its table, unfit.
 type Damage = fn(&mut Book, &mut Vec<Trade>);
 
@@ -80,6 +99,10 @@ fn an_unfit_book_is_answered_1_and_left() {
         damage(&mut book, &mut trades);
         let answer = both(&journal.calendar, &mut book, &mut trades, &Event::Pay.encode());
         assert_eq!(answer.number, 1);
+        let (mut page, mut lent) = (Page::from(&book), table(&trades));
+        assert_eq!(run(&journal.calendar, &mut page, &mut lent, &Event::Pay.encode()), Err(1));
+        assert_eq!(page, Page::from(&book));
+        assert_eq!(lent, table(&trades));
     }
     let long = [u32::MAX; 1_201];
     assert_eq!(both(&long, &mut book, &mut trades, &Event::Pay.encode()).number, 1);

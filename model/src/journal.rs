@@ -70,7 +70,7 @@ pub struct Line {
 }
 
 impl Line {
-    fn after(answer: Answer, book: &Book, table: &[Trade]) -> Line {
+    pub fn after(answer: Answer, book: &Book, table: &[Trade]) -> Line {
         let outstanding = book.outstanding(table);
         Line {
             answer: answer.number,

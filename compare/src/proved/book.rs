@@ -4,10 +4,11 @@
 use model::answer;
 use model::book::{self, Book, Holding};
 use model::event::EVENT_BYTES;
+use model::journal::Line;
 use model::limits::APPLICATIONS;
 use model::money::CASH_KIND;
 
-use super::{Fen, Sheets, Ticks};
+use super::{lines_of, Fen, Sheets, Ticks};
 
 #[repr(C)]
 #[derive(Clone, Copy, Debug, PartialEq, Eq)]
@@ -77,7 +78,7 @@ pub struct Page {
 #[repr(C)]
 #[derive(Clone, Copy, Debug, PartialEq, Eq)]
 pub struct Trade {
-    contract: u64,
+    pub contract: u64,
     sheets: Sheets,
     price: Ticks,
     fallback: Ticks,
@@ -110,6 +111,17 @@ extern "C" {
         event: *const u8,
         bytes: usize,
     ) -> Answer;
+    fn book_run(
+        calendar: *const u32,
+        words: usize,
+        page: *mut Page,
+        table: *mut Trade,
+        slots: usize,
+        events: *const u8,
+        bytes: usize,
+        lines: *mut u64,
+        room: usize,
+    ) -> u8;
     fn book_cover(
         calendar: *const u32,
         words: usize,
@@ -138,6 +150,23 @@ pub fn apply(
         )
     };
     answer::Answer { number: number.into(), matured: matured.0, done, dropped }
+}
+
+/// A run of encoded events on a book and its table, event by event, or its refusal.
+pub fn run(calendar: &[u32], page: &mut Page, table: &mut [Trade], events: &[u8]) -> Result<Vec<Line>, u8> {
+    lines_of(events, |lines| unsafe {
+        book_run(
+            calendar.as_ptr(),
+            calendar.len(),
+            page,
+            table.as_mut_ptr(),
+            table.len(),
+            events.as_ptr(),
+            events.len(),
+            lines.as_mut_ptr(),
+            lines.len(),
+        )
+    })
 }
 
 /// Headroom and O of a book over its table, beside the number.

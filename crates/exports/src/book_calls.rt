@@ -5,7 +5,7 @@ ghost use Rattle.money.specs.Causes.{firstOf, numberOf};
 ghost use Rattle.rules.specs.Entry.{decoded};
 ghost use Rattle.rules.specs.Step.{step};
 ghost use Rattle.rules.specs.Cover.{coverOf};
-ghost use Rattle.rules.specs.Listing.{listingOf, listingCauses, writtenBy};
+ghost use Rattle.rules.specs.Listing.{listingOf, listingCauses, writtenBy, runOutcome};
 ghost use Rattle.exports.specs.Page.{bookOn, pageOf};
 use crate::page;
 use crate::page::Page;
@@ -28,6 +28,23 @@ pub extern "C" fn book_apply(
     let applied = book::table::apply(calendar, book, table, entry);
     *page = page::page_after(applied);
     page::answer_of(applied)
+}
+
+// Encoded events, 40 bytes each, on any book and any table, and a line of seven numbers for each.
+#[no_mangle]
+pub extern "C" fn book_run(
+    calendar: &[u32],
+    page: &mut Page,
+    table: &mut [Trade],
+    events: &[u8],
+    lines: &mut [u64],
+) -> u8
+    ensures { λ r. ⌜ (r ≡ runOutcome (now (calendar .entry)) (bookOn (now (page .entry))) (now (table .entry)) (now (events .entry)) (now (lines .entry)) .ran .number) × (now (page .exit) ≡ pageOf (runOutcome (now (calendar .entry)) (bookOn (now (page .entry))) (now (table .entry)) (now (events .entry)) (now (lines .entry)) .ran .book)) × (now (table .exit) ≡ runOutcome (now (calendar .entry)) (bookOn (now (page .entry))) (now (table .entry)) (now (events .entry)) (now (lines .entry)) .table) × (now (lines .exit) ≡ runOutcome (now (calendar .entry)) (bookOn (now (page .entry))) (now (table .entry)) (now (events .entry)) (now (lines .entry)) .lines) ⌝ }
+{
+    let book = page::book_on(*page);
+    let ran = book::table::run(calendar, book, table, events, lines);
+    *page = page::page_ran(ran);
+    page::number_of(ran)
 }
 
 // Headroom and O of any book over any table.

@@ -4,6 +4,7 @@ ghost use Rattle.exports.specs.Page.{dayAt, phaseAt, statusAt, failedAt,
 use money::units::Sheets;
 use rules::answer::Answer;
 use rules::answer::Applied;
+use rules::answer::Ran;
 use rules::book::Book;
 use rules::book::Cash;
 use rules::book::Day;
@@ -216,7 +217,7 @@ fn page_of(book: Book) -> Page
     }
 }
 
-// What an event leaves, in two parts: the proof of the call over a lent table only hands it on.
+// What an event and a run leave, in two parts: the proofs of the calls over a lent table only hand it on.
 pub fn page_after(applied: Applied) -> Page
     ensures { λ r. ⌜ r ≡ pageOf (applied .book) ⌝ }
 {
@@ -228,4 +229,17 @@ pub fn answer_of(applied: Applied) -> Answer
     ensures { λ r. ⌜ r ≡ applied .answer ⌝ }
 {
     applied.answer
+}
+
+pub fn page_ran(ran: Ran) -> Page
+    ensures { λ r. ⌜ r ≡ pageOf (ran .book) ⌝ }
+{
+    let book = ran.book;
+    page_of(book)
+}
+
+pub fn number_of(ran: Ran) -> u8
+    ensures { λ r. ⌜ r ≡ ran .number ⌝ }
+{
+    ran.number
 }

@@ -126,8 +126,8 @@ impl Call {
         let mut call = Call {
             calendar,
             event: shape.event().encode(),
-            proved: Desk::new((&book).into(), proved::book::table(&table)),
-            model: Desk::new(book, table),
+            proved: Desk::new((&book).into(), proved::book::table(&table), shape),
+            model: Desk::new(book, table, shape),
         };
         let answer = call.model_answer();
         assert_eq!(answer.number, 0);
@@ -150,6 +150,23 @@ impl Call {
     }
 }
 
+/// A slot of either side's table.
+pub trait Slot: Copy + PartialEq {
+    fn contract(&mut self) -> &mut u64;
+}
+
+impl Slot for Trade {
+    fn contract(&mut self) -> &mut u64 {
+        &mut self.contract
+    }
+}
+
+impl Slot for proved::book::Trade {
+    fn contract(&mut self) -> &mut u64 {
+        &mut self.contract
+    }
+}
+
 /// A book and its table, and what they were before the call.
 pub struct Desk<B, T> {
     book: B,
@@ -157,11 +174,22 @@ pub struct Desk<B, T> {
     book_before: B,
     table_before: Vec<T>,
     changed: Range<usize>,
+    in_use: usize,
+    /// What drawn contracts are mixed with anew for each call.
+    masks: Option<Random>,
 }
 
-impl<B: Clone, T: Copy + PartialEq> Desk<B, T> {
-    fn new(book: B, table: Vec<T>) -> Desk<B, T> {
-        Desk { book_before: book.clone(), table_before: table.clone(), book, table, changed: 0..0 }
+impl<B: Clone, T: Slot> Desk<B, T> {
+    fn new(book: B, table: Vec<T>, shape: Shape) -> Desk<B, T> {
+        Desk {
+            book_before: book.clone(),
+            table_before: table.clone(),
+            book,
+            table,
+            changed: 0..0,
+            in_use: shape.in_use(),
+            masks: (!shape.rising).then(|| Random::new(6)),
+        }
     }
 
     /// Only slots that the call changes are put back, so that a small call is
@@ -172,10 +200,17 @@ impl<B: Clone, T: Copy + PartialEq> Desk<B, T> {
         self.changed = slots.next().map_or(0..0, |first| first..slots.next_back().unwrap_or(first) + 1);
     }
 
+    /// The same book and table, but for other contracts where they are drawn:
+    /// else the processor would learn by heart how they compare.
     pub fn restore(&mut self) {
         self.book.clone_from(&self.book_before);
         let changed = self.changed.clone();
         self.table[changed.clone()].copy_from_slice(&self.table_before[changed]);
+        if let Some(masks) = &mut self.masks {
+            let mask = masks.any();
+            let slots = self.table.iter_mut().zip(&self.table_before).take(self.in_use);
+            slots.for_each(|(slot, &(mut before))| *slot.contract() = *before.contract() ^ mask);
+        }
         black_box(&mut self.table);
     }
 }

@@ -51,10 +51,10 @@ use Rattle.rules.proofs.event.Entry as Ev
 use Rattle.rules.proofs.event.Entry.Laws as Ev′
 use Rattle.rules.proofs.answer.Applied as B
 use Rattle.rules.proofs.answer.Applied.Laws as B′
+use Rattle.rules.proofs.FrontLaws.{withRest, step-used}
 use Rattle.book.specs.Types.{Book, Trade, Entry, Applied}
 use Rattle.book.specs.Flat.{appliedOf}
 use Rattle.book.proofs.TableLaws.{long-step}
-use Rattle.rules.proofs.FrontLaws.{withRest, step-used}
 use Rattle.book.proofs.WalkFront.{lends-front, front-home}
 use Rattle.book.proofs.WalkArray.{big-lit}
 use Rattle.book.proofs.WalkBook.{calTy, calVal, bookVal, OwnCal, IsUsed, within, Used, calls-used}

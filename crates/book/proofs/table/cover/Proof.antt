@@ -50,10 +50,10 @@ use Rattle.rules.proofs.book.Book as Bk
 use Rattle.rules.proofs.book.Book.Laws as Bk′
 use Rattle.rules.proofs.answer.Cover as B
 use Rattle.rules.proofs.answer.Cover.Laws as B′
+use Rattle.rules.proofs.FrontLaws.{cover-used}
 use Rattle.book.specs.Types.{Book, Trade, Cover}
 use Rattle.book.proofs.TableLaws.{long-unfit}
 use Rattle.book.proofs.CoverLaws.{unfit-cover}
-use Rattle.rules.proofs.FrontLaws.{cover-used}
 use Rattle.book.proofs.WalkFront.{shares-front}
 use Rattle.book.proofs.WalkArray.{big-lit}
 use Rattle.book.proofs.WalkBook.{calTy, calVal, bookVal, IsUsed, within, Used, calls-used}
