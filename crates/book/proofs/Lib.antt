@@ -4,6 +4,7 @@
 pub mod FlatLaws
 pub mod StoreLaws
 pub mod PlaceLaws
+pub mod ChainLaws
 pub mod RedemptionLaws
 pub mod PackingLaws
 pub mod SortLaws

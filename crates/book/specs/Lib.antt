@@ -3,3 +3,4 @@ pub mod Types
 pub mod Sort
 pub mod Flat
 pub mod Figures
+pub mod Chains

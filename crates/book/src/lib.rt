@@ -10,6 +10,7 @@ pub mod listing;
 pub mod table;
 
 // The core: its table and its book, and what the events share.
+mod chains;
 mod copies;
 mod cover;
 mod days;

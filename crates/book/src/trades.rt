@@ -6,6 +6,8 @@ ghost use Rattle.rules.specs.Trades.{outstanding, differ};
 ghost use Rattle.rules.specs.Fit.{tradeFit};
 ghost use Rattle.book.specs.Flat.{tradeAt, tradesTo, placeOf, contractNumbers, Kept};
 ghost use Rattle.book.specs.Figures.{gatheredOf};
+use crate::chains;
+use crate::chains::Told;
 use crate::flat;
 use crate::sort;
 use rules::trade::Contract;
@@ -75,23 +77,27 @@ fn numbers_differ(table: &[u64], count: usize, numbers: &mut [u64], scratch: &mu
     sort::all_differ(numbers, scratch)
 }
 
-// In less room, which is sooner cleared.
-fn hundreds_differ(table: &[u64], count: usize) -> bool
-    requires { ⌜ (count * 6 ≤ length (now table)) × (count ≤ 512) ⌝ }
-    ensures { λ r. ⌜ r ≡ differ (tradesTo (now (table .entry)) count) ⌝ }
-{
-    let mut numbers = [0; 512];
-    let mut scratch = [0; 512];
-    numbers_differ(table, count, &mut numbers[..count], &mut scratch[..count])
-}
-
-fn thousands_differ(table: &[u64], count: usize) -> bool
+fn sorted_differ(table: &[u64], count: usize) -> bool
     requires { ⌜ (count * 6 ≤ length (now table)) × (count ≤ 4096) ⌝ }
     ensures { λ r. ⌜ r ≡ differ (tradesTo (now (table .entry)) count) ⌝ }
 {
     let mut numbers = [0; 4096];
     let mut scratch = [0; 4096];
     numbers_differ(table, count, &mut numbers[..count], &mut scratch[..count])
+}
+
+// By chains, which most contracts keep short; where they do not, sorted.
+fn many_differ(table: &[u64], count: usize) -> bool
+    requires { ⌜ (count * 6 ≤ length (now table)) × (count ≤ 4096) ⌝ }
+    ensures { λ r. ⌜ r ≡ differ (tradesTo (now (table .entry)) count) ⌝ }
+{
+    let mut heads: [u16; 8191] = [0; 8191];
+    let mut next: [u16; 4096] = [0; 4096];
+    match chains::linked_differ(table, count, &mut heads, &mut next) {
+        Told::Differs => true,
+        Told::Repeats => false,
+        Told::Nothing => sorted_differ(table, count),
+    }
 }
 
 // No contract stands twice.
@@ -102,10 +108,7 @@ pub fn contracts_differ(table: &[u64], count: usize) -> bool
     if count <= 32 {
         return few_differ(table, count);
     }
-    if count <= 512 {
-        return hundreds_differ(table, count);
-    }
-    thousands_differ(table, count)
+    many_differ(table, count)
 }
 
 fn trade_fits(table: &[u64], place: usize) -> bool

@@ -1,29 +1,29 @@
 use mathlib.Core.Path.{sym}
 use borrow.Author.Needs.{needs}
 use Rattle.book.proofs.PlaceLaws.{room-for}
-use Rattle.book.proofs.trades.hundreds_differ.Statement.{statement}
-use Rattle.book.proofs.trades.hundreds_differ.Tie as tie
+use Rattle.book.proofs.trades.sorted_differ.Statement.{statement}
+use Rattle.book.proofs.trades.sorted_differ.Tie as tie
 
 array-borrow-prefix-numbers : tie.Need-array-borrow-prefix-numbers
 array-borrow-prefix-numbers c = search needs
 
 slice-aggregate-numbers-differ : tie.Need-slice-aggregate-numbers-differ
-slice-aggregate-numbers-differ c = sym (room-for 512 _ (c .before .before .pre .1))
+slice-aggregate-numbers-differ c = sym (room-for 4096 _ (c .before .before .pre .1))
 
 array-borrow-prefix-scratch : tie.Need-array-borrow-prefix-scratch
 array-borrow-prefix-scratch c = search needs
 
 slice-aggregate-numbers-differ-2 : tie.Need-slice-aggregate-numbers-differ-2
-slice-aggregate-numbers-differ-2 c = sym (room-for 512 _ (c .before .before .before .pre .1))
+slice-aggregate-numbers-differ-2 c = sym (room-for 4096 _ (c .before .before .before .pre .1))
 
 numbers-differ-requires : tie.Need-numbers-differ-requires
-numbers-differ-requires c κs = (search needs, search needs, room-for 512 _ (c .before .before .before .pre .1), room-for 512 _ (c .before .before .before .pre .1))
+numbers-differ-requires c κs = (search needs, search needs, room-for 4096 _ (c .before .before .before .pre .1), room-for 4096 _ (c .before .before .before .pre .1))
 
 returns : tie.Need-returns
 returns c = search needs
 
-pub hundreds-differ-spec : {M : Type 1} → statement M
-hundreds-differ-spec =
+pub sorted-differ-spec : {M : Type 1} → statement M
+sorted-differ-spec =
     tie.close
     (tie.spec
     array-borrow-prefix-numbers
