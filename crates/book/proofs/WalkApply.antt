@@ -1,4 +1,4 @@
--- One entry on a lent table: the promise of the functions that take it, how such a function begins and ends, and how one is called, as steps of a walk by hand.
+-- One entry on a lent table: the promise of the functions that take it, how such a function ends, and how one is called, as steps of a walk by hand.
 -- For `apply` and what it calls: each promises what `apply` does, and may ask that the table is no longer than so many trades. Assumes `Given`.
 use mathlib.Core.Path.{_≡_, refl, subst}
 use Prim.Native.Nat.{ℕ, _≤_}

@@ -1,6 +1,6 @@
 // The calls on a book and its lent table: the trades are copied to the core's numbers, the core acts on these, and its trades are
-// copied back. An entry looks at the slots in use and at the next one, so `apply` and `cover` copy no more than those. A table of
-// more than 4,096 slots is answered 1 before anything is copied: no book on it is fit.
+// copied back. An entry looks at the slots in use and at the next one, so `apply` and `cover` copy no more than those; a run copies the
+// table it is lent. A table of more than 4,096 slots is answered 1 before anything is copied: no book on it is fit.
 ghost use mathlib.Core.Path.{_≡_};
 ghost use Prim.Native.Nat.{_+_, _*_, _≤_, min};
 ghost use lib.ListN.{length};
@@ -232,6 +232,82 @@ fn run_by(
     ran
 }
 
+// With numbers of its own, of three sizes as for an entry.
+fn run_128(
+    calendar: &[u32],
+    book: Book,
+    table: &mut [Trade],
+    events: &[u8],
+    lines: &mut [u64],
+) -> Ran
+    requires { ⌜ length (now table) ≤ 128 ⌝ }
+    ensures { λ r. ⌜ (r ≡ runOutcome (now (calendar .entry)) book (now (table .entry)) (now (events .entry)) (now (lines .entry)) .ran) × (now (table .exit) ≡ runOutcome (now (calendar .entry)) book (now (table .entry)) (now (events .entry)) (now (lines .entry)) .table) × (now (lines .exit) ≡ runOutcome (now (calendar .entry)) book (now (table .entry)) (now (events .entry)) (now (lines .entry)) .lines) ⌝ }
+{
+    let mut flat = copies::zeros_128();
+    run_by(calendar, book, table, &mut flat, events, lines)
+}
+
+fn run_1024(
+    calendar: &[u32],
+    book: Book,
+    table: &mut [Trade],
+    events: &[u8],
+    lines: &mut [u64],
+) -> Ran
+    requires { ⌜ length (now table) ≤ 1024 ⌝ }
+    ensures { λ r. ⌜ (r ≡ runOutcome (now (calendar .entry)) book (now (table .entry)) (now (events .entry)) (now (lines .entry)) .ran) × (now (table .exit) ≡ runOutcome (now (calendar .entry)) book (now (table .entry)) (now (events .entry)) (now (lines .entry)) .table) × (now (lines .exit) ≡ runOutcome (now (calendar .entry)) book (now (table .entry)) (now (events .entry)) (now (lines .entry)) .lines) ⌝ }
+{
+    let mut flat = copies::zeros_1024();
+    run_by(calendar, book, table, &mut flat, events, lines)
+}
+
+fn run_4096(
+    calendar: &[u32],
+    book: Book,
+    table: &mut [Trade],
+    events: &[u8],
+    lines: &mut [u64],
+) -> Ran
+    requires { ⌜ length (now table) ≤ 4096 ⌝ }
+    ensures { λ r. ⌜ (r ≡ runOutcome (now (calendar .entry)) book (now (table .entry)) (now (events .entry)) (now (lines .entry)) .ran) × (now (table .exit) ≡ runOutcome (now (calendar .entry)) book (now (table .entry)) (now (events .entry)) (now (lines .entry)) .table) × (now (lines .exit) ≡ runOutcome (now (calendar .entry)) book (now (table .entry)) (now (events .entry)) (now (lines .entry)) .lines) ⌝ }
+{
+    let mut flat = copies::zeros_4096();
+    run_by(calendar, book, table, &mut flat, events, lines)
+}
+
+// On a table that is not too long, with as few numbers as will do.
+fn run_more(
+    calendar: &[u32],
+    book: Book,
+    table: &mut [Trade],
+    events: &[u8],
+    lines: &mut [u64],
+) -> Ran
+    requires { ⌜ length (now table) ≤ 4096 ⌝ }
+    ensures { λ r. ⌜ (r ≡ runOutcome (now (calendar .entry)) book (now (table .entry)) (now (events .entry)) (now (lines .entry)) .ran) × (now (table .exit) ≡ runOutcome (now (calendar .entry)) book (now (table .entry)) (now (events .entry)) (now (lines .entry)) .table) × (now (lines .exit) ≡ runOutcome (now (calendar .entry)) book (now (table .entry)) (now (events .entry)) (now (lines .entry)) .lines) ⌝ }
+{
+    if table.len() <= 1_024 {
+        return run_1024(calendar, book, table, events, lines);
+    }
+    run_4096(calendar, book, table, events, lines)
+}
+
+fn run_short(
+    calendar: &[u32],
+    book: Book,
+    table: &mut [Trade],
+    events: &[u8],
+    lines: &mut [u64],
+) -> Ran
+    requires { ⌜ length (now table) ≤ 4096 ⌝ }
+    ensures { λ r. ⌜ (r ≡ runOutcome (now (calendar .entry)) book (now (table .entry)) (now (events .entry)) (now (lines .entry)) .ran) × (now (table .exit) ≡ runOutcome (now (calendar .entry)) book (now (table .entry)) (now (events .entry)) (now (lines .entry)) .table) × (now (lines .exit) ≡ runOutcome (now (calendar .entry)) book (now (table .entry)) (now (events .entry)) (now (lines .entry)) .lines) ⌝ }
+{
+    if table.len() <= 128 {
+        return run_128(calendar, book, table, events, lines);
+    }
+    run_more(calendar, book, table, events, lines)
+}
+
 // Encoded events, 40 bytes each, on any book and any table, and a line of seven numbers for each.
 pub fn run(
     calendar: &[u32],
@@ -245,6 +321,5 @@ pub fn run(
     if table.len() > 4_096 {
         return run::refused(1, book);
     }
-    let mut flat = copies::zeros_4096();
-    run_by(calendar, book, table, &mut flat, events, lines)
+    run_short(calendar, book, table, events, lines)
 }

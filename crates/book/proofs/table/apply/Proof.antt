@@ -15,14 +15,14 @@ use base.Logic.{SProp, ent, emp, id⊢, via, exE, fst∗, snd∗}
 use base.Fml.{Lft, GName, Share, ftrue, fat, froom, fdies, flft}
 use prog.Memory.{Memory}
 use prog.Routine.{Routine}
-use prog.Wp.{Heap, Env, Calls, Loops, WpFn, Tables}
+use prog.Wp.{Heap, returns as returned, Env, Calls, Loops, atReturn, WpFn, Tables}
 use ghost.Atoms.{Atoms, sem}
 use contract.Monad.{Fun, fact}
 use contract.Running.{givenOf, tables, tablesOf}
 use sound.WpLaws.{WpFn-mono, FmC, fmOf}
-use types.Kit.{Given, Item, Sq, runs, learn, ‵, raw, _⊛_, some, later, atRet, _$_, _∵_, !, qed, by, move, use1, use2, drop, split, join, pick, rewrite, fsplit, fjoin, frame, await, done}
+use types.Kit.{Given, Item, Sq, Post as Wanted, post, runs, learn, ‵, raw, _⊛_, some, later, atRet, _$_, _∵_, !, qed, by, move, use1, use2, drop, split, join, pick, rewrite, fsplit, fjoin, frame, await, done}
 use types.Part.{agg, whole, sub, look-in}
-use types.Run.{look, init, forget, stop, hop, fld, from, load as loads, addr, lit, no-more, and-then, of-opd, bin, assigns, land, first, branches, skips, exec, returns, returns-within, enter, alloc1, alloc0, params1, pass1, pass0, free1, free0}
+use types.Run.{look, init, forget, stop, hop, fld, from, load as loads, addr, lit, no-more, and-then, of-opd, bin, assigns, land, first, branches, skips, exec, returns-within, enter, alloc1, alloc0, params1, pass1, pass0, free1, free0}
 use denote.RattleType.{owns}
 use denote.Laws.{Is, shows}
 use denote.Plain.{uint-makes, uint-lawful}
@@ -51,14 +51,14 @@ use Rattle.rules.proofs.event.Entry as Ev
 use Rattle.rules.proofs.event.Entry.Laws as Ev′
 use Rattle.rules.proofs.answer.Applied as B
 use Rattle.rules.proofs.answer.Applied.Laws as B′
-use Rattle.rules.proofs.FrontLaws.{withRest, step-used}
 use Rattle.book.specs.Types.{Book, Trade, Entry, Applied}
 use Rattle.book.specs.Flat.{appliedOf}
 use Rattle.book.proofs.TableLaws.{long-step}
+use Rattle.rules.proofs.FrontLaws.{withRest, step-used}
 use Rattle.book.proofs.WalkFront.{lends-front, front-home}
 use Rattle.book.proofs.WalkArray.{big-lit}
 use Rattle.book.proofs.WalkBook.{calTy, calVal, bookVal, OwnCal, IsUsed, within, Used, calls-used}
-use Rattle.book.proofs.WalkApply.{tabTy, tabMut, entryVal, UpTo, stayed, args, passed, Post, Params, exits, to, goes, Gets, gets}
+use Rattle.book.proofs.WalkApply.{tabTy, tabMut, entryVal, appliedVal, UpTo, stayed, args, passed, Post, Params, exits, to, goes, Gets, gets}
 use Rattle.book.proofs.step.answered as answered
 use Rattle.book.proofs.step.answered.Symbol as answered-def
 use Rattle.book.proofs.step.answered.Symbol.{name as #answered}
@@ -100,6 +100,9 @@ module _ {M : Type 1} (𝓤 : URA M) (H : Heap 𝓤) (A : Atoms 𝓤) (W : Given
   abbrev With : List Trade → List (Item 𝓤) → List (Item 𝓤)
   With = Params 𝓤 H A W mem run κ q cal bk en κ₁ q₁ b o γ ys
 
+  told : (w : Val) → Is B.the-row result (w ∷ []) → w ∷ [] ≡ appliedVal result ∷ []
+  told w is = LL.tells B.the-type B′.the-laws result (w ∷ []) is
+
   -- ---- the call of `answered`
   abbrev to-answered : Answered 𝓤 H A mem run .Ghost
   to-answered = ((tt, tt, tt, (1, (bk, tt)), (vint w8 1 ∷ [], (bookVal bk ∷ [], tt))), tt)
@@ -127,19 +130,25 @@ module _ {M : Type 1} (𝓤 : URA M) (H : Heap 𝓤) (A : Atoms 𝓤) (W : Given
     abbrev En : Env 𝓤 H
     En = (B′.mir, l₀) ∷ (calTy, l₁) ∷ (Bk′.mir, l₂) ∷ (tabTy, l₃) ∷ (Ev′.mir, l₄) ∷ (word, l₅) ∷ (word, l₆) ∷ (tyBool, l₇) ∷ (tabMut, l₈) ∷ (sliceTy tabMut, l₉) ∷ []
 
-    -- the locals, with _5 and _7 as given
-    abbrev Locals : Item 𝓤 → Item 𝓤 → List (Item 𝓤) → List (Item 𝓤)
-    Locals five seven rest = ‵ (froom (sliceTy tabMut) l₉ 0) ∷ ‵ (fdies (sliceTy tabMut) l₉) ∷ ‵ (froom tabMut l₈ 0) ∷ ‵ (fdies tabMut l₈) ∷ seven ∷ ‵ (fdies tyBool l₇) ∷ ‵ (froom word l₆ 0) ∷ ‵ (fdies word l₆) ∷ five ∷ ‵ (fdies word l₅)
+    -- the locals, with _5, _7 and _0 as given
+    abbrev Locals : Item 𝓤 → Item 𝓤 → Item 𝓤 → List (Item 𝓤) → List (Item 𝓤)
+    Locals five seven zero rest = ‵ (froom (sliceTy tabMut) l₉ 0) ∷ ‵ (fdies (sliceTy tabMut) l₉) ∷ ‵ (froom tabMut l₈ 0) ∷ ‵ (fdies tabMut l₈) ∷ seven ∷ ‵ (fdies tyBool l₇) ∷ ‵ (froom word l₆ 0) ∷ ‵ (fdies word l₆) ∷ five ∷ ‵ (fdies word l₅)
         ∷ ‵ (fat fullShare Ev′.mir l₄ 0 (entryVal en)) ∷ ‵ (fdies Ev′.mir l₄) ∷ ‵ (fat fullShare tabTy l₃ 0 (sliceVal (b, o) n)) ∷ ‵ (fdies tabTy l₃)
-        ∷ ‵ (fat fullShare Bk′.mir l₂ 0 (bookVal bk)) ∷ ‵ (fdies Bk′.mir l₂) ∷ ‵ (fat fullShare calTy l₁ 0 (calVal cal)) ∷ ‵ (fdies calTy l₁) ∷ ‵ (froom B′.mir l₀ 0) ∷ ‵ (fdies B′.mir l₀) ∷ rest
+        ∷ ‵ (fat fullShare Bk′.mir l₂ 0 (bookVal bk)) ∷ ‵ (fdies Bk′.mir l₂) ∷ ‵ (fat fullShare calTy l₁ 0 (calVal cal)) ∷ ‵ (fdies calTy l₁) ∷ zero ∷ ‵ (fdies B′.mir l₀) ∷ rest
 
-    -- after the test:
+    -- after the test, with the table at ts:
     -- [the table; its token; calendar's token; what it owns; _9 at 4; …; _i at 22 - 2 · i; …; _0 at 22]
-    abbrev Tested : List (Item 𝓤)
-    Tested = With ys (Locals (‵ (fat fullShare word l₅ 0 (vint w64 n))) (‵ (fat fullShare tyBool l₇ 0 (vbool (ltb 4096 n)))) [])
+    abbrev Tested : List Trade → Item 𝓤 → List (Item 𝓤)
+    Tested ts zero = With ts (Locals (‵ (fat fullShare word l₅ 0 (vint w64 n))) (‵ (fat fullShare tyBool l₇ 0 (vbool (ltb 4096 n)))) zero [])
+
+    leaves : (p : Wanted 𝓤 H) → post 𝓤 H p returned ≡ atReturn 𝓤 H En Ends returned → (ts : List Trade) → length ts ≡ n → ts ≡ left .table → Is B.the-row result (appliedVal result ∷ []) → Sq W (Tested ts (‵ (fat fullShare B′.mir l₀ 0 (appliedVal result)))) (runs C Λ En mirs.t-8 p)
+    leaves p here ts lt e gr =
+        returns-within ! Ends here (look ! 22 refl) $ forget ! 8 refl $ forget ! 12 refl $ forget ! 14 refl $ forget ! 16 refl $ forget ! 18 refl $ forget ! 20 refl $ forget ! 22 refl $
+        move ! (22 ∷ 23 ∷ []) $ free1 ! $ move ! (20 ∷ 21 ∷ []) $ free1 ! $ move ! (18 ∷ 19 ∷ []) $ free1 ! $ move ! (16 ∷ 17 ∷ []) $ free1 ! $ move ! (14 ∷ 15 ∷ []) $ free1 ! $ move ! (12 ∷ 13 ∷ []) $ free1 ! $ move ! (10 ∷ 11 ∷ []) $ free1 ! $ move ! (8 ∷ 9 ∷ []) $ free1 ! $ move ! (6 ∷ 7 ∷ []) $ free1 ! $ move ! (4 ∷ 5 ∷ []) $ free1 ! $ free0 ! $
+        by ! (exits 𝓤 H A W mem run κ q cal bk en κ₁ q₁ b o γ ys gb ge gr ts lt e)
 
     -- the table is short enough: from `slots_used` on
-    fronts : n ≤ 4096 → Sq W Tested (runs C Λ En mirs.t-4 (atRet En Ends))
+    fronts : n ≤ 4096 → Sq W (Tested ys (‵ (froom B′.mir l₀ 0))) (runs C Λ En mirs.t-4 (atRet En Ends))
     fronts few =
         calls-used 𝓤 H A W bk n ! fm known-used gb (room .0) (and-then ! (loads ! (from ! (stop !)) (look ! 19 refl)) (and-then ! (loads ! (from ! (stop !)) (look ! 13 refl)) (no-more !))) (λ u k here is.
         land ! (from ! (stop !)) (init ! 10 refl (uint-lawful 𝓤 H A W w64 .typed k (u ∷ []) is .0)) $ rewrite ! 10 (λ (v : Val). ‵ (fat fullShare word l₆ 0 v)) (ap only (is .0)) refl $
@@ -157,11 +166,8 @@ module _ {M : Type 1} (𝓤 : URA M) (H : Heap 𝓤) (A : Atoms 𝓤) (W : Given
         -- [the last front; calendar's token; ν's token; what calendar owns; what is kept of the table; _9 at 5; …]
         move ! (2 ∷ 4 ∷ 0 ∷ []) $ front-home ! tt T.the-row κ₁ q₁ γ b o n ys refl room k (within bk n k here) ν δ zs (many k here zs (e .1 .0)) $
         -- [the table; its token; calendar's token; what it owns; _9 at 4; …; _0 at 22]
-        land ! (from ! (stop !)) (init ! 22 refl (LL.lawful B.the-type B′.the-laws 𝓤 H A W .typed result _ (good few k here w (e .1 .1)) .0)) $
-        rewrite ! 22 (λ (r : Val). ‵ (fat fullShare B′.mir l₀ 0 r)) (ap only (LL.tells B.the-type B′.the-laws result (w ∷ []) (good few k here w (e .1 .1)))) refl $
-        returns ! (look ! 22 refl) $ forget ! 4 refl $ forget ! 6 refl $ forget ! 8 refl $ forget ! 10 refl $ forget ! 12 refl $ forget ! 14 refl $ forget ! 16 refl $ forget ! 18 refl $ forget ! 20 refl $ forget ! 22 refl $
-        move ! (22 ∷ 23 ∷ []) $ free1 ! $ move ! (20 ∷ 21 ∷ []) $ free1 ! $ move ! (18 ∷ 19 ∷ []) $ free1 ! $ move ! (16 ∷ 17 ∷ []) $ free1 ! $ move ! (14 ∷ 15 ∷ []) $ free1 ! $ move ! (12 ∷ 13 ∷ []) $ free1 ! $ move ! (10 ∷ 11 ∷ []) $ free1 ! $ move ! (8 ∷ 9 ∷ []) $ free1 ! $ move ! (6 ∷ 7 ∷ []) $ free1 ! $ move ! (4 ∷ 5 ∷ []) $ free1 ! $ free0 ! $
-        by ! (exits 𝓤 H A W mem run κ q cal bk en κ₁ q₁ b o γ ys gb ge (subst (Is B.the-row result) (LL.tells B.the-type B′.the-laws result (w ∷ []) (good few k here w (e .1 .1))) (good few k here w (e .1 .1))) (zs ++ after k ys) (same-len k ys zs (e .1 .0)) (last few k here zs (e .0))))))))
+        land ! (from ! (stop !)) (init ! 22 refl (LL.lawful B.the-type B′.the-laws 𝓤 H A W .typed result _ (good few k here w (e .1 .1)) .0)) $ rewrite ! 22 (λ (r : Val). ‵ (fat fullShare B′.mir l₀ 0 r)) (ap only (told w (good few k here w (e .1 .1)))) refl $ forget ! 4 refl $ forget ! 6 refl $ forget ! 10 refl $
+        leaves (atRet En Ends) refl (zs ++ after k ys) (same-len k ys zs (e .1 .0)) (last few k here zs (e .0)) (subst (Is B.the-row result) (told w (good few k here w (e .1 .1))) (good few k here w (e .1 .1))))))))
       where
         to-front : (k ν : ℕ) (δ : GName) → Front 𝓤 H A mem run .Ghost
         to-front k ν δ = to 𝓤 H A W mem run κ q cal bk en 4096 ν δ b o k (take k ys)
@@ -179,7 +185,7 @@ module _ {M : Type 1} (𝓤 : URA M) (H : Heap 𝓤) (A : Atoms 𝓤) (W : Given
         last few k here zs e = ap (λ (l : List Trade). l ++ after k ys) e ∙ sym (ap (λ (z : Outcome). z .table) (whole-is few k here))
 
     -- the test, and a table that is too long
-    tests : Sq W (With ys (Locals (‵ (froom word l₅ 0)) (‵ (froom tyBool l₇ 0)) [])) (runs C Λ En mirs.t-1 (atRet En Ends))
+    tests : Sq W (With ys (Locals (‵ (froom word l₅ 0)) (‵ (froom tyBool l₇ 0)) (‵ (froom B′.mir l₀ 0)) [])) (runs C Λ En mirs.t-1 (atRet En Ends))
     tests =
         assigns ! (of-opd ! (loads ! (from ! (fld ! refl (stop !))) (look-in ! 16 (sub ! 1 refl (whole !))))) (from ! (stop !)) (init ! 12 refl (tt, record { fits = room .0 })) $
         assigns ! (bin ! (big-lit ! (record { fits = lit< tt })) (loads ! (from ! (stop !)) (look ! 12 refl)) tt) (from ! (stop !)) (init ! 8 refl (tt, tt)) $
@@ -188,11 +194,8 @@ module _ {M : Type 1} (𝓤 : URA M) (H : Heap 𝓤) (A : Atoms 𝓤) (W : Given
         calls-at ! fm (Answered 𝓤 H A mem run) known-answered to-answered (and-then ! (lit ! tt) (and-then ! (loads ! (from ! (stop !)) (look ! 19 refl)) (no-more !))) (λ w.
         use1 W (later (some (λ (r : Applied). (‵ ftrue ⊛ ‵ (B.the-row .own r (w ∷ []))) ⊛ raw (ensured 𝓤 H A answered.ended (answered.clauses 𝓤 H A mem run) tt (1, (bk, tt)) tt r)))) (id⊢ 𝓤 _) $ await ! tt $ pick ! (λ r.
         split ! $ move ! (1 ∷ []) $ use1 W (raw (fact 𝓤 (r ≡ refused))) (answered-said r) $ heard ! (r ≡ refused) (λ e. split ! $ drop ! $ peeks ! B.the-row (Is B.the-row) (shows 𝓤 H A B.the-row) r (w ∷ []) (λ is. drop ! $
-        land ! (from ! (stop !)) (init ! 22 refl (LL.lawful B.the-type B′.the-laws 𝓤 H A W .typed r _ is .0)) $
-        rewrite ! 22 (λ (v : Val). ‵ (fat fullShare B′.mir l₀ 0 v)) (ap only (LL.tells B.the-type B′.the-laws result (w ∷ []) (good h r w e is))) refl $
-        returns-within ! Ends refl (look ! 22 refl) $ forget ! 8 refl $ forget ! 12 refl $ forget ! 14 refl $ forget ! 16 refl $ forget ! 18 refl $ forget ! 20 refl $ forget ! 22 refl $
-        move ! (22 ∷ 23 ∷ []) $ free1 ! $ move ! (20 ∷ 21 ∷ []) $ free1 ! $ move ! (18 ∷ 19 ∷ []) $ free1 ! $ move ! (16 ∷ 17 ∷ []) $ free1 ! $ move ! (14 ∷ 15 ∷ []) $ free1 ! $ move ! (12 ∷ 13 ∷ []) $ free1 ! $ move ! (10 ∷ 11 ∷ []) $ free1 ! $ move ! (8 ∷ 9 ∷ []) $ free1 ! $ move ! (6 ∷ 7 ∷ []) $ free1 ! $ move ! (4 ∷ 5 ∷ []) $ free1 ! $ free0 ! $
-        by ! (exits 𝓤 H A W mem run κ q cal bk en κ₁ q₁ b o γ ys gb ge (subst (Is B.the-row result) (LL.tells B.the-type B′.the-laws result (w ∷ []) (good h r w e is)) (good h r w e is)) ys refl (sym (ap (λ (z : Outcome). z .table) (long h)))))))))
+        land ! (from ! (stop !)) (init ! 22 refl (LL.lawful B.the-type B′.the-laws 𝓤 H A W .typed r _ is .0)) $ rewrite ! 22 (λ (v : Val). ‵ (fat fullShare B′.mir l₀ 0 v)) (ap only (told w (good h r w e is))) refl $
+        leaves _ refl ys refl (sym (ap (λ (z : Outcome). z .table) (long h))) (subst (Is B.the-row result) (told w (good h r w e is)) (good h r w e is)))))))
         (λ h. skips ! $ exec ! C Λ En mirs.t-4 (atRet En Ends) $ fronts (nltb→le 4096 n h))
       where
         long : Holds (ltb 4096 n) → left ≡ outcome (answer 1) bk ys
@@ -202,7 +205,7 @@ module _ {M : Type 1} (𝓤 : URA M) (H : Heap 𝓤) (A : Atoms 𝓤) (W : Given
         good h r w e is = subst (λ (y : Applied). Is B.the-row y (w ∷ [])) (e ∙ sym (ap appliedOf (long h))) is
 
     abbrev Start : List (Item 𝓤)
-    Start = Locals (‵ (froom word l₅ 0)) (‵ (froom tyBool l₇ 0)) ((‵ (flft κ q) ⊛ ‵ (flft κ₁ q₁) ⊛ ‵ ftrue) ∷ ‵ (owns (ShrSlice (named 0) κ u32 ∷ Bk.the-row ∷ MutSlice (named 1) κ₁ T.the-row ∷ Ev.the-row ∷ []) (args 𝓤 H A W mem run κ q cal bk en κ₁ q₁ b o γ ys) (passed 𝓤 H A W mem run κ q cal bk en κ₁ q₁ b o γ ys)) ∷ [])
+    Start = Locals (‵ (froom word l₅ 0)) (‵ (froom tyBool l₇ 0)) (‵ (froom B′.mir l₀ 0)) ((‵ (flft κ q) ⊛ ‵ (flft κ₁ q₁) ⊛ ‵ ftrue) ∷ ‵ (owns (ShrSlice (named 0) κ u32 ∷ Bk.the-row ∷ MutSlice (named 1) κ₁ T.the-row ∷ Ev.the-row ∷ []) (args 𝓤 H A W mem run κ q cal bk en κ₁ q₁ b o γ ys) (passed 𝓤 H A W mem run κ q cal bk en κ₁ q₁ b o γ ys)) ∷ [])
 
     starts : Sq W Start (runs C Λ En mirs.t-1 (atRet En Ends))
     starts =
