@@ -33,7 +33,7 @@ def bodies(lines):
     """The lines that define something: no comment, import, signature or record field."""
     for n, line in enumerate(lines):
         text = line.split("--")[0]
-        if not text.strip() or re.match(r"\s*(pub )?(use|mod|record|module|abbrev|unfoldable|unfolding|data)\b", text):
+        if not text.strip() or re.match(r"\s*(pub )?(use|mod|record|module|abbrev|unfoldable|unfolding|data|infix[lr]?)\b", text):
             continue
         if re.match(r"\s*(pub )?\S+ :", text) or re.match(r"\s+→", text):
             continue

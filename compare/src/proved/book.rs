@@ -152,9 +152,15 @@ pub fn apply(
     answer::Answer { number: number.into(), matured: matured.0, done, dropped }
 }
 
-/// A run of encoded events on a book and its table, event by event, or its refusal.
-pub fn run(calendar: &[u32], page: &mut Page, table: &mut [Trade], events: &[u8]) -> Result<Vec<Line>, u8> {
-    lines_of(events, |lines| unsafe {
+/// A run of encoded events on a book and its table, into a lent buffer: the number.
+pub fn run_into(
+    calendar: &[u32],
+    page: &mut Page,
+    table: &mut [Trade],
+    events: &[u8],
+    lines: &mut [u64],
+) -> u8 {
+    unsafe {
         book_run(
             calendar.as_ptr(),
             calendar.len(),
@@ -166,7 +172,12 @@ pub fn run(calendar: &[u32], page: &mut Page, table: &mut [Trade], events: &[u8]
             lines.as_mut_ptr(),
             lines.len(),
         )
-    })
+    }
+}
+
+/// A run of encoded events on a book and its table, event by event, or its refusal.
+pub fn run(calendar: &[u32], page: &mut Page, table: &mut [Trade], events: &[u8]) -> Result<Vec<Line>, u8> {
+    lines_of(events, |lines| run_into(calendar, page, table, events, lines))
 }
 
 /// Headroom and O of a book over its table, beside the number.

@@ -1,5 +1,5 @@
 -- Where a contract's trade stands: a contract is on the table just where its place is one of the trades', and what is read and taken off is that trade's.
--- For place_of, contracts_differ, which sorts the contracts of many trades by their numbers, and the events of one contract. Assumes nothing.
+-- For place_of, for contracts_differ, which looks for each contract among the trades before it or sorts them all, and for the events of one contract. Assumes nothing.
 use mathlib.Core.Path.{_≡_, refl, sym, ap, _∙_}
 use mathlib.Core.Bool.{Bool, true, false, cond, false≢true}
 use mathlib.Core.List.{List, [], _∷_, _++_, append-nil, map-append}

@@ -2,8 +2,10 @@
 
 use std::hint::black_box;
 
-use compare::proved;
+use compare::proved::{self, book::Page};
+use model::book::{Book, Trade};
 use model::journal::run_fresh;
+use model::limits::JOURNAL_CAPACITY;
 
 use crate::loads::{self, Load};
 use crate::timing::{rounds, Medians};
@@ -19,6 +21,7 @@ pub fn report(wanted: impl Fn(&str) -> bool) {
     );
     for load in &loads {
         show(load, "run", run(load));
+        show(load, "lent table", lent(load));
         show(load, "listing", listing(load));
     }
 }
@@ -39,6 +42,27 @@ fn run(load: &Load) -> Medians {
     measure(
         || {
             black_box(proved::run_into(calendar, events.as_flattened(), &mut numbers));
+        },
+        || {
+            lines.clear();
+            run_fresh(calendar, events, |_, line| lines.push(line));
+            black_box(&lines);
+        },
+    )
+}
+
+/// The same run on a fresh book and a lent table, both put there for each run.
+fn lent(load: &Load) -> Medians {
+    let Load { calendar, events, .. } = load;
+    let page = Page::from(&Book::fresh());
+    let slots = proved::book::table(&[Trade::default(); JOURNAL_CAPACITY]);
+    let (mut lent, mut lines) = (slots.clone(), Vec::with_capacity(events.len()));
+    let mut numbers = vec![0; proved::LINE_NUMBERS * events.len()];
+    measure(
+        || {
+            lent.copy_from_slice(&slots);
+            let events = events.as_flattened();
+            black_box(proved::book::run_into(calendar, &mut page.clone(), &mut lent, events, &mut numbers));
         },
         || {
             lines.clear();
