@@ -12,7 +12,7 @@ use money::units::Fen;
 use rules::book::Cash;
 use rules::event::Account;
 
-fn held(account: Account, cash: Cash) -> u64
+fn balance(account: Account, cash: Cash) -> u64
     ensures { λ r. ⌜ r ≡ holds account cash ⌝ }
 {
     match account {
@@ -63,7 +63,7 @@ pub fn fund_in(desk: Desk, account: Account, amount: Fen) -> Done
     }
     let cash = desk.cash;
     let mut next = desk;
-    next.cash = with_account(account, held(account, cash) + amount.0, cash);
+    next.cash = with_account(account, balance(account, cash) + amount.0, cash);
     desk::answered(0, next)
 }
 
@@ -74,7 +74,7 @@ fn fund_out_refusal(desk: Desk, account: Account, amount: Fen) -> u8
         return 7;
     }
     let cash = desk.cash;
-    if held(account, cash) < amount.0 {
+    if balance(account, cash) < amount.0 {
         return 13;
     }
     0
@@ -89,6 +89,6 @@ pub fn fund_out(desk: Desk, account: Account, amount: Fen) -> Done
     }
     let cash = desk.cash;
     let mut next = desk;
-    next.cash = with_account(account, held(account, cash) - amount.0, cash);
+    next.cash = with_account(account, balance(account, cash) - amount.0, cash);
     desk::answered(0, next)
 }

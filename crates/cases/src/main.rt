@@ -18,7 +18,7 @@ mod run_cases;
 // Where the pencil slips.
 mod slips;
 
-// The mission's two rehearsals.
+// Document 00's two rehearsals.
 mod rehearsals;
 
 fn main() {

@@ -1,4 +1,4 @@
-// The mission's two rehearsals as journals: the last twenty events are the same rows, and what came before decides.
+// Document 00's two rehearsals as journals: the last twenty events are the same rows, and what came before decides.
 use crate::events::CASH;
 use crate::events::CLIENT;
 use crate::events::CLOSE;

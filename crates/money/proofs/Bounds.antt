@@ -25,12 +25,7 @@ pub no-sheets : (q : Sheets) (price : Ticks) (days : ℕ) → q .0 ≡ 0 → red
 unfolding redemption principal income
 no-sheets q price days e = simp (e, zero-mul) refl
 
--- a redemption is at least its principal
-pub at-least-principal : (q : Sheets) (price : Ticks) (days : ℕ) → 10000 * q .0 ≤ redemption q price days .0
-unfolding redemption principal income
-at-least-principal q price days = omega arith
-
--- and, at the highest price over the longest term, at most 1,062,055 fen a sheet
+-- a redemption, at the highest price over the longest term, is at most 1,062,055 fen a sheet
 pub redemption-bound : (q : Sheets) (price : Ticks) (days : ℕ) → price .0 ≤ priceLimit → days ≤ termLimit → redemption q price days .0 ≤ 1062055 * q .0
 unfolding redemption principal income
 redemption-bound q price days h k = omega (arith, flat)

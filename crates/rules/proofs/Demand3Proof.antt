@@ -21,7 +21,7 @@ use Rattle.rules.proofs.Signed.{same, diff-parts}
 use Rattle.rules.proofs.Answers.{turned-down}
 use Rattle.rules.proofs.Accepted.{Clear, all-clear}
 use Rattle.rules.proofs.Agree.{view, Agrees, Right}
-use Rattle.rules.proofs.Kept.{at-open, at-fundIn, at-fundOut, at-size, at-rate, at-pledge, at-freeze, at-withdraw, at-initial, at-early, at-pay, at-close}
+use Rattle.rules.proofs.EventsAgree.{at-open, at-fundIn, at-fundOut, at-size, at-rate, at-pledge, at-freeze, at-withdraw, at-initial, at-early, at-pay, at-close}
 
 -- ---- one entry
 

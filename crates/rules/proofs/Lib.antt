@@ -17,11 +17,11 @@ pub mod StaysFit
 -- an entry looks at the slots in use and the next one
 pub mod FrontLaws
 -- demand 3 over every list of entries
-pub mod Rows
+pub mod TallyRows
 pub mod Accepted
 pub mod CashKept
 pub mod Agree
-pub mod Kept
+pub mod EventsAgree
 pub mod Demand3Proof
 -- the worked cases
 pub mod Cases

@@ -42,14 +42,14 @@ answered-requires c κs = search needs
 returns : tie.Need-returns
 returns c rows = turned-down _ _ rows _ _ (c .before .before .fund-in-refusal .ensures rows) (c .before .if1 .taken) (c .answered .ensures) refl
 
-held-requires : tie.Need-held-requires
-held-requires c κs = search needs
+balance-requires : tie.Need-balance-requires
+balance-requires c κs = search needs
 
 add-with-account : tie.Need-add-with-account
 add-with-account c =
     let q = c .before .before .before in
     let a = q .before .before .args in
-    omega (arith, c .before .held .ensures, room (bookOf (a .desk) noRows) (a .account) (a .amount) (none-applies q noRows))
+    omega (arith, c .before .balance .ensures, room (bookOf (a .desk) noRows) (a .account) (a .amount) (none-applies q noRows))
 
 with-account-requires : tie.Need-with-account-requires
 with-account-requires c κs = search needs
@@ -59,7 +59,7 @@ answered-requires-2 c κs = search needs
 
 returns-2 : tie.Need-returns-2
 unfolding fundedIn
-returns-2 c rows = carried-out _ _ rows _ _ (none-applies (c .before .before .before .before .before) rows) (c .answered2 .ensures) (rw (c .before .with-account .ensures, c .before .before .before .held .ensures))
+returns-2 c rows = carried-out _ _ rows _ _ (none-applies (c .before .before .before .before .before) rows) (c .answered2 .ensures) (rw (c .before .with-account .ensures, c .before .before .before .balance .ensures))
 
 pub fund-in-spec : {M : Type 1} → statement M
 fund-in-spec =
@@ -68,7 +68,7 @@ fund-in-spec =
     fund-in-refusal-requires
     answered-requires
     returns
-    held-requires
+    balance-requires
     add-with-account
     with-account-requires
     answered-requires-2

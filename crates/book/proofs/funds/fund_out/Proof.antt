@@ -35,14 +35,14 @@ answered-requires c κs = search needs
 returns : tie.Need-returns
 returns c rows = turned-down _ _ rows _ _ (c .before .before .fund-out-refusal .ensures rows) (c .before .if1 .taken) (c .answered .ensures) refl
 
-held-requires : tie.Need-held-requires
-held-requires c κs = search needs
+balance-requires : tie.Need-balance-requires
+balance-requires c κs = search needs
 
 sub-with-account : tie.Need-sub-with-account
 sub-with-account c =
     let q = c .before .before .before in
     let a = q .before .before .args in
-    omega (arith, c .before .held .ensures, covered (bookOf (a .desk) noRows) (a .account) (a .amount) (none-applies q noRows))
+    omega (arith, c .before .balance .ensures, covered (bookOf (a .desk) noRows) (a .account) (a .amount) (none-applies q noRows))
 
 with-account-requires : tie.Need-with-account-requires
 with-account-requires c κs = search needs
@@ -52,7 +52,7 @@ answered-requires-2 c κs = search needs
 
 returns-2 : tie.Need-returns-2
 unfolding fundedOut
-returns-2 c rows = carried-out _ _ rows _ _ (none-applies (c .before .before .before .before .before) rows) (c .answered2 .ensures) (rw (c .before .with-account .ensures, c .before .before .before .held .ensures))
+returns-2 c rows = carried-out _ _ rows _ _ (none-applies (c .before .before .before .before .before) rows) (c .answered2 .ensures) (rw (c .before .with-account .ensures, c .before .before .before .balance .ensures))
 
 pub fund-out-spec : {M : Type 1} → statement M
 fund-out-spec =
@@ -61,7 +61,7 @@ fund-out-spec =
     fund-out-refusal-requires
     answered-requires
     returns
-    held-requires
+    balance-requires
     sub-with-account
     with-account-requires
     answered-requires-2

@@ -8,8 +8,8 @@ returns : tie.Need-returns
 unfolding fundOutCauses
 returns c rows = search column
 
-held-requires : tie.Need-held-requires
-held-requires c κs = search needs
+balance-requires : tie.Need-balance-requires
+balance-requires c κs = search needs
 
 returns-2 : tie.Need-returns-2
 unfolding fundOutCauses
@@ -20,4 +20,4 @@ unfolding fundOutCauses
 returns-3 c rows = search column
 
 pub fund-out-refusal-spec : {M : Type 1} → statement M
-fund-out-refusal-spec = tie.close (tie.spec returns held-requires returns-2 returns-3)
+fund-out-refusal-spec = tie.close (tie.spec returns balance-requires returns-2 returns-3)

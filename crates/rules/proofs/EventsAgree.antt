@@ -35,7 +35,7 @@ use Rattle.rules.specs.Step.{eventCauses, causes, act, outcome}
 use Rattle.rules.specs.Tally.{Tally, dayAfter, paidOn, withFunds, opened, saysTerminated, counted, tell}
 use Rattle.rules.proofs.Signed.{same, sub-parts, diff-parts, not-lt-parts, sub-at-least-0, swap-last}
 use Rattle.rules.proofs.TradeLaws.{take-begun, outstanding-append, outstanding-one, take-over, length-takeOff, outstanding-takeOff, take-packed, remaining-remaining, outstanding-remaining, outstanding-matured, remaining-emptied, outstanding-emptied}
-use Rattle.rules.proofs.Rows.{withoutEmpty-append, taken-of-contract, sheets-of-contract, amount-of-contract, taken-due, sheets-due, amount-due, taken-whole, sheets-whole, amount-whole}
+use Rattle.rules.proofs.TallyRows.{withoutEmpty-append, taken-of-contract, sheets-of-contract, amount-of-contract, taken-due, sheets-due, amount-due, taken-whole, sheets-whole, amount-whole}
 use Rattle.rules.proofs.FoldLaws.{both}
 use Rattle.rules.proofs.Accepted.{Clear, within-table, contracts-differ}
 use Rattle.rules.proofs.CashKept.{cashOf, funds-in-add, funds-out-take, pledge-keeps-cash, freeze-keeps-cash, payment-whole, payment-nothing, payment-keeps-cash, payment-moves-net, close-keeps-cash}
