@@ -1,34 +1,28 @@
 -- A listing that is not refused, and the empty table that it starts on.
 -- For the proofs of listing.rt. Assumes nothing.
 use mathlib.Core.Path.{_≡_, refl, ap}
-use mathlib.Core.Bool.{Bool, true, false, not}
-use mathlib.Core.List.{List, _∷_}
+use mathlib.Core.Bool.{not}
+use mathlib.Core.List.{List}
 use mathlib.Core.Option.{none}
 use Prim.Native.Nat.{ℕ, zero, suc, _+_, _*_, _≤_, _<_}
 use native.Mathlib.Numerals.{add-one}
 use native.Mathlib.Omega.{arith}
 use borrow.Author.Tests.{ltb-false}
-use lib.Dec.{ltb, eqb}
+use lib.Dec.{eqb}
 use lib.ListN.{length, getD, replicate, length-replicate, getD-replicate, replicate-append-replicate}
-use Rattle.money.specs.Causes.{Cause, _⇒_, firstOf, numberOf}
+use Rattle.money.specs.Causes.{firstOf, numberOf}
 use Rattle.money.proofs.Refusals.{failed}
 use Rattle.money.specs.Days.{Calendar}
 use Rattle.rules.specs.Trades.{noTrade}
 use Rattle.rules.specs.Book.{freshBook}
 use Rattle.rules.specs.Listing.{journalTable, listingOf, lengthCauses, listingCauses, writtenBy, RunOutcome, runDone, runOutcome}
-use Rattle.rules.proofs.StaysFit.{fresh-is-fit}
+use Rattle.rules.proofs.StaysFit.{others-clear, fresh-is-fit}
 use Rattle.book.specs.Flat.{tradeAt, tradesTo, capacity, tradesOf}
 use Rattle.book.proofs.Refusing.{none-at-0}
 use Rattle.book.proofs.StepLaws.{not-unfit}
 use Rattle.book.proofs.RunLaws.{goes-on}
 
 -- ---- a listing that is not refused
-
--- where no cause applies, none of the later ones does
-others-none : (test : Bool) (n : ℕ) (cs : List Cause) → firstOf ((test ⇒ n) ∷ cs) ≡ none → firstOf cs ≡ none
-unfolding firstOf
-others-none true n cs e = let z : _≡_ {A = ℕ} 0 1 = cc in absurd (omega arith)
-others-none false n cs e = e
 
 module _ (words bytes room : ℕ) where
   pub listing-clear : (n : ℕ) → n ≡ numberOf (firstOf (listingCauses words bytes room)) → n ≡ 0 → firstOf (listingCauses words bytes room) ≡ none
@@ -41,7 +35,7 @@ module _ (words bytes room : ℕ) where
 
   lengths-none : firstOf (listingCauses words bytes room) ≡ none → firstOf (lengthCauses bytes room) ≡ none
   unfolding listingCauses
-  lengths-none e = others-none (ltb 1200 words) 1 (lengthCauses bytes room) e
+  lengths-none e = others-clear _ (lengthCauses bytes room) e
 
 -- ---- the empty table
 
