@@ -21,7 +21,7 @@ set-over-take (suc n) [] i t h = refl
 set-over-take (suc n) (x ∷ l) zero t h = ap (λ (r : List Trade). t ∷ r) (sym (take-append-drop n l))
 set-over-take (suc n) (x ∷ l) (suc i) t h = ap (λ (r : List Trade). x ∷ r) (set-over-take n l i t (omega arith))
 
-module _ (table : List ℕ) (count place : ℕ) (contract : Contract) (room : count * 6 ≤ length table) (stands : place ≡ placeOf contract (tradesTo table count)) where
+module _ (table : List ℕ) (count place : ℕ) (contract : Contract) (room : count * 4 ≤ length table) (stands : place ≡ placeOf contract (tradesTo table count)) where
   in-use : take count (tradesOf table) ≡ tradesTo table count
   in-use = take-trades table count (omega arith)
 

@@ -60,7 +60,7 @@ module _ (table : List ℕ) (count : ℕ) (fits : CapacityFits count (tradesOf t
   kept-of each = record { room = omega (arith, room-of); few = omega (arith, fits .room, fits .within); within = each }
 
 -- the same from the tests that found it so
-pub room-where-fit : (table : List ℕ) (count : ℕ) → capacityFit count (tradesOf table) ≡ true → count * 6 ≤ length table
+pub room-where-fit : (table : List ℕ) (count : ℕ) → capacityFit count (tradesOf table) ≡ true → count * 4 ≤ length table
 room-where-fit table count e = omega (arith, room-of table count (capacity-fits count (tradesOf table) e))
 
 pub kept-where-fit : (table : List ℕ) (count : ℕ) → capacityFit count (tradesOf table) ≡ true → allTrades tradeFit (tradesTo table count) ≡ true → Kept table count

@@ -42,13 +42,13 @@ module _ (words bytes room : ℕ) where
 abbrev pub zeros : ℕ → List ℕ
 zeros numbers = replicate numbers 0
 
-zero-trade : (numbers place : ℕ) → place * 6 + 5 < numbers → tradeAt (zeros numbers) place ≡ noTrade
+zero-trade : (numbers place : ℕ) → place * 4 + 3 < numbers → tradeAt (zeros numbers) place ≡ noTrade
 unfolding tradeAt
 zero-trade numbers place h =
     let read : (i : ℕ) → i < numbers → getD (zeros numbers) i 0 ≡ zero = λ i l. getD-replicate numbers i zero zero l in
-    rw (read (place * 6) (omega arith), read (place * 6 + 1) (omega arith), read (place * 6 + 2) (omega arith), read (place * 6 + 3) (omega arith), read (place * 6 + 4) (omega arith), read (place * 6 + 5) (omega arith))
+    rw (read (place * 4) (omega arith), read (place * 4 + 1) (omega arith), read (place * 4 + 2) (omega arith), read (place * 4 + 3) (omega arith))
 
-zero-trades : (numbers count : ℕ) → count * 6 ≤ numbers → tradesTo (zeros numbers) count ≡ replicate count noTrade
+zero-trades : (numbers count : ℕ) → count * 4 ≤ numbers → tradesTo (zeros numbers) count ≡ replicate count noTrade
 unfolding tradesTo
 zero-trades numbers zero h = refl
 zero-trades numbers (suc count) h =
@@ -56,13 +56,13 @@ zero-trades numbers (suc count) h =
     (rw add-one at (replicate-append-replicate count 1 noTrade))
 
 -- a table of zeros has no trade in any of its slots
-pub empty-table : (numbers count : ℕ) → count * 6 ≡ numbers → tradesOf (zeros numbers) ≡ replicate count noTrade
+pub empty-table : (numbers count : ℕ) → count * 4 ≡ numbers → tradesOf (zeros numbers) ≡ replicate count noTrade
 empty-table numbers count e =
     let slots : capacity (zeros numbers) ≡ count = omega (arith, length-replicate numbers zero) in
     rw slots (zero-trades numbers count (omega arith))
 
-pub journal-starts-empty : tradesOf (zeros 6144) ≡ journalTable
-journal-starts-empty = empty-table 6144 1024 refl
+pub journal-starts-empty : tradesOf (zeros 4096) ≡ journalTable
+journal-starts-empty = empty-table 4096 1024 refl
 
 -- ---- the run on a fresh book is the listing
 

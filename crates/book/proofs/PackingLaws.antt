@@ -18,12 +18,12 @@ use Rattle.book.proofs.RedemptionLaws.{over-set}
 pub record Gathered (s : List ℕ) (count : ℕ) (t : List ℕ) (kept i : ℕ) : Type 0 where
   pub low : kept ≤ i
   pub high : i ≤ count
-  pub room : count * 6 ≤ length s
+  pub room : count * 4 ≤ length s
   pub long : length t ≡ length s
   pub front : take kept (tradesOf t) ≡ remaining (tradesTo s i)
   pub rest : drop i (tradesOf t) ≡ drop i (tradesOf s)
 
-pub none-passed : (s : List ℕ) (count : ℕ) → count * 6 ≤ length s → Gathered s count s 0 0
+pub none-passed : (s : List ℕ) (count : ℕ) → count * 4 ≤ length s → Gathered s count s 0 0
 unfolding remaining
 none-passed s count h = record { low = omega arith; high = omega arith; room = h; long = refl; front = rw (no-trades s); rest = refl }
 

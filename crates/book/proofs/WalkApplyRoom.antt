@@ -69,7 +69,7 @@ module _ {M : Type 1} (𝓤 : URA M) (H : Heap 𝓤) (A : Atoms 𝓤) where
   abbrev by-numbers : Clauses 𝓤 lent
   by-numbers κs x = record {
     ghost = Unit {0};
-    requires = λ _. fact 𝓤 (length (now (x .1 .1 .0)) * 6 ≤ length (now (x .1 .1 .1 .0)));
+    requires = λ _. fact 𝓤 (length (now (x .1 .1 .0)) * 4 ≤ length (now (x .1 .1 .1 .0)));
     ensures = λ _ r z. fact 𝓤 ((r ≡ appliedOf (step (now (x .0)) (x .1 .0) (now (x .1 .1 .0)) (x .1 .1 .1 .1 .0))) × (now (z .1 .1 .0) ≡ step (now (x .0)) (x .1 .0) (now (x .1 .1 .0)) (x .1 .1 .1 .1 .0) .table));
   }
 
@@ -90,7 +90,7 @@ module _ {M : Type 1} (𝓤 : URA M) (H : Heap 𝓤) (A : Atoms 𝓤) (W : Given
   abbrev TakesBy : List (Item 𝓤)
   TakesBy = (‵ (Slice T.the-row (ν ∷ []) b o (length ys) δ ys) ⊛ ‵ (flft (ν ∷ []) fullShare)) ∷ (‵ (Slice u64 (ν′ ∷ []) l 0 width δ′ fs) ⊛ ‵ (flft (ν′ ∷ []) fullShare)) ∷ (‵ (flft κ q) ⊛ ‵ (OwnCal κ cal)) ∷ []
 
-  goes-by : Is Bk.the-row bk (bookVal bk ∷ []) → Is Ev.the-row en (entryVal en ∷ []) → length ys * 6 ≤ length fs → ent 𝓤 (⋆ 𝓤 H A TakesBy) (By 𝓤 H A .pre to-by)
+  goes-by : Is Bk.the-row bk (bookVal bk ∷ []) → Is Ev.the-row en (entryVal en ∷ []) → length ys * 4 ≤ length fs → ent 𝓤 (⋆ 𝓤 H A TakesBy) (By 𝓤 H A .pre to-by)
   goes-by gb ge fits =
       qed W TakesBy ∵ says ! fits $ split ! $ move ! (2 ∷ []) $ split ! $ move ! (4 ∷ []) $ split ! $
       -- [calendar's token; what it owns; the numbers; ν′'s token; the table; ν's token]
@@ -142,8 +142,8 @@ module _ (width : ℕ) (size : Operand) (#zeros #by : Name) where
 
 -- ---- the walk, for room enough
 module _ {M : Type 1} (𝓤 : URA M) (H : Heap 𝓤) (A : Atoms 𝓤) (W : Given 𝓤 H A) (mem : Memory → SProp 𝓤) (run : Routine → Fun 𝓤)
-    (most width : ℕ) (enough : most * 6 ≤ width) (flat-room : Room u64 width) (size : Operand) (reads : (Γ : List (Item 𝓤)) (E : Env 𝓤 H) → Opd (Go {0}) W Γ E size (vint w64 width)) (#zeros #by : Name) where
-  all-fit : {n m : ℕ} → n ≤ most → m ≡ width → n * 6 ≤ m
+    (most width : ℕ) (enough : most * 4 ≤ width) (flat-room : Room u64 width) (size : Operand) (reads : (Γ : List (Item 𝓤)) (E : Env 𝓤 H) → Opd (Go {0}) W Γ E size (vint w64 width)) (#zeros #by : Name) where
+  all-fit : {n m : ℕ} → n ≤ most → m ≡ width → n * 4 ≤ m
   all-fit l e = omega (arith, l, e, enough)
 
   module _ (κ κ₁ : Lft) (q q₁ : Share) (cal : RefT (List ℕ)) (bk : Book) (b o : ℕ) (γ : GName) (ys : List Trade) (en : Entry) where

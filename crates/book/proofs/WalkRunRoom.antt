@@ -68,7 +68,7 @@ module _ {M : Type 1} (𝓤 : URA M) (H : Heap 𝓤) (A : Atoms 𝓤) where
       let left : RunOutcome = runOutcome (now (x .0)) (x .1 .0) (now (x .1 .1 .0)) (now (x .1 .1 .1 .1 .0)) (now (x .1 .1 .1 .1 .1 .0)) in
       record {
         ghost = Unit {0};
-        requires = λ _. fact 𝓤 (length (now (x .1 .1 .0)) * 6 ≤ length (now (x .1 .1 .1 .0)));
+        requires = λ _. fact 𝓤 (length (now (x .1 .1 .0)) * 4 ≤ length (now (x .1 .1 .1 .0)));
         ensures = λ _ r z. fact 𝓤 ((r ≡ left .ran) × (now (z .1 .1 .0) ≡ left .table) × (now (z .1 .1 .1 .1 .1 .0) ≡ left .lines));
       }
 
@@ -89,7 +89,7 @@ module _ {M : Type 1} (𝓤 : URA M) (H : Heap 𝓤) (A : Atoms 𝓤) (W : Given
   abbrev TakesBy : List (Item 𝓤)
   TakesBy = ((‵ (Slice T.the-row (ν ∷ []) b o (length ys) δ ys) ⊛ ‵ (flft (ν ∷ []) fullShare)) ⊛ (‵ (Slice u64 (ν′ ∷ []) l 0 width δ′ fs) ⊛ ‵ (flft (ν′ ∷ []) fullShare))) ∷ ((‵ (Slice u64 (ν″ ∷ []) b″ o″ (length ls) δ″ ls) ⊛ ‵ (flft (ν″ ∷ []) fullShare)) ⊛ (‵ (flft κ₂ q₂) ⊛ ‵ (OwnEvents κ₂ evs))) ∷ (‵ (flft κ q) ⊛ ‵ (OwnCal κ cal)) ∷ []
 
-  goes-by : Is Bk.the-row bk (bookVal bk ∷ []) → length ys * 6 ≤ length fs → ent 𝓤 (⋆ 𝓤 H A TakesBy) (By 𝓤 H A .pre to-by)
+  goes-by : Is Bk.the-row bk (bookVal bk ∷ []) → length ys * 4 ≤ length fs → ent 𝓤 (⋆ 𝓤 H A TakesBy) (By 𝓤 H A .pre to-by)
   goes-by gb fits =
       qed W TakesBy ∵ says ! fits $ split ! $ split ! $ move ! (2 ∷ []) $ split ! $ move ! (4 ∷ []) $ split ! $ split ! $ move ! (2 ∷ []) $ split ! $ move ! (8 ∷ []) $ split ! $
       -- [calendar's token; what it owns; the events' token; the events; the lines; ν″'s token; the numbers; ν′'s; the table; ν's]
@@ -155,8 +155,8 @@ module _ (width : ℕ) (size : Operand) (#zeros #by : Name) where
 
 -- ---- the walk, for room enough
 module _ {M : Type 1} (𝓤 : URA M) (H : Heap 𝓤) (A : Atoms 𝓤) (W : Given 𝓤 H A) (mem : Memory → SProp 𝓤) (run : Routine → Fun 𝓤)
-    (most width : ℕ) (enough : most * 6 ≤ width) (flat-room : Room u64 width) (size : Operand) (reads : (Γ : List (Item 𝓤)) (E : Env 𝓤 H) → Opd (Go {0}) W Γ E size (vint w64 width)) (#zeros #by : Name) where
-  all-fit : {n m : ℕ} → n ≤ most → m ≡ width → n * 6 ≤ m
+    (most width : ℕ) (enough : most * 4 ≤ width) (flat-room : Room u64 width) (size : Operand) (reads : (Γ : List (Item 𝓤)) (E : Env 𝓤 H) → Opd (Go {0}) W Γ E size (vint w64 width)) (#zeros #by : Name) where
+  all-fit : {n m : ℕ} → n ≤ most → m ≡ width → n * 4 ≤ m
   all-fit l e = omega (arith, l, e, enough)
 
   module _ (κ κ₁ κ₂ κ₃ : Lft) (q q₁ q₂ q₃ : Share) (cal : RefT (List ℕ)) (bk : Book) (b o : ℕ) (γ : GName) (ys : List Trade) (evs : RefT (List ℕ)) (b″ o″ : ℕ) (γ″ : GName) (ls : List ℕ) where

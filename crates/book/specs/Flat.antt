@@ -1,4 +1,4 @@
--- How the core lays out its table, six numbers a trade, and its book, a desk and rows: what private contracts read them by. No rule of document 01 stands here.
+-- How the core lays out its table, four numbers a trade, and its book, a desk and rows: what private contracts read them by. No rule of document 01 stands here.
 -- Assumes nothing.
 use Prim.Native.Nat.{ℕ, zero, suc, _+_, _*_, _/_, _%_, _≤_}
 use mathlib.Core.Path.{_≡_}
@@ -24,20 +24,23 @@ use Rattle.book.specs.declared.evening.Evened.{Evened}
 
 -- a number of the trade at a place
 abbrev pub word : List ℕ → (place field : ℕ) → ℕ
-word table place field = getD table (place * 6 + field) 0
+word table place field = getD table (place * 4 + field) 0
 
--- prices and days have 32 bits
-abbrev pub short : ℕ → ℕ
-short number = number % 4294967296
+-- prices and days have 32 bits, two to a number
+abbrev pub lower : ℕ → ℕ
+lower number = number % 4294967296
+
+abbrev pub upper : ℕ → ℕ
+upper number = number / 4294967296 % 4294967296
 
 unfoldable pub tradeAt : List ℕ → ℕ → Trade
 tradeAt table place = record {
-  contract = record { 0 = getD table (place * 6) 0 };
+  contract = record { 0 = getD table (place * 4) 0 };
   sheets = sheets (word table place 1);
-  price = ticks (short (word table place 2));
-  fallback = ticks (short (word table place 3));
-  first = short (word table place 4);
-  due = short (word table place 5);
+  price = ticks (lower (word table place 2));
+  fallback = ticks (upper (word table place 2));
+  first = lower (word table place 3);
+  due = upper (word table place 3);
 }
 
 -- the first trades of the table, and all of them
@@ -46,7 +49,7 @@ tradesTo table zero = []
 tradesTo table (suc count) = tradesTo table count ++ (tradeAt table count ∷ [])
 
 abbrev pub capacity : List ℕ → ℕ
-capacity table = length table / 6
+capacity table = length table / 4
 
 abbrev pub tradesOf : List ℕ → List Trade
 tradesOf table = tradesTo table (capacity table)
@@ -132,7 +135,7 @@ contractNumbers trades = map (λ trade. trade .contract .0) trades
 
 -- the trades in use stand in the table, within their limits
 pub record Kept (table : List ℕ) (count : ℕ) : Type 0 where
-  pub room : count * 6 ≤ length table
+  pub room : count * 4 ≤ length table
   pub few : count ≤ capacityLimit
   pub within : allTrades tradeFit (tradesTo table count) ≡ true
 

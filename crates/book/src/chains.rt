@@ -24,7 +24,7 @@ fn bucket_of(contract: Contract) -> usize
 
 // A contract looked for along a chain, over 64 trades at most. A link is one more than a place, and 0 at the end.
 fn look_along(table: &[u64], next: &[u16], from: usize, contract: Contract) -> Told
-    requires { ⌜ (from * 6 ≤ length (now table)) × (from ≤ length (now next)) × (Falls (now next) from) ⌝ }
+    requires { ⌜ (from * 4 ≤ length (now table)) × (from ≤ length (now next)) × (Falls (now next) from) ⌝ }
     ensures { λ r. ⌜ Tells (now (table .entry)) (now (next .entry)) from contract r ⌝ }
 {
     let mut link = from;
@@ -45,7 +45,7 @@ fn look_along(table: &[u64], next: &[u16], from: usize, contract: Contract) -> T
 
 // The trades linked one after the other, each looked for along the chain of its bucket.
 pub fn linked_differ(table: &[u64], count: usize, heads: &mut [u16], next: &mut [u16]) -> Told
-    requires { ⌜ (count * 6 ≤ length (now table)) × (count ≤ 4096) × (now heads ≡ replicate 8191 0) × (count ≤ length (now next)) ⌝ }
+    requires { ⌜ (count * 4 ≤ length (now table)) × (count ≤ 4096) × (now heads ≡ replicate 8191 0) × (count ≤ length (now next)) ⌝ }
     ensures { λ r. ⌜ TellsAll (now (table .entry)) count r ⌝ }
 {
     let mut i = 0;

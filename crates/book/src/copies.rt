@@ -6,21 +6,21 @@ ghost use Rattle.book.specs.Flat.{tradesTo};
 use crate::flat;
 use rules::trade::Trade;
 
-// Room for as many trades as the name says, six numbers each.
-pub fn zeros_128() -> [u64; 768] {
-    [0; 768]
+// Room for as many trades as the name says, four numbers each.
+pub fn zeros_128() -> [u64; 512] {
+    [0; 512]
 }
 
-pub fn zeros_1024() -> [u64; 6_144] {
-    [0; 6_144]
+pub fn zeros_1024() -> [u64; 4_096] {
+    [0; 4_096]
 }
 
-pub fn zeros_4096() -> [u64; 24_576] {
-    [0; 24_576]
+pub fn zeros_4096() -> [u64; 16_384] {
+    [0; 16_384]
 }
 
 pub fn copy_in(table: &[Trade], flat: &mut [u64])
-    requires { ⌜ length (now table) * 6 ≤ length (now flat) ⌝ }
+    requires { ⌜ length (now table) * 4 ≤ length (now flat) ⌝ }
     ensures { λ _. ⌜ tradesTo (now (flat .exit)) (length (now (table .entry))) ≡ now (table .entry) ⌝ }
 {
     let n = table.len();
@@ -32,7 +32,7 @@ pub fn copy_in(table: &[Trade], flat: &mut [u64])
 }
 
 pub fn copy_out(flat: &[u64], table: &mut [Trade])
-    requires { ⌜ length (now table) * 6 ≤ length (now flat) ⌝ }
+    requires { ⌜ length (now table) * 4 ≤ length (now flat) ⌝ }
     ensures { λ _. ⌜ now (table .exit) ≡ tradesTo (now (flat .entry)) (length (now (table .entry))) ⌝ }
 {
     let n = table.len();

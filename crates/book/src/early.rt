@@ -20,7 +20,7 @@ use rules::trade::Contract;
 
 // Whether today is at or past the due day of the trade at a place.
 fn past_due(desk: Desk, table: &[u64], place: usize, contract: Contract) -> bool
-    requires { ⌜ (desk .trades * 6 ≤ length (now table)) × (place ≡ placeOf contract (tradesTo (now table) (desk .trades))) ⌝ }
+    requires { ⌜ (desk .trades * 4 ≤ length (now table)) × (place ≡ placeOf contract (tradesTo (now table) (desk .trades))) ⌝ }
     ensures { λ r. ⌜ ((rows : Rows) → r ≡ pastDue (bookOf desk rows) (tradesOf (now (table .entry))) contract) ⌝ }
 {
     if place >= desk.trades {

@@ -24,7 +24,7 @@ use rules::book::Standing;
 fn capacity_fit(count: usize, table: &[u64]) -> bool
     ensures { λ r. ⌜ r ≡ capacityFit count (tradesOf (now (table .entry))) ⌝ }
 {
-    let slots = table.len() / 6;
+    let slots = table.len() / 4;
     if slots > 4_096 {
         return false;
     }

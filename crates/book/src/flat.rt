@@ -1,9 +1,9 @@
-// The core's table: six numbers a trade, in the record's order. Trades are read and written here only.
+// The core's table: four numbers a trade, in the record's order. Trades are read and written here only.
 ghost use mathlib.Core.Path.{_≡_};
 ghost use Prim.Native.Nat.{_+_, _*_, _<_};
-ghost use lib.ListN.{length, set};
+ghost use lib.ListN.{length, getD, set};
 ghost use Rattle.rules.specs.Trades.{same, withSheets};
-ghost use Rattle.book.specs.Flat.{tradeAt, tradesOf};
+ghost use Rattle.book.specs.Flat.{lower, upper, tradeAt, tradesOf};
 use money::units::Sheets;
 use money::units::Ticks;
 use rules::trade::Contract;
@@ -16,68 +16,87 @@ pub fn same_contract(a: Contract, b: Contract) -> bool
 }
 
 pub fn contract_at(table: &[u64], place: usize) -> Contract
-    requires { ⌜ place * 6 + 5 < length (now table) ⌝ }
+    requires { ⌜ place * 4 + 3 < length (now table) ⌝ }
     ensures { λ r. ⌜ r ≡ tradeAt (now (table .entry)) place .contract ⌝ }
 {
-    Contract(table[place * 6])
+    Contract(table[place * 4])
 }
 
 pub fn sheets_at(table: &[u64], place: usize) -> u64
-    requires { ⌜ place * 6 + 5 < length (now table) ⌝ }
+    requires { ⌜ place * 4 + 3 < length (now table) ⌝ }
     ensures { λ r. ⌜ r ≡ tradeAt (now (table .entry)) place .sheets .0 ⌝ }
 {
-    table[place * 6 + 1]
+    table[place * 4 + 1]
+}
+
+// Prices and days have 32 bits, and stand two to a number: this is the lower half, and below it the upper.
+fn lower_at(table: &[u64], at: usize) -> u32
+    requires { ⌜ at < length (now table) ⌝ }
+    ensures { λ r. ⌜ r ≡ lower (getD (now (table .entry)) at 0) ⌝ }
+{
+    (table[at] % 4_294_967_296) as u32
+}
+
+fn upper_at(table: &[u64], at: usize) -> u32
+    requires { ⌜ at < length (now table) ⌝ }
+    ensures { λ r. ⌜ r ≡ upper (getD (now (table .entry)) at 0) ⌝ }
+{
+    (table[at] / 4_294_967_296 % 4_294_967_296) as u32
+}
+
+fn paired(low: u32, high: u32) -> u64
+    ensures { λ r. ⌜ (r ≡ low + 4294967296 * high) × (low < 4294967296) × (high < 4294967296) ⌝ }
+{
+    low as u64 + 4_294_967_296 * (high as u64)
 }
 
 pub fn price_at(table: &[u64], place: usize) -> Ticks
-    requires { ⌜ place * 6 + 5 < length (now table) ⌝ }
+    requires { ⌜ place * 4 + 3 < length (now table) ⌝ }
     ensures { λ r. ⌜ r ≡ tradeAt (now (table .entry)) place .price ⌝ }
 {
-    Ticks((table[place * 6 + 2] % 4_294_967_296) as u32)
+    Ticks(lower_at(table, place * 4 + 2))
 }
 
 pub fn fallback_at(table: &[u64], place: usize) -> Ticks
-    requires { ⌜ place * 6 + 5 < length (now table) ⌝ }
+    requires { ⌜ place * 4 + 3 < length (now table) ⌝ }
     ensures { λ r. ⌜ r ≡ tradeAt (now (table .entry)) place .fallback ⌝ }
 {
-    Ticks((table[place * 6 + 3] % 4_294_967_296) as u32)
+    Ticks(upper_at(table, place * 4 + 2))
 }
 
 pub fn first_at(table: &[u64], place: usize) -> u32
-    requires { ⌜ place * 6 + 5 < length (now table) ⌝ }
+    requires { ⌜ place * 4 + 3 < length (now table) ⌝ }
     ensures { λ r. ⌜ r ≡ tradeAt (now (table .entry)) place .first ⌝ }
 {
-    (table[place * 6 + 4] % 4_294_967_296) as u32
+    lower_at(table, place * 4 + 3)
 }
 
 pub fn due_at(table: &[u64], place: usize) -> u32
-    requires { ⌜ place * 6 + 5 < length (now table) ⌝ }
+    requires { ⌜ place * 4 + 3 < length (now table) ⌝ }
     ensures { λ r. ⌜ r ≡ tradeAt (now (table .entry)) place .due ⌝ }
 {
-    (table[place * 6 + 5] % 4_294_967_296) as u32
+    upper_at(table, place * 4 + 3)
 }
 
 pub fn put_sheets(table: &mut [u64], place: usize, count: u64)
-    requires { ⌜ place * 6 + 5 < length (now table) ⌝ }
+    requires { ⌜ place * 4 + 3 < length (now table) ⌝ }
     ensures { λ _. ⌜ tradesOf (now (table .exit)) ≡ set (tradesOf (now (table .entry))) place (withSheets count (tradeAt (now (table .entry)) place)) ⌝ }
 {
-    table[place * 6 + 1] = count;
+    table[place * 4 + 1] = count;
 }
 
 pub fn put_trade(table: &mut [u64], place: usize, trade: Trade)
-    requires { ⌜ place * 6 + 5 < length (now table) ⌝ }
+    requires { ⌜ place * 4 + 3 < length (now table) ⌝ }
     ensures { λ _. ⌜ tradesOf (now (table .exit)) ≡ set (tradesOf (now (table .entry))) place trade ⌝ }
 {
-    table[place * 6] = trade.contract.0;
-    table[place * 6 + 1] = trade.sheets.0;
-    table[place * 6 + 2] = trade.price.0 as u64;
-    table[place * 6 + 3] = trade.fallback.0 as u64;
-    table[place * 6 + 4] = trade.first as u64;
-    table[place * 6 + 5] = trade.due as u64;
+    table[place * 4] = trade.contract.0;
+    table[place * 4 + 1] = trade.sheets.0;
+    table[place * 4 + 2] = paired(trade.price.0, trade.fallback.0);
+    table[place * 4 + 3] = paired(trade.first, trade.due);
 }
 
 pub fn trade_at(table: &[u64], place: usize) -> Trade
-    requires { ⌜ place * 6 + 5 < length (now table) ⌝ }
+    requires { ⌜ place * 4 + 3 < length (now table) ⌝ }
     ensures { λ r. ⌜ r ≡ tradeAt (now (table .entry)) place ⌝ }
 {
     Trade {
@@ -91,7 +110,7 @@ pub fn trade_at(table: &[u64], place: usize) -> Trade
 }
 
 pub fn move_trade(table: &mut [u64], from: usize, to: usize)
-    requires { ⌜ (from * 6 + 5 < length (now table)) × (to * 6 + 5 < length (now table)) ⌝ }
+    requires { ⌜ (from * 4 + 3 < length (now table)) × (to * 4 + 3 < length (now table)) ⌝ }
     ensures { λ _. ⌜ tradesOf (now (table .exit)) ≡ set (tradesOf (now (table .entry))) to (tradeAt (now (table .entry)) from) ⌝ }
 {
     let trade = trade_at(table, from);

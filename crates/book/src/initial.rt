@@ -62,7 +62,7 @@ fn bad_due(calendar: &[u32], today: u32, due: u32) -> bool
 }
 
 fn is_taken(table: &[u64], count: usize, contract: Contract) -> bool
-    requires { ⌜ count * 6 ≤ length (now table) ⌝ }
+    requires { ⌜ count * 4 ≤ length (now table) ⌝ }
     ensures { λ r. ⌜ r ≡ onTable contract (tradesTo (now (table .entry)) count) ⌝ }
 {
     trades::place_of(table, count, contract) < count
@@ -100,7 +100,7 @@ fn room_refusal(
     if is_taken(table, desk.trades, contract) {
         return 10;
     }
-    if table.len() / 6 <= desk.trades {
+    if table.len() / 4 <= desk.trades {
         return 11;
     }
     if lacks_headroom(calendar, desk, held, table, outstanding, terms.sheets.0) {

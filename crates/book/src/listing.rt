@@ -23,7 +23,7 @@ pub fn run_listing(calendar: &[u32], events: &[u8], lines: &mut [u64]) -> u8
     if refusal != 0 {
         return refusal;
     }
-    let mut table = [0; 6144];
+    let mut table = [0; 4096];
     let _ = run::run_flat(calendar, book::fresh(), &mut table, events, lines);
     0
 }

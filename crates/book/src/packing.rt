@@ -13,7 +13,7 @@ use rules::trade::Trade;
 
 // The trades with something left go to the front, in order.
 fn gather(table: &mut [u64], count: usize) -> usize
-    requires { ⌜ count * 6 ≤ length (now table) ⌝ }
+    requires { ⌜ count * 4 ≤ length (now table) ⌝ }
     ensures few { λ r. ⌜ r ≤ count ⌝ }
     ensures front { λ r. ⌜ take r (tradesOf (now (table .exit))) ≡ remaining (tradesTo (now (table .entry)) count) ⌝ }
     ensures rest { λ r. ⌜ drop count (tradesOf (now (table .exit))) ≡ drop count (tradesOf (now (table .entry))) ⌝ }
@@ -33,7 +33,7 @@ fn gather(table: &mut [u64], count: usize) -> usize
 }
 
 fn free(table: &mut [u64], place: usize)
-    requires { ⌜ place * 6 + 5 < length (now table) ⌝ }
+    requires { ⌜ place * 4 + 3 < length (now table) ⌝ }
     ensures { λ _. ⌜ tradesOf (now (table .exit)) ≡ set (tradesOf (now (table .entry))) place noTrade ⌝ }
 {
     let nothing = Trade {
@@ -48,7 +48,7 @@ fn free(table: &mut [u64], place: usize)
 }
 
 fn free_from(table: &mut [u64], from: usize, to: usize)
-    requires { ⌜ (from ≤ to) × (to * 6 ≤ length (now table)) ⌝ }
+    requires { ⌜ (from ≤ to) × (to * 4 ≤ length (now table)) ⌝ }
     ensures { λ _. ⌜ tradesOf (now (table .exit)) ≡ take from (tradesOf (now (table .entry))) ++ (replicate (to - from) noTrade ++ drop to (tradesOf (now (table .entry)))) ⌝ }
 {
     let mut i = from;
@@ -60,7 +60,7 @@ fn free_from(table: &mut [u64], from: usize, to: usize)
 
 // The answer is how many trades are left.
 pub fn pack(table: &mut [u64], count: usize) -> usize
-    requires { ⌜ count * 6 ≤ length (now table) ⌝ }
+    requires { ⌜ count * 4 ≤ length (now table) ⌝ }
     ensures { λ r. ⌜ (r ≡ length (remaining (tradesTo (now (table .entry)) count))) × (tradesOf (now (table .exit)) ≡ packed count (remaining (tradesTo (now (table .entry)) count)) (tradesOf (now (table .entry)))) ⌝ }
 {
     let kept = gather(table, count);

@@ -18,7 +18,7 @@ pub struct Plan {
 
 // What some sheets of a trade are redeemed for, with no division where there are none.
 pub fn redeemed_for(table: &[u64], place: usize, count: u64, price: Ticks, payment: u32) -> u64
-    requires { ⌜ (place * 6 + 5 < length (now table)) × (count ≤ tradeLimit) × (price .0 ≤ priceLimit) ⌝ }
+    requires { ⌜ (place * 4 + 3 < length (now table)) × (count ≤ tradeLimit) × (price .0 ≤ priceLimit) ⌝ }
     requires { ⌜ (tradeAt (now table) place .first ≤ payment) × (payment ≤ termLimit) ⌝ }
     ensures { λ r. ⌜ r ≡ redeemed payment count price (tradeAt (now (table .entry)) place) ⌝ }
 {
@@ -31,7 +31,7 @@ pub fn redeemed_for(table: &[u64], place: usize, count: u64, price: Ticks, payme
 }
 
 fn maturing_at(table: &[u64], place: usize, today: u32) -> u64
-    requires { ⌜ place * 6 + 5 < length (now table) ⌝ }
+    requires { ⌜ place * 4 + 3 < length (now table) ⌝ }
     ensures { λ r. ⌜ r ≡ maturing today (tradeAt (now (table .entry)) place) ⌝ }
 {
     if flat::due_at(table, place) > today {
@@ -81,7 +81,7 @@ pub fn fallback_total(table: &[u64], count: usize, payment: u32) -> u64
 }
 
 fn redeem_one(table: &mut [u64], place: usize, by: u32)
-    requires { ⌜ place * 6 + 5 < length (now table) ⌝ }
+    requires { ⌜ place * 4 + 3 < length (now table) ⌝ }
     ensures { λ _. ⌜ tradesOf (now (table .exit)) ≡ set (tradesOf (now (table .entry))) place (matured by (tradeAt (now (table .entry)) place)) ⌝ }
 {
     let left = flat::sheets_at(table, place) - maturing_at(table, place, by);
@@ -90,7 +90,7 @@ fn redeem_one(table: &mut [u64], place: usize, by: u32)
 
 // Of each trade in use that is due by then, nothing is left.
 pub fn redeem_due(table: &mut [u64], count: usize, by: u32)
-    requires { ⌜ count * 6 ≤ length (now table) ⌝ }
+    requires { ⌜ count * 4 ≤ length (now table) ⌝ }
     ensures { λ _. ⌜ tradesOf (now (table .exit)) ≡ over count (map (matured by) (tradesTo (now (table .entry)) count)) (tradesOf (now (table .entry))) ⌝ }
 {
     let mut i = 0;

@@ -28,10 +28,10 @@ fn apply_first(
     count: usize,
     entry: Entry,
 ) -> Applied
-    requires { ⌜ count * 6 ≤ length (now flat) ⌝ }
+    requires { ⌜ count * 4 ≤ length (now flat) ⌝ }
     ensures { λ r. ⌜ (r ≡ appliedOf (step (now (calendar .entry)) book (tradesTo (now (flat .entry)) count) entry)) × (tradesTo (now (flat .exit)) count ≡ step (now (calendar .entry)) book (tradesTo (now (flat .entry)) count) entry .table) ⌝ }
 {
-    let end = count * 6;
+    let end = count * 4;
     dispatch::apply_flat(calendar, book, &mut flat[..end], entry)
 }
 
@@ -43,7 +43,7 @@ fn apply_by(
     flat: &mut [u64],
     entry: Entry,
 ) -> Applied
-    requires { ⌜ length (now table) * 6 ≤ length (now flat) ⌝ }
+    requires { ⌜ length (now table) * 4 ≤ length (now flat) ⌝ }
     ensures { λ r. ⌜ (r ≡ appliedOf (step (now (calendar .entry)) book (now (table .entry)) entry)) × (now (table .exit) ≡ step (now (calendar .entry)) book (now (table .entry)) entry .table) ⌝ }
 {
     let n = table.len();
@@ -123,16 +123,16 @@ pub fn apply(calendar: &[u32], book: Book, table: &mut [Trade], entry: Entry) ->
 
 // The core on the first `count` trades of a longer row of numbers.
 fn cover_first(calendar: &[u32], book: Book, flat: &[u64], count: usize) -> Cover
-    requires { ⌜ count * 6 ≤ length (now flat) ⌝ }
+    requires { ⌜ count * 4 ≤ length (now flat) ⌝ }
     ensures { λ r. ⌜ r ≡ coverOf (now (calendar .entry)) book (tradesTo (now (flat .entry)) count) ⌝ }
 {
-    let end = count * 6;
+    let end = count * 4;
     cover::cover_flat(calendar, book, &flat[..end])
 }
 
 // By way of lent numbers, whose old content does not matter.
 fn cover_by(calendar: &[u32], book: Book, table: &[Trade], flat: &mut [u64]) -> Cover
-    requires { ⌜ length (now table) * 6 ≤ length (now flat) ⌝ }
+    requires { ⌜ length (now table) * 4 ≤ length (now flat) ⌝ }
     ensures { λ r. ⌜ r ≡ coverOf (now (calendar .entry)) book (now (table .entry)) ⌝ }
 {
     let n = table.len();
@@ -206,10 +206,10 @@ fn run_first(
     events: &[u8],
     lines: &mut [u64],
 ) -> Ran
-    requires { ⌜ count * 6 ≤ length (now flat) ⌝ }
+    requires { ⌜ count * 4 ≤ length (now flat) ⌝ }
     ensures { λ r. ⌜ (r ≡ runOutcome (now (calendar .entry)) book (tradesTo (now (flat .entry)) count) (now (events .entry)) (now (lines .entry)) .ran) × (tradesTo (now (flat .exit)) count ≡ runOutcome (now (calendar .entry)) book (tradesTo (now (flat .entry)) count) (now (events .entry)) (now (lines .entry)) .table) × (now (lines .exit) ≡ runOutcome (now (calendar .entry)) book (tradesTo (now (flat .entry)) count) (now (events .entry)) (now (lines .entry)) .lines) ⌝ }
 {
-    let end = count * 6;
+    let end = count * 4;
     run::run_flat(calendar, book, &mut flat[..end], events, lines)
 }
 
@@ -222,7 +222,7 @@ fn run_by(
     events: &[u8],
     lines: &mut [u64],
 ) -> Ran
-    requires { ⌜ length (now table) * 6 ≤ length (now flat) ⌝ }
+    requires { ⌜ length (now table) * 4 ≤ length (now flat) ⌝ }
     ensures { λ r. ⌜ (r ≡ runOutcome (now (calendar .entry)) book (now (table .entry)) (now (events .entry)) (now (lines .entry)) .ran) × (now (table .exit) ≡ runOutcome (now (calendar .entry)) book (now (table .entry)) (now (events .entry)) (now (lines .entry)) .table) × (now (lines .exit) ≡ runOutcome (now (calendar .entry)) book (now (table .entry)) (now (events .entry)) (now (lines .entry)) .lines) ⌝ }
 {
     let n = table.len();

@@ -28,7 +28,7 @@ pub fn outstanding_of(table: &[u64], count: usize) -> u64
 
 // Where a contract's trade stands, or the count where it is not on the table.
 pub fn place_of(table: &[u64], count: usize, contract: Contract) -> usize
-    requires { ⌜ count * 6 ≤ length (now table) ⌝ }
+    requires { ⌜ count * 4 ≤ length (now table) ⌝ }
     ensures { λ r. ⌜ r ≡ placeOf contract (tradesTo (now (table .entry)) count) ⌝ }
 {
     let mut i = 0;
@@ -43,7 +43,7 @@ pub fn place_of(table: &[u64], count: usize, contract: Contract) -> usize
 
 // No contract stands before its own place: each is searched, which for few trades is as fast as to sort.
 fn few_differ(table: &[u64], count: usize) -> bool
-    requires { ⌜ count * 6 ≤ length (now table) ⌝ }
+    requires { ⌜ count * 4 ≤ length (now table) ⌝ }
     ensures { λ r. ⌜ r ≡ differ (tradesTo (now (table .entry)) count) ⌝ }
 {
     let mut i = 0;
@@ -57,7 +57,7 @@ fn few_differ(table: &[u64], count: usize) -> bool
 }
 
 fn contract_numbers(table: &[u64], count: usize, numbers: &mut [u64])
-    requires { ⌜ (count * 6 ≤ length (now table)) × (length (now numbers) ≡ count) ⌝ }
+    requires { ⌜ (count * 4 ≤ length (now table)) × (length (now numbers) ≡ count) ⌝ }
     ensures { λ _. ⌜ now (numbers .exit) ≡ contractNumbers (tradesTo (now (table .entry)) count) ⌝ }
 {
     let mut i = 0;
@@ -70,7 +70,7 @@ fn contract_numbers(table: &[u64], count: usize, numbers: &mut [u64])
 
 // Sorted, numbers that stand twice are neighbours.
 fn numbers_differ(table: &[u64], count: usize, numbers: &mut [u64], scratch: &mut [u64]) -> bool
-    requires { ⌜ (count * 6 ≤ length (now table)) × (count ≤ 4096) × (length (now numbers) ≡ count) × (length (now scratch) ≡ count) ⌝ }
+    requires { ⌜ (count * 4 ≤ length (now table)) × (count ≤ 4096) × (length (now numbers) ≡ count) × (length (now scratch) ≡ count) ⌝ }
     ensures { λ r. ⌜ r ≡ differ (tradesTo (now (table .entry)) count) ⌝ }
 {
     contract_numbers(table, count, numbers);
@@ -78,7 +78,7 @@ fn numbers_differ(table: &[u64], count: usize, numbers: &mut [u64], scratch: &mu
 }
 
 fn sorted_differ(table: &[u64], count: usize) -> bool
-    requires { ⌜ (count * 6 ≤ length (now table)) × (count ≤ 4096) ⌝ }
+    requires { ⌜ (count * 4 ≤ length (now table)) × (count ≤ 4096) ⌝ }
     ensures { λ r. ⌜ r ≡ differ (tradesTo (now (table .entry)) count) ⌝ }
 {
     let mut numbers = [0; 4096];
@@ -88,7 +88,7 @@ fn sorted_differ(table: &[u64], count: usize) -> bool
 
 // By chains, which most contracts keep short; where they do not, sorted.
 fn many_differ(table: &[u64], count: usize) -> bool
-    requires { ⌜ (count * 6 ≤ length (now table)) × (count ≤ 4096) ⌝ }
+    requires { ⌜ (count * 4 ≤ length (now table)) × (count ≤ 4096) ⌝ }
     ensures { λ r. ⌜ r ≡ differ (tradesTo (now (table .entry)) count) ⌝ }
 {
     let mut heads: [u16; 8191] = [0; 8191];
@@ -102,7 +102,7 @@ fn many_differ(table: &[u64], count: usize) -> bool
 
 // No contract stands twice.
 pub fn contracts_differ(table: &[u64], count: usize) -> bool
-    requires { ⌜ (count * 6 ≤ length (now table)) × (count ≤ 4096) ⌝ }
+    requires { ⌜ (count * 4 ≤ length (now table)) × (count ≤ 4096) ⌝ }
     ensures { λ r. ⌜ r ≡ differ (tradesTo (now (table .entry)) count) ⌝ }
 {
     if count <= 32 {
@@ -112,7 +112,7 @@ pub fn contracts_differ(table: &[u64], count: usize) -> bool
 }
 
 fn trade_fits(table: &[u64], place: usize) -> bool
-    requires { ⌜ place * 6 + 5 < length (now table) ⌝ }
+    requires { ⌜ place * 4 + 3 < length (now table) ⌝ }
     ensures { λ r. ⌜ r ≡ tradeFit (tradeAt (now (table .entry)) place) ⌝ }
 {
     if flat::sheets_at(table, place) > 100_000_000 {
@@ -143,7 +143,7 @@ pub struct Gathered {
 }
 
 pub fn gather(table: &[u64], count: usize) -> Gathered
-    requires { ⌜ (count * 6 ≤ length (now table)) × (count ≤ 4096) ⌝ }
+    requires { ⌜ (count * 4 ≤ length (now table)) × (count ≤ 4096) ⌝ }
     ensures { λ r. ⌜ r ≡ gatheredOf (tradesTo (now (table .entry)) count) ⌝ }
 {
     let mut outstanding = 0;

@@ -3,26 +3,18 @@ use Rattle.book.specs.Flat.{tradeAt}
 use Rattle.book.proofs.flat.due_at.Statement.{statement}
 use Rattle.book.proofs.flat.due_at.Tie as tie
 
-mul-result : tie.Need-mul-result
-mul-result c = search needs
+mul-upper-at : tie.Need-mul-upper-at
+mul-upper-at c = search needs
 
-add-result : tie.Need-add-result
-add-result c = search needs
+add-upper-at : tie.Need-add-upper-at
+add-upper-at c = search needs
 
-mul-result-2 : tie.Need-mul-result-2
-mul-result-2 c = search needs
-
-shared-slice-read-result : tie.Need-shared-slice-read-result
-shared-slice-read-result c = search needs
-
-cast-result : tie.Need-cast-result
-cast-result c = search needs
+upper-at-requires : tie.Need-upper-at-requires
+upper-at-requires c κs = search needs
 
 returns : tie.Need-returns
 unfolding tradeAt
-returns c = search needs
+returns c = rw (c .upper-at .ensures)
 
 pub due-at-spec : {M : Type 1} → statement M
-due-at-spec =
-    tie.close
-    (tie.spec mul-result add-result mul-result-2 shared-slice-read-result cast-result returns)
+due-at-spec = tie.close (tie.spec mul-upper-at add-upper-at upper-at-requires returns)

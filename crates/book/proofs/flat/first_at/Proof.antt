@@ -3,26 +3,18 @@ use Rattle.book.specs.Flat.{tradeAt}
 use Rattle.book.proofs.flat.first_at.Statement.{statement}
 use Rattle.book.proofs.flat.first_at.Tie as tie
 
-mul-result : tie.Need-mul-result
-mul-result c = search needs
+mul-lower-at : tie.Need-mul-lower-at
+mul-lower-at c = search needs
 
-add-result : tie.Need-add-result
-add-result c = search needs
+add-lower-at : tie.Need-add-lower-at
+add-lower-at c = search needs
 
-mul-result-2 : tie.Need-mul-result-2
-mul-result-2 c = search needs
-
-shared-slice-read-result : tie.Need-shared-slice-read-result
-shared-slice-read-result c = search needs
-
-cast-result : tie.Need-cast-result
-cast-result c = search needs
+lower-at-requires : tie.Need-lower-at-requires
+lower-at-requires c κs = search needs
 
 returns : tie.Need-returns
 unfolding tradeAt
-returns c = search needs
+returns c = rw (c .lower-at .ensures)
 
 pub first-at-spec : {M : Type 1} → statement M
-first-at-spec =
-    tie.close
-    (tie.spec mul-result add-result mul-result-2 shared-slice-read-result cast-result returns)
+first-at-spec = tie.close (tie.spec mul-lower-at add-lower-at lower-at-requires returns)

@@ -3,24 +3,18 @@ use Rattle.book.specs.Flat.{tradeAt}
 use Rattle.book.proofs.flat.price_at.Statement.{statement}
 use Rattle.book.proofs.flat.price_at.Tie as tie
 
-mul-t3 : tie.Need-mul-t3
-mul-t3 c = search needs
+mul-lower-at : tie.Need-mul-lower-at
+mul-lower-at c = search needs
 
-add-t4 : tie.Need-add-t4
-add-t4 c = search needs
+add-lower-at : tie.Need-add-lower-at
+add-lower-at c = search needs
 
-mul-t5 : tie.Need-mul-t5
-mul-t5 c = search needs
-
-shared-slice-read-t7 : tie.Need-shared-slice-read-t7
-shared-slice-read-t7 c = search needs
-
-cast-t9 : tie.Need-cast-t9
-cast-t9 c = search needs
+lower-at-requires : tie.Need-lower-at-requires
+lower-at-requires c κs = search needs
 
 returns : tie.Need-returns
 unfolding tradeAt
-returns c = search needs
+returns c = rw (c .lower-at .ensures)
 
 pub price-at-spec : {M : Type 1} → statement M
-price-at-spec = tie.close (tie.spec mul-t3 add-t4 mul-t5 shared-slice-read-t7 cast-t9 returns)
+price-at-spec = tie.close (tie.spec mul-lower-at add-lower-at lower-at-requires returns)

@@ -26,8 +26,8 @@ mul-table-4 c = search needs
 slice-write-table-2 : tie.Need-slice-write-table-2
 slice-write-table-2 c = simp length-set (omega arith)
 
-cast-table : tie.Need-cast-table
-cast-table c = search needs
+paired-requires : tie.Need-paired-requires
+paired-requires c κs = search needs
 
 mul-table-5 : tie.Need-mul-table-5
 mul-table-5 c = search needs
@@ -41,8 +41,8 @@ mul-table-6 c = search needs
 slice-write-table-3 : tie.Need-slice-write-table-3
 slice-write-table-3 c = simp length-set (omega arith)
 
-cast-table-2 : tie.Need-cast-table-2
-cast-table-2 c = search needs
+paired-requires-2 : tie.Need-paired-requires-2
+paired-requires-2 c κs = search needs
 
 mul-table-7 : tie.Need-mul-table-7
 mul-table-7 c = search needs
@@ -56,44 +56,17 @@ mul-table-8 c = search needs
 slice-write-table-4 : tie.Need-slice-write-table-4
 slice-write-table-4 c = simp length-set (omega arith)
 
-cast-table-3 : tie.Need-cast-table-3
-cast-table-3 c = search needs
-
-mul-table-9 : tie.Need-mul-table-9
-mul-table-9 c = search needs
-
-add-table-4 : tie.Need-add-table-4
-add-table-4 c = search needs
-
-mul-table-10 : tie.Need-mul-table-10
-mul-table-10 c = search needs
-
-slice-write-table-5 : tie.Need-slice-write-table-5
-slice-write-table-5 c = simp length-set (omega arith)
-
-cast-table-4 : tie.Need-cast-table-4
-cast-table-4 c = search needs
-
-mul-table-11 : tie.Need-mul-table-11
-mul-table-11 c = search needs
-
-add-table-5 : tie.Need-add-table-5
-add-table-5 c = search needs
-
-mul-table-12 : tie.Need-mul-table-12
-mul-table-12 c = search needs
-
-slice-write-table-6 : tie.Need-slice-write-table-6
-slice-write-table-6 c = simp length-set (omega arith)
-
 same-length : tie.Need-same-length
 same-length c = simp length-set
 
 returns : tie.Need-returns
 returns c =
-    let start = c .before .before .before .before in
-    trade-put (start .args .table .now) (start .args .place) (start .args .trade) (start .pre)
-    (record { price = omega arith; fallback = omega arith; first = omega arith; due = omega arith })
+    let prices = c .before .paired .ensures in
+    let days = c .paired2 .ensures in
+    let start = c .before .before .before in
+    rw (prices .0, days .0)
+    (trade-put (start .args .table .now) (start .args .place) (start .args .trade) (start .pre)
+    (record { price = prices .1; fallback = prices .2; first = days .1; due = days .2 }))
 
 pub put-trade-spec : {M : Type 1} → statement M
 put-trade-spec =
@@ -106,25 +79,15 @@ put-trade-spec =
     add-table
     mul-table-4
     slice-write-table-2
-    cast-table
+    paired-requires
     mul-table-5
     add-table-2
     mul-table-6
     slice-write-table-3
-    cast-table-2
+    paired-requires-2
     mul-table-7
     add-table-3
     mul-table-8
     slice-write-table-4
-    cast-table-3
-    mul-table-9
-    add-table-4
-    mul-table-10
-    slice-write-table-5
-    cast-table-4
-    mul-table-11
-    add-table-5
-    mul-table-12
-    slice-write-table-6
     same-length
     returns)

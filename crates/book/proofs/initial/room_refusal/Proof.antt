@@ -40,7 +40,7 @@ returns c kinds units = applies _ _ (asked (taken (c .before)) (c .if1 .taken))
 returns-2 : tie.Need-returns-2
 returns-2 c kinds units =
     let t = c .before .before .before in
-    passes _ _ _ (asked-not (taken t) (c .before .before .if1 .left)) (applies _ _ (le-leb (length (tradesOf (start t .args .table .now))) (start t .args .desk .trades) (omega (arith, c .if2 .taken, length-trades (start t .args .table .now) (length (start t .args .table .now) / 6)))))
+    passes _ _ _ (asked-not (taken t) (c .before .before .if1 .left)) (applies _ _ (le-leb (length (tradesOf (start t .args .table .now))) (start t .args .desk .trades) (omega (arith, c .if2 .taken, length-trades (start t .args .table .now) (length (start t .args .table .now) / 4)))))
 
 lacks-headroom-requires : tie.Need-lacks-headroom-requires
 lacks-headroom-requires c κs = c .before .before .before .before .before .before .before .before .pre
@@ -48,7 +48,7 @@ lacks-headroom-requires c κs = c .before .before .before .before .before .befor
 full : (c : tie.Else2) → (let s = c .before .before .before .before .before .before .before .before .args in leb (length (tradesOf (s .table .now))) (s .desk .trades) ≡ false)
 full c =
     let a = c .before .before .before .before .before .before .before .before .args in
-    lt-leb (length (tradesOf (a .table .now))) (a .desk .trades) (omega (arith, c .if2 .left, length-trades (a .table .now) (length (a .table .now) / 6)))
+    lt-leb (length (tradesOf (a .table .now))) (a .desk .trades) (omega (arith, c .if2 .left, length-trades (a .table .now) (length (a .table .now) / 4)))
 
 returns-3 : tie.Need-returns-3
 returns-3 c kinds units =

@@ -24,6 +24,6 @@ pub apply-128-spec : {M : Type 1} → stated.statement M
 unfolding code.routine tablesOf
 apply-128-spec 𝓤 H 𝓜 𝓖 𝓡 =
     entered 𝓤 H (UpTo 𝓤 H (𝓖 .A) (𝓜 .mem) (𝓡 .run) 128) (tables 𝓤 H 𝓜 𝓡 code.env .C) (tables 𝓤 H 𝓜 𝓡 code.env .Λ) #this code.function (code.unfolded 𝓤 H 𝓜 𝓡)
-    (meets 𝓤 H (𝓖 .A) (givenOf 𝓤 H 𝓜 𝓖) (𝓜 .mem) (𝓡 .run) 128 768 (omega arith) (lit< tt, lit< tt) (int w64 768) (λ Γ E. lit ! tt) #zeros #by (tablesOf 𝓤 H 𝓜 (tables 𝓤 H 𝓜 𝓡 code.env))
-    (cited 𝓤 H (Zeros 𝓤 H (𝓖 .A) 768) 𝓜 𝓡 code.env #zeros zeros-def.routine code.calls-book·copies·zeros-128 (zeros-thm.met 𝓤 H 𝓜 𝓖 𝓡))
+    (meets 𝓤 H (𝓖 .A) (givenOf 𝓤 H 𝓜 𝓖) (𝓜 .mem) (𝓡 .run) 128 512 (omega arith) (lit< tt, lit< tt) (int w64 512) (λ Γ E. lit ! tt) #zeros #by (tablesOf 𝓤 H 𝓜 (tables 𝓤 H 𝓜 𝓡 code.env))
+    (cited 𝓤 H (Zeros 𝓤 H (𝓖 .A) 512) 𝓜 𝓡 code.env #zeros zeros-def.routine code.calls-book·copies·zeros-128 (zeros-thm.met 𝓤 H 𝓜 𝓖 𝓡))
     (cited 𝓤 H (By 𝓤 H (𝓖 .A)) 𝓜 𝓡 code.env #by by-def.routine code.calls-book·table·apply-by (by-thm.met 𝓤 H 𝓜 𝓖 𝓡)))

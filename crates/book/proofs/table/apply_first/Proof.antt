@@ -17,7 +17,7 @@ slice-relend-prefix-apply-flat c = search needs
 slice-aggregate-apply-flat : tie.Need-slice-aggregate-apply-flat
 slice-aggregate-apply-flat c =
     let a = c .before .before .before in
-    sym (length-take-le (a .args .count * 6) (a .args .flat .now) (a .pre))
+    sym (length-take-le (a .args .count * 4) (a .args .flat .now) (a .pre))
 
 apply-flat-requires : tie.Need-apply-flat-requires
 apply-flat-requires c κs = search needs
@@ -28,7 +28,7 @@ same-length c = search needs
 returns : tie.Need-returns
 returns c =
     let a = c .before .before .before .before .before .before in
-    let end : ℕ = a .args .count * 6 in
+    let end : ℕ = a .args .count * 4 in
     let called = c .before .before .apply-flat in
     let long : length (called .last .1 .1 .0) ≡ end = called .kept .1 .1 .0 ∙ length-take-le end (a .args .flat .now) (a .pre) in
     let front : tradesOf (take end (a .args .flat .now)) ≡ tradesTo (a .args .flat .now) (a .args .count) = trades-of-front (a .args .flat .now) (a .args .count) (a .pre) in

@@ -23,6 +23,6 @@ pub cover-4096-spec : {M : Type 1} → stated.statement M
 unfolding code.routine tablesOf
 cover-4096-spec 𝓤 H 𝓜 𝓖 𝓡 =
     entered 𝓤 H (UpTo 𝓤 H (𝓖 .A) (𝓜 .mem) (𝓡 .run) 4096) (tables 𝓤 H 𝓜 𝓡 code.env .C) (tables 𝓤 H 𝓜 𝓡 code.env .Λ) #this code.function (code.unfolded 𝓤 H 𝓜 𝓡)
-    (meets 𝓤 H (𝓖 .A) (givenOf 𝓤 H 𝓜 𝓖) (𝓜 .mem) (𝓡 .run) 4096 24576 (omega arith) (lit< tt, lit< tt) (intBig w64 24576) (λ Γ E. big-lit ! (record { fits = lit< tt })) #zeros #by (tablesOf 𝓤 H 𝓜 (tables 𝓤 H 𝓜 𝓡 code.env))
-    (cited 𝓤 H (Zeros 𝓤 H (𝓖 .A) 24576) 𝓜 𝓡 code.env #zeros zeros-def.routine code.calls-book·copies·zeros-4096 (zeros-thm.met 𝓤 H 𝓜 𝓖 𝓡))
+    (meets 𝓤 H (𝓖 .A) (givenOf 𝓤 H 𝓜 𝓖) (𝓜 .mem) (𝓡 .run) 4096 16384 (omega arith) (lit< tt, lit< tt) (intBig w64 16384) (λ Γ E. big-lit ! (record { fits = lit< tt })) #zeros #by (tablesOf 𝓤 H 𝓜 (tables 𝓤 H 𝓜 𝓡 code.env))
+    (cited 𝓤 H (Zeros 𝓤 H (𝓖 .A) 16384) 𝓜 𝓡 code.env #zeros zeros-def.routine code.calls-book·copies·zeros-4096 (zeros-thm.met 𝓤 H 𝓜 𝓖 𝓡))
     (cited 𝓤 H (By 𝓤 H (𝓖 .A)) 𝓜 𝓡 code.env #by by-def.routine code.calls-book·table·cover-by (by-thm.met 𝓤 H 𝓜 𝓖 𝓡)))

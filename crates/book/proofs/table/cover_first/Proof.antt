@@ -14,7 +14,7 @@ mul-end c = search needs
 slice-aggregate-cover-flat : tie.Need-slice-aggregate-cover-flat
 slice-aggregate-cover-flat c =
     let a = c .before .before .before in
-    sym (length-take-le (a .args .count * 6) (a .args .flat .now) (a .pre))
+    sym (length-take-le (a .args .count * 4) (a .args .flat .now) (a .pre))
 
 cover-flat-requires : tie.Need-cover-flat-requires
 cover-flat-requires c κs = search needs
@@ -22,7 +22,7 @@ cover-flat-requires c κs = search needs
 returns : tie.Need-returns
 returns c =
     let a = c .before .before .before .before in
-    let front : tradesOf (take (a .args .count * 6) (a .args .flat .now)) ≡ tradesTo (a .args .flat .now) (a .args .count) = trades-of-front (a .args .flat .now) (a .args .count) (a .pre) in
+    let front : tradesOf (take (a .args .count * 4) (a .args .flat .now)) ≡ tradesTo (a .args .flat .now) (a .args .count) = trades-of-front (a .args .flat .now) (a .args .count) (a .pre) in
     rw front at (c .cover-flat .ensures)
 
 pub cover-first-spec : {M : Type 1} → statement M

@@ -144,7 +144,7 @@ module _ {M : Type 1} (𝓤 : URA M) (H : Heap 𝓤) (A : Atoms 𝓤) (W : Given
     abbrev TakesFirst : List (Item 𝓤)
     TakesFirst = ((‵ (Slice u64 (ν ∷ []) b′ o′ m δ us) ⊛ ‵ (flft (ν ∷ []) fullShare)) ⊛ (‵ (Slice u64 (ν′ ∷ []) b″ o″ p δ′ ls) ⊛ ‵ (flft (ν′ ∷ []) fullShare))) ∷ (‵ (flft κ₃ q₃) ⊛ ‵ Events) ∷ (‵ (flft κ q) ⊛ ‵ Own) ∷ []
 
-    goes-first : Is Bk.the-row bk (kv ∷ []) → n < 2 ^ 64 → n * 6 ≤ length us → ent 𝓤 (⋆ 𝓤 H A TakesFirst) (First 𝓤 H A mem run .pre to-first)
+    goes-first : Is Bk.the-row bk (kv ∷ []) → n < 2 ^ 64 → n * 4 ≤ length us → ent 𝓤 (⋆ 𝓤 H A TakesFirst) (First 𝓤 H A mem run .pre to-first)
     goes-first gb gn fits =
         qed W TakesFirst ∵ says ! fits $ split ! $ split ! $ move ! (2 ∷ []) $ split ! $ move ! (4 ∷ []) $ split ! $ move ! (6 ∷ []) $ split ! $
         -- [calendar's token; what it owns; the events' token; the events; the lines; ν′'s token; the numbers; ν's token]
@@ -181,7 +181,7 @@ module _ {M : Type 1} (𝓤 : URA M) (H : Heap 𝓤) (A : Atoms 𝓤) (W : Given
         check ! (e .1 ∙ ap (λ (u : RunOutcome). u .table) said-left, (len, (e .2 ∙ ap (λ (u : RunOutcome). u .lines) said-left, (lew, subst (λ (y : Ran). Is B.the-row y (w ∷ [])) (e .0 ∙ ap (λ (u : RunOutcome). u .ran) said-left) is)))) $ keep ! (3 ∷ 8 ∷ 0 ∷ 6 ∷ 2 ∷ 4 ∷ []) $ done !))))))
 
   module _ (C : Calls 𝓤 H) (Λ : Loops 𝓤 H) (fm : FmC 𝓤 H (W .laws) C) (known-in : Triple 𝓤 (C #copy-in) (In 𝓤 H A mem run)) (known-first : Triple 𝓤 (C #first) (First 𝓤 H A mem run)) (known-out : Triple 𝓤 (C #copy-out) (Out 𝓤 H A mem run))
-      (room : Room T.the-row n) (flat-room : Room u64 m) (lines-room : Room u64 p) (gb : Is Bk.the-row bk (kv ∷ [])) (fits : n * 6 ≤ m)
+      (room : Room T.the-row n) (flat-room : Room u64 m) (lines-room : Room u64 p) (gb : Is Bk.the-row bk (kv ∷ [])) (fits : n * 4 ≤ m)
       (l₀ l₁ l₂ l₃ l₄ l₅ l₆ l₇ l₈ l₉ l₁₀ l₁₁ l₁₂ l₁₃ l₁₄ l₁₅ l₁₆ l₁₇ l₁₈ l₁₉ l₂₀ l₂₁ : ℕ) where
     abbrev word : Ty
     word = tyInt w64
@@ -242,7 +242,7 @@ module _ {M : Type 1} (𝓤 : URA M) (H : Heap 𝓤) (A : Atoms 𝓤) (W : Given
         assigns ! (agg ! (and-then ! (loads ! (from ! (stop !)) (look ! 12 refl)) (and-then ! (loads ! (from ! (fld ! refl (stop !))) (look-in ! 46 (sub ! 1 refl (whole !)))) (no-more !)))) (from ! (stop !)) (init ! 10 refl (tt, (tt, (record { fits = room .0 }, tt)))) $
         lends ! tt T.the-row κ₁ q₁ γ b o n ys refl room (λ ν′ δ′. move ! (3 ∷ 4 ∷ []) $
         shares-out ! tt u64 κ₂ q₂ γ′ b′ o′ m us long flat-room (λ ν δ. join ! $ move ! (2 ∷ 3 ∷ []) $ join ! $
-        use2 W (raw (Out 𝓤 H A mem run .pre (to-out 𝓤 H A W mem run b o ys b′ o′ m us (ν ∷ []) fullShare δ (ν′ ∷ []) fullShare δ′))) (goes-out 𝓤 H A W mem run b o ys b′ o′ m us (ν ∷ []) fullShare δ (ν′ ∷ []) fullShare δ′ (subst (λ (j : ℕ). n * 6 ≤ j) (sym long) fits)) $
+        use2 W (raw (Out 𝓤 H A mem run .pre (to-out 𝓤 H A W mem run b o ys b′ o′ m us (ν ∷ []) fullShare δ (ν′ ∷ []) fullShare δ′))) (goes-out 𝓤 H A W mem run b o ys b′ o′ m us (ν ∷ []) fullShare δ (ν′ ∷ []) fullShare δ′ (subst (λ (j : ℕ). n * 4 ≤ j) (sym long) fits)) $
         -- [pre; what is kept of the numbers; of the table; calendar's token; …; _21 at 9; …]
         calls-at ! fm (Out 𝓤 H A mem run) known-out (to-out 𝓤 H A W mem run b o ys b′ o′ m us (ν ∷ []) fullShare δ (ν′ ∷ []) fullShare δ′) (and-then ! (loads ! (from ! (stop !)) (look ! 13 refl)) (and-then ! (loads ! (from ! (stop !)) (look ! 9 refl)) (no-more !))) (λ w.
         use1 W (later (some (GetsOut 𝓤 H A W mem run b o ys b′ o′ m us (ν ∷ []) fullShare δ (ν′ ∷ []) fullShare δ′ w))) (gets-out 𝓤 H A W mem run b o ys b′ o′ m us (ν ∷ []) fullShare δ (ν′ ∷ []) fullShare δ′ w) $ await ! tt $ pick ! (λ zs. learn ! (λ e. split ! $ move ! (0 ∷ 2 ∷ []) $
@@ -268,7 +268,7 @@ module _ {M : Type 1} (𝓤 : URA M) (H : Heap 𝓤) (A : Atoms 𝓤) (W : Given
         lends ! tt u64 κ₂ q₂ γ′ b′ o′ m us long flat-room (λ ν δ. join ! $
         -- [the numbers; what is kept of them; the lines; what is kept of them; the events; the same; calendar; what it owns; the table; its token; _21 at 10; …]
         move ! (0 ∷ 2 ∷ []) $ join ! $ move ! (0 ∷ 3 ∷ 5 ∷ []) $
-        use3 W (raw (First 𝓤 H A mem run .pre (to-first us same ν δ ν′ δ′))) (goes-first us same ν δ ν′ δ′ gb (room .0) (subst (λ (j : ℕ). n * 6 ≤ j) (sym long) fits)) $
+        use3 W (raw (First 𝓤 H A mem run .pre (to-first us same ν δ ν′ δ′))) (goes-first us same ν δ ν′ δ′ gb (room .0) (subst (λ (j : ℕ). n * 4 ≤ j) (sym long) fits)) $
         -- [pre; what is kept of the numbers; of the lines; the events; what calendar owns; the table; its token; _21 at 7; …]
         calls-at ! fm (First 𝓤 H A mem run) known-first (to-first us same ν δ ν′ δ′)
         (and-then ! (loads ! (from ! (stop !)) (look ! 47 refl)) (and-then ! (loads ! (from ! (stop !)) (look ! 45 refl)) (and-then ! (loads ! (from ! (stop !)) (look ! 19 refl)) (and-then ! (loads ! (from ! (stop !)) (look ! 35 refl)) (and-then ! (loads ! (from ! (stop !)) (look ! 39 refl)) (and-then ! (loads ! (from ! (stop !)) (look ! 15 refl)) (no-more !))))))) (λ w.
@@ -314,7 +314,7 @@ module _ {M : Type 1} (𝓤 : URA M) (H : Heap 𝓤) (A : Atoms 𝓤) (W : Given
 
   module _ (C : Calls 𝓤 H) (Λ : Loops 𝓤 H) where
     walk : FmC 𝓤 H (W .laws) C → Triple 𝓤 (C #copy-in) (In 𝓤 H A mem run) → Triple 𝓤 (C #first) (First 𝓤 H A mem run) → Triple 𝓤 (C #copy-out) (Out 𝓤 H A mem run)
-        → Is (ShrSlice (named 0) κ u32) cal (cv ∷ []) → Room T.the-row n → Room u64 m → Is (ShrSlice (named 0) κ₃ u8) evs (wv ∷ []) → Room u64 p → Is Bk.the-row bk (kv ∷ []) → n * 6 ≤ m
+        → Is (ShrSlice (named 0) κ u32) cal (cv ∷ []) → Room T.the-row n → Room u64 m → Is (ShrSlice (named 0) κ₃ u8) evs (wv ∷ []) → Room u64 p → Is Bk.the-row bk (kv ∷ []) → n * 4 ≤ m
         → ent 𝓤 (onEntry 𝓤 H A run-by.signature (κ, (κ₁, (κ₂, (κ₃, (κ₄, tt))))) (q, (q₁, (q₂, (q₃, (q₄, tt))))) x at) (WpFn 𝓤 H C Λ code.function (cv ∷ kv ∷ sliceVal (b, o) n ∷ sliceVal (b′, o′) m ∷ wv ∷ sliceVal (b″, o″) p ∷ []) Post)
     walk fm known-in known-first known-out gc room flat-room gw lines-room gb fits =
         qed W ((‵ (flft κ q) ⊛ ‵ (flft κ₁ q₁) ⊛ ‵ (flft κ₂ q₂) ⊛ ‵ (flft κ₃ q₃) ⊛ ‵ (flft κ₄ q₄) ⊛ ‵ ftrue) ∷ ‵ (owns (ShrSlice (named 0) κ u32 ∷ Bk.the-row ∷ MutSlice (named 1) κ₁ T.the-row ∷ MutSlice (named 2) κ₂ u64 ∷ ShrSlice (named 3) κ₃ u8 ∷ MutSlice (named 4) κ₄ u64 ∷ []) x at) ∷ []) ∵
@@ -329,7 +329,7 @@ module _ {M : Type 1} (𝓤 : URA M) (H : Heap 𝓤) (A : Atoms 𝓤) (W : Given
   run-by-walks = walked 𝓤 H A run-by.ended stayed (run-by.clauses 𝓤 H A mem run) (WpFn 𝓤 H (𝓣 .C) (𝓣 .Λ) code.function)
       (λ κs. (slice-vals, (LL.vals Bk.the-type Bk′.the-laws, (slice-vals, (slice-vals, (slice-vals, (slice-vals, tt)))))))
       (λ κs. (shr-slice-tells (named 0) (κs .0) u32, (LL.tells Bk.the-type Bk′.the-laws, (mut-slice-tells (named 1) (κs .1 .0) T.the-row, (mut-slice-tells (named 2) (κs .1 .1 .0) u64, (shr-slice-tells (named 3) (κs .1 .1 .1 .0) u8, (mut-slice-tells (named 4) (κs .1 .1 .1 .1 .0) u64, tt)))))))
-      (λ κs qs bounds a g are. needs 𝓤 (length (now (a .1 .1 .0)) * 6 ≤ length (now (a .1 .1 .1 .0))) _
+      (λ κs qs bounds a g are. needs 𝓤 (length (now (a .1 .1 .0)) * 4 ≤ length (now (a .1 .1 .1 .0))) _
       (walk 𝓤 H A W mem run (κs .0) (κs .1 .0) (κs .1 .1 .0) (κs .1 .1 .1 .0) (κs .1 .1 .1 .1 .0) (qs .0) (qs .1 .0) (qs .1 .1 .0) (qs .1 .1 .1 .0) (qs .1 .1 .1 .1 .0) (a .0) (a .1 .0) (a .1 .1 .0 .ptr .0) (a .1 .1 .0 .ptr .1) (a .1 .1 .0 .name) (a .1 .1 .0 .now)
       (a .1 .1 .1 .0 .ptr .0) (a .1 .1 .1 .0 .ptr .1) (a .1 .1 .1 .0 .name) (a .1 .1 .1 .0 .now) (a .1 .1 .1 .1 .0) (a .1 .1 .1 .1 .1 .0 .ptr .0) (a .1 .1 .1 .1 .1 .0 .ptr .1) (a .1 .1 .1 .1 .1 .0 .name) (a .1 .1 .1 .1 .1 .0 .now)
       (𝓣 .C) (𝓣 .Λ) (fmOf 𝓤 H (W .laws) 𝓣) known-in known-first known-out (are .0) (are .1 .1 .0 .0 .1) (are .1 .1 .1 .0 .0 .1) (are .1 .1 .1 .1 .0) (are .1 .1 .1 .1 .1 .0 .0 .1) (are .1 .0)))

@@ -17,7 +17,7 @@ slice-relend-prefix-run-flat c = search needs
 slice-aggregate-run-flat : tie.Need-slice-aggregate-run-flat
 slice-aggregate-run-flat c =
     let a = c .before .before .before .before .before in
-    sym (length-take-le (a .args .count * 6) (a .args .flat .now) (a .pre))
+    sym (length-take-le (a .args .count * 4) (a .args .flat .now) (a .pre))
 
 run-flat-requires : tie.Need-run-flat-requires
 run-flat-requires c κs = search needs
@@ -32,7 +32,7 @@ returns : tie.Need-returns
 returns c =
     let called = c .before .before .before .before in
     let a = called .before .before .before .before .before .before .before in
-    let end : ℕ = a .args .count * 6 in
+    let end : ℕ = a .args .count * 4 in
     let last = called .run-flat .last .1 .1 .0 in
     let long : length last ≡ end = called .run-flat .kept .1 .1 .0 ∙ length-take-le end (a .args .flat .now) (a .pre) in
     let front : tradesOf (take end (a .args .flat .now)) ≡ tradesTo (a .args .flat .now) (a .args .count) = trades-of-front (a .args .flat .now) (a .args .count) (a .pre) in
