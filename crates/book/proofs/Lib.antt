@@ -37,6 +37,7 @@ pub mod CoverLaws
 pub mod FigureLaws
 pub mod LineLaws
 pub mod RunLaws
+pub mod LentLaws
 pub mod ListingLaws
 -- walks by hand of the functions over a lent table
 pub mod TableLaws

@@ -4,3 +4,4 @@ pub mod Sort
 pub mod Flat
 pub mod Figures
 pub mod Chains
+pub mod Lent

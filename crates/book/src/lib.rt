@@ -21,6 +21,7 @@ mod figures;
 mod fit;
 mod flat;
 mod held;
+mod lent;
 mod line;
 mod nets;
 mod packing;

@@ -92,7 +92,7 @@ fn run_event(
 }
 
 // The events in order on a fit book.
-fn run_events(
+pub fn run_events(
     calendar: &[u32],
     desk: Desk,
     held: &mut [u64],
