@@ -1,8 +1,5 @@
 // The book: one firm's pledged quoted repo in code, the layer above the rules.
 
-// How 40 bytes give an event.
-pub mod decode;
-
 // The run of a journal's events on a fresh book.
 pub mod listing;
 

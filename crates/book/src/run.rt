@@ -12,7 +12,6 @@ ghost use Rattle.rules.specs.Listing.{lineOf, lengthCauses, runDone, runOutcome
 ghost use Rattle.book.specs.Flat.{rowsOf, bookOf, tradesOf};
 ghost use Rattle.book.specs.Figures.{figuresAt};
 use crate::cover;
-use crate::decode;
 use crate::desk::Desk;
 use crate::dispatch;
 use crate::figures;
@@ -61,7 +60,7 @@ fn run_event(
     requires { ⌜ (length (now held) ≡ 128) × (length (now kinds) ≡ 128) × (length (now units) ≡ 128) × (length (now calendar) ≤ 1200) × (fit (now calendar) (bookOf desk (rowsOf (now held) (now kinds) (now units))) (tradesOf (now table)) ≡ true) × (figures ≡ figuresAt desk (now held) (tradesOf (now table))) × (at + 7 ≤ length (now lines)) ⌝ }
     ensures { λ r. ⌜ (bookOf (r .desk) (rowsOf (now (held .exit)) (now (kinds .exit)) (now (units .exit))) ≡ step (now (calendar .entry)) (bookOf desk (rowsOf (now (held .entry)) (now (kinds .entry)) (now (units .entry)))) (tradesOf (now (table .entry))) (decoded (now (bytes .entry))) .book) × (tradesOf (now (table .exit)) ≡ step (now (calendar .entry)) (bookOf desk (rowsOf (now (held .entry)) (now (kinds .entry)) (now (units .entry)))) (tradesOf (now (table .entry))) (decoded (now (bytes .entry))) .table) × (now (lines .exit) ≡ sets (now (lines .entry)) at (lineOf (step (now (calendar .entry)) (bookOf desk (rowsOf (now (held .entry)) (now (kinds .entry)) (now (units .entry)))) (tradesOf (now (table .entry))) (decoded (now (bytes .entry)))))) × (r .figures ≡ figuresAt (r .desk) (now (held .exit)) (tradesOf (now (table .exit)))) ⌝ }
 {
-    let entry = decode::decode(bytes);
+    let entry = decoder::entry::decode(bytes);
     let done = dispatch::entry_on(
         calendar,
         desk,

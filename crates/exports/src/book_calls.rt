@@ -24,7 +24,7 @@ pub extern "C" fn book_apply(
     ensures { λ r. ⌜ (r ≡ step (now (calendar .entry)) (bookOn (now (page .entry))) (now (table .entry)) (decoded (now (event .entry))) .answer) × (now (page .exit) ≡ pageOf (step (now (calendar .entry)) (bookOn (now (page .entry))) (now (table .entry)) (decoded (now (event .entry))) .book)) × (now (table .exit) ≡ step (now (calendar .entry)) (bookOn (now (page .entry))) (now (table .entry)) (decoded (now (event .entry))) .table) ⌝ }
 {
     let book = page::book_on(*page);
-    let entry = book::decode::decode(event);
+    let entry = decoder::entry::decode(event);
     let applied = book::table::apply(calendar, book, table, entry);
     *page = page::page_after(applied);
     page::answer_of(applied)

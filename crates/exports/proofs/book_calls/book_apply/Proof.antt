@@ -58,10 +58,10 @@ use Rattle.rules.proofs.answer.Answer as An
 use Rattle.rules.proofs.answer.Answer.Laws as An′
 use Rattle.rules.proofs.answer.Applied as Ap
 use Rattle.rules.proofs.answer.Applied.Laws as Ap′
-use Rattle.book.proofs.decode.decode as decode
-use Rattle.book.proofs.decode.decode.Symbol as decode-def
-use Rattle.book.proofs.decode.decode.Symbol.{name as #decode}
-use Rattle.book.proofs.decode.decode.Met as decode-thm
+use Rattle.decoder.proofs.entry.decode as decode
+use Rattle.decoder.proofs.entry.decode.Symbol as decode-def
+use Rattle.decoder.proofs.entry.decode.Symbol.{name as #decode}
+use Rattle.decoder.proofs.entry.decode.Met as decode-thm
 use Rattle.book.proofs.table.apply as apply
 use Rattle.book.proofs.table.apply.Symbol as apply-def
 use Rattle.book.proofs.table.apply.Symbol.{name as #apply}
@@ -403,7 +403,7 @@ book-apply-spec 𝓤 H 𝓜 𝓖 𝓡 =
     (tables 𝓤 H 𝓜 𝓡 code.env .C) (tables 𝓤 H 𝓜 𝓡 code.env .Λ) #book-apply code.function (code.unfolded 𝓤 H 𝓜 𝓡)
     (book-apply-meets 𝓤 H (𝓖 .A) (givenOf 𝓤 H 𝓜 𝓖) (𝓜 .mem) (𝓡 .run) (tablesOf 𝓤 H 𝓜 (tables 𝓤 H 𝓜 𝓡 code.env))
     (cited 𝓤 H (BookOn 𝓤 H (𝓖 .A) (𝓜 .mem) (𝓡 .run)) 𝓜 𝓡 code.env #book-on book-on-def.routine code.calls-exports·page·book-on (book-on-thm.met 𝓤 H 𝓜 𝓖 𝓡))
-    (cited 𝓤 H (Decode 𝓤 H (𝓖 .A) (𝓜 .mem) (𝓡 .run)) 𝓜 𝓡 code.env #decode decode-def.routine code.calls-book·decode·decode (decode-thm.met 𝓤 H 𝓜 𝓖 𝓡))
+    (cited 𝓤 H (Decode 𝓤 H (𝓖 .A) (𝓜 .mem) (𝓡 .run)) 𝓜 𝓡 code.env #decode decode-def.routine code.calls-decoder·entry·decode (decode-thm.met 𝓤 H 𝓜 𝓖 𝓡))
     (cited 𝓤 H (Apply 𝓤 H (𝓖 .A) (𝓜 .mem) (𝓡 .run)) 𝓜 𝓡 code.env #apply apply-def.routine code.calls-book·table·apply (apply-thm.met 𝓤 H 𝓜 𝓖 𝓡))
     (cited 𝓤 H (PageAfter 𝓤 H (𝓖 .A) (𝓜 .mem) (𝓡 .run)) 𝓜 𝓡 code.env #page-after page-after-def.routine code.calls-exports·page·page-after (page-after-thm.met 𝓤 H 𝓜 𝓖 𝓡))
     (cited 𝓤 H (AnswerOf 𝓤 H (𝓖 .A) (𝓜 .mem) (𝓡 .run)) 𝓜 𝓡 code.env #answer-of answer-of-def.routine code.calls-exports·page·answer-of (answer-of-thm.met 𝓤 H 𝓜 𝓖 𝓡)))

@@ -1,6 +1,6 @@
 use Rattle.rules.proofs.Unused.{unusedFields}
-use Rattle.book.proofs.decode.initial.Statement.{statement}
-use Rattle.book.proofs.decode.initial.Tie as tie
+use Rattle.decoder.proofs.entry.initial.Statement.{statement}
+use Rattle.decoder.proofs.entry.initial.Tie as tie
 
 returns : tie.Need-returns
 returns c = search unusedFields

@@ -3,7 +3,7 @@ ghost use mathlib.Core.Path.{_≡_};
 ghost use mathlib.Core.List.{[], _∷_};
 ghost use Prim.Native.Nat.{_+_, _≤_, _<_};
 ghost use lib.ListN.{length};
-ghost use Rattle.money.specs.Units.{fen, sheets, ticks};
+ghost use Rattle.money.specs.Units.{sheets, ticks};
 ghost use Rattle.rules.specs.Entry.{numberAt, fieldsOf, restOf, termsOf, unless, onAccount, entryOf, decoded};
 use money::units::Fen;
 use money::units::Sheets;
@@ -105,28 +105,14 @@ fn code_only(fields: Fields, event: Event) -> Entry
     amount_only(fields, event)
 }
 
-// The account stands where other events have a kind.
-fn fund_in(fields: Fields) -> Entry
-    ensures { λ r. ⌜ r ≡ onAccount (fields .kind) (λ account. Event.FundIn account (fen (fields .amount))) (restOf fields) ⌝ }
+// The account stands where other events have a kind: one event for each of the two.
+fn on_account(fields: Fields, own: Event, client: Event) -> Entry
+    ensures { λ r. ⌜ ((event : Account → Event) → own ≡ event Account.Own → client ≡ event Account.Client → r ≡ onAccount (fields .kind) event (restOf fields)) ⌝ }
 {
     let account = fields.kind;
-    let amount = Fen(fields.amount);
     match account {
-        0 => kind_and_amount(fields, Event::FundIn(Account::Own, amount)),
-        1 => kind_and_amount(fields, Event::FundIn(Account::Client, amount)),
-        _ => Entry::Undecodable,
-    }
-}
-
-// As fund_in, the other way.
-fn fund_out(fields: Fields) -> Entry
-    ensures { λ r. ⌜ r ≡ onAccount (fields .kind) (λ account. Event.FundOut account (fen (fields .amount))) (restOf fields) ⌝ }
-{
-    let account = fields.kind;
-    let amount = Fen(fields.amount);
-    match account {
-        0 => kind_and_amount(fields, Event::FundOut(Account::Own, amount)),
-        1 => kind_and_amount(fields, Event::FundOut(Account::Client, amount)),
+        0 => kind_and_amount(fields, own),
+        1 => kind_and_amount(fields, client),
         _ => Entry::Undecodable,
     }
 }
@@ -188,8 +174,16 @@ fn entry_of(fields: Fields) -> Entry
     let amount = fields.amount;
     match code {
         1 => code_only(fields, Event::Open),
-        2 => fund_in(fields),
-        3 => fund_out(fields),
+        2 => on_account(
+            fields,
+            Event::FundIn(Account::Own, Fen(amount)),
+            Event::FundIn(Account::Client, Fen(amount)),
+        ),
+        3 => on_account(
+            fields,
+            Event::FundOut(Account::Own, Fen(amount)),
+            Event::FundOut(Account::Client, Fen(amount)),
+        ),
         4 => amount_only(fields, Event::Size(Sheets(amount))),
         5 => kind_and_amount(fields, Event::Rate(kind, amount)),
         6 => kind_and_amount(fields, Event::Pledge(kind, amount)),

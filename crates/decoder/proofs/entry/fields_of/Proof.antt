@@ -1,8 +1,8 @@
 use native.Mathlib.Omega.{arith}
 use borrow.Author.Needs.{needs}
 use Rattle.rules.proofs.Bytes.{past-two}
-use Rattle.book.proofs.decode.fields_of.Statement.{statement}
-use Rattle.book.proofs.decode.fields_of.Tie as tie
+use Rattle.decoder.proofs.entry.fields_of.Statement.{statement}
+use Rattle.decoder.proofs.entry.fields_of.Tie as tie
 
 shared-slice-read-t3 : tie.Need-shared-slice-read-t3
 shared-slice-read-t3 c = search needs

@@ -2,8 +2,8 @@ use Prim.Native.Nat.{_+_}
 use native.Mathlib.Omega.{arith}
 use borrow.Author.Needs.{needs}
 use Rattle.rules.proofs.Bytes.{no-bytes, first-four}
-use Rattle.book.proofs.decode.number4.Statement.{statement}
-use Rattle.book.proofs.decode.number4.Tie as tie
+use Rattle.decoder.proofs.entry.number4.Statement.{statement}
+use Rattle.decoder.proofs.entry.number4.Tie as tie
 
 shared-slice-read-wide : tie.Need-shared-slice-read-wide
 shared-slice-read-wide c = search needs

@@ -2,8 +2,8 @@ use mathlib.Core.Path.{refl}
 use borrow.Author.Tests.{eq-eqb, ne-eqb}
 use borrow.Author.Needs.{needs}
 use Rattle.rules.specs.Entry.{decoded}
-use Rattle.book.proofs.decode.decode.Statement.{statement}
-use Rattle.book.proofs.decode.decode.Tie as tie
+use Rattle.decoder.proofs.entry.decode.Statement.{statement}
+use Rattle.decoder.proofs.entry.decode.Tie as tie
 
 returns : tie.Need-returns
 unfolding decoded

@@ -1,17 +1,20 @@
+use mathlib.Core.Path.{refl}
 use borrow.Author.Tests.{ne-eqb}
 use borrow.Author.Needs.{needs}
+use Rattle.money.specs.Units.{fen}
+use Rattle.rules.specs.declared.event.Event.the-variants.{FundIn, FundOut}
 use Rattle.rules.specs.Entry.{entryOf}
-use Rattle.book.proofs.decode.entry_of.Statement.{statement}
-use Rattle.book.proofs.decode.entry_of.Tie as tie
+use Rattle.decoder.proofs.entry.entry_of.Statement.{statement}
+use Rattle.decoder.proofs.entry.entry_of.Tie as tie
 
 code-only-requires : tie.Need-code-only-requires
 code-only-requires c κs = search needs
 
-fund-in-requires : tie.Need-fund-in-requires
-fund-in-requires c κs = search needs
+on-account-requires : tie.Need-on-account-requires
+on-account-requires c κs = search needs
 
-fund-out-requires : tie.Need-fund-out-requires
-fund-out-requires c κs = search needs
+on-account-requires-2 : tie.Need-on-account-requires-2
+on-account-requires-2 c κs = search needs
 
 amount-only-requires : tie.Need-amount-only-requires
 amount-only-requires c κs = search needs
@@ -46,11 +49,11 @@ returns c = rw (c .before .match .keys1) (c .code-only .ensures)
 
 returns-2 : tie.Need-returns-2
 unfolding entryOf
-returns-2 c = rw (c .before .match .keys2) (c .fund-in .ensures)
+returns-2 c = rw (c .before .match .keys2) (c .on-account .ensures (λ account. FundIn account (fen (c .before .before .args .fields .amount))) refl refl)
 
 returns-3 : tie.Need-returns-3
 unfolding entryOf
-returns-3 c = rw (c .before .match .keys3) (c .fund-out .ensures)
+returns-3 c = rw (c .before .match .keys3) (c .on-account2 .ensures (λ account. FundOut account (fen (c .before .before .args .fields .amount))) refl refl)
 
 returns-4 : tie.Need-returns-4
 unfolding entryOf
@@ -97,8 +100,8 @@ entry-of-spec =
     tie.close
     (tie.spec
     code-only-requires
-    fund-in-requires
-    fund-out-requires
+    on-account-requires
+    on-account-requires-2
     amount-only-requires
     kind-and-amount-requires
     kind-and-amount-requires-2

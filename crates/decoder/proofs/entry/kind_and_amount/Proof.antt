@@ -1,6 +1,6 @@
 use Rattle.rules.proofs.Unused.{unusedFields}
-use Rattle.book.proofs.decode.early.Statement.{statement}
-use Rattle.book.proofs.decode.early.Tie as tie
+use Rattle.decoder.proofs.entry.kind_and_amount.Statement.{statement}
+use Rattle.decoder.proofs.entry.kind_and_amount.Tie as tie
 
 returns : tie.Need-returns
 returns c = search unusedFields
@@ -20,5 +20,9 @@ returns-5 c = search unusedFields depth 6
 returns-6 : tie.Need-returns-6
 returns-6 c = search unusedFields depth 7
 
-pub early-spec : {M : Type 1} → statement M
-early-spec = tie.close (tie.spec returns returns-2 returns-3 returns-4 returns-5 returns-6)
+returns-7 : tie.Need-returns-7
+returns-7 c = search unusedFields depth 8
+
+pub kind-and-amount-spec : {M : Type 1} → statement M
+kind-and-amount-spec =
+    tie.close (tie.spec returns returns-2 returns-3 returns-4 returns-5 returns-6 returns-7)

@@ -1,8 +1,8 @@
 use native.Mathlib.Omega.{arith}
 use borrow.Author.Needs.{needs}
 use Rattle.rules.proofs.Bytes.{four-and-rest}
-use Rattle.book.proofs.decode.number8.Statement.{statement}
-use Rattle.book.proofs.decode.number8.Tie as tie
+use Rattle.decoder.proofs.entry.number8.Statement.{statement}
+use Rattle.decoder.proofs.entry.number8.Tie as tie
 
 number4-requires : tie.Need-number4-requires
 number4-requires c κs = search needs

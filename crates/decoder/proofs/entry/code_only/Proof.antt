@@ -1,7 +1,7 @@
 use borrow.Author.Needs.{needs}
 use Rattle.rules.proofs.Unused.{unusedFields}
-use Rattle.book.proofs.decode.code_only.Statement.{statement}
-use Rattle.book.proofs.decode.code_only.Tie as tie
+use Rattle.decoder.proofs.entry.code_only.Statement.{statement}
+use Rattle.decoder.proofs.entry.code_only.Tie as tie
 
 returns : tie.Need-returns
 returns c = search unusedFields
