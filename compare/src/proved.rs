@@ -2,6 +2,7 @@
 //! declarations repeat `crates/exports`; nothing checks one against the other.
 
 pub mod book;
+pub mod lent;
 
 use model::event::EVENT_BYTES;
 use model::journal::Line;

@@ -1,8 +1,10 @@
-//! Calls on a book and its lent table against the model. Single ones: the answer
-//! with its figures, the whole book and the whole table after every event, and
-//! then headroom and O. Runs: every line, and the book and the table at the end.
+//! Calls on a book and its lent table against the model, the book as a page and
+//! as lent rows. Single ones: the answer with its figures, the whole book and the
+//! whole table after every event, and then headroom and O. Runs: every line, and
+//! the book and the table at the end.
 
 use compare::proved::book::{apply, cover, run, table, Page};
+use compare::proved::lent::{self, Rows};
 use model::answer::Answer;
 use model::book::{Book, Trade};
 use model::event::{Event, EVENT_BYTES};
@@ -13,13 +15,18 @@ use model::step;
 
 /// One event on both sides, which have to answer and to leave the same.
 fn both(calendar: &[u32], book: &mut Book, trades: &mut [Trade], event: &[u8; EVENT_BYTES]) -> Answer {
-    let (mut page, mut lent) = (Page::from(&*book), table(trades));
-    let got = apply(calendar, &mut page, &mut lent, event);
+    let (mut page, mut slots) = (Page::from(&*book), table(trades));
+    let (mut rows, mut lent_slots) = (Rows::from(&*book), slots.clone());
+    let got = apply(calendar, &mut page, &mut slots, event);
+    let in_place = lent::apply(calendar, &mut rows, &mut lent_slots, event);
     let wanted = step::apply(calendar, book, trades, event);
-    assert_eq!(got, wanted);
-    assert_eq!(page, Page::from(&*book));
-    assert_eq!(lent, table(trades));
-    assert_eq!(cover(calendar, &page, &lent), counted(calendar, book, trades));
+    assert_eq!((got, in_place), (wanted, wanted));
+    assert_eq!((page, rows), (Page::from(&*book), Rows::from(&*book)));
+    assert_eq!(slots, table(trades));
+    assert_eq!(lent_slots, slots);
+    let counted = counted(calendar, book, trades);
+    assert_eq!(cover(calendar, &page, &slots), counted);
+    assert_eq!(lent::cover(calendar, &rows, &slots), counted);
     got
 }
 
@@ -52,16 +59,20 @@ fn runs_go_on_where_the_last_one_ended() {
     for (_, bytes) in corpus(20_400..20_800) {
         let Ok(journal) = parse(&bytes) else { continue };
         let (mut book, mut trades) = (Book::fresh(), vec![Trade::default(); 300]);
-        let (mut page, mut lent) = (Page::from(&book), table(&trades));
+        let (mut page, mut slots) = (Page::from(&book), table(&trades));
+        let (mut rows, mut lent_slots) = (Rows::from(&book), slots.clone());
         for events in journal.events.chunks(70) {
             let mut lines = Vec::new();
             step::run(&journal.calendar, &mut book, &mut trades, events, |_, answer, book, table| {
                 lines.push(Line::after(answer, book, table));
             });
-            let got = run(&journal.calendar, &mut page, &mut lent, events.as_flattened());
+            let got = run(&journal.calendar, &mut page, &mut slots, events.as_flattened());
+            let in_place = lent::run(&journal.calendar, &mut rows, &mut lent_slots, events.as_flattened());
+            assert_eq!(in_place, got);
             assert_eq!(got, Ok(lines));
-            assert_eq!(page, Page::from(&book));
-            assert_eq!(lent, table(&trades));
+            assert_eq!((page, rows), (Page::from(&book), Rows::from(&book)));
+            assert_eq!(slots, table(&trades));
+            assert_eq!(lent_slots, slots);
         }
     }
 }
@@ -99,10 +110,11 @@ fn an_unfit_book_is_answered_1_and_left() {
         damage(&mut book, &mut trades);
         let answer = both(&journal.calendar, &mut book, &mut trades, &Event::Pay.encode());
         assert_eq!(answer.number, 1);
-        let (mut page, mut lent) = (Page::from(&book), table(&trades));
-        assert_eq!(run(&journal.calendar, &mut page, &mut lent, &Event::Pay.encode()), Err(1));
-        assert_eq!(page, Page::from(&book));
-        assert_eq!(lent, table(&trades));
+        let (mut page, mut rows, mut slots) = (Page::from(&book), Rows::from(&book), table(&trades));
+        assert_eq!(run(&journal.calendar, &mut page, &mut slots, &Event::Pay.encode()), Err(1));
+        assert_eq!(lent::run(&journal.calendar, &mut rows, &mut slots, &Event::Pay.encode()), Err(1));
+        assert_eq!((page, rows), (Page::from(&book), Rows::from(&book)));
+        assert_eq!(slots, table(&trades));
     }
     let long = [u32::MAX; 1_201];
     assert_eq!(both(&long, &mut book, &mut trades, &Event::Pay.encode()).number, 1);

@@ -12,15 +12,15 @@ use super::{lines_of, Fen, Sheets, Ticks};
 
 #[repr(C)]
 #[derive(Clone, Copy, Debug, PartialEq, Eq)]
-struct Nets {
-    today: i64,
-    cleared: i64,
+pub(super) struct Nets {
+    pub(super) today: i64,
+    pub(super) cleared: i64,
 }
 #[repr(C)]
 #[derive(Clone, Copy, Debug, PartialEq, Eq)]
-struct Cash {
-    own: Fen,
-    client: Fen,
+pub(super) struct Cash {
+    pub(super) own: Fen,
+    pub(super) client: Fen,
 }
 #[repr(C)]
 #[derive(Clone, Copy, Debug, PartialEq, Eq)]
@@ -32,7 +32,7 @@ struct Security {
 }
 #[repr(C)]
 #[derive(Clone, Copy, Debug, PartialEq, Eq)]
-struct Guarantee {
+pub(super) struct Guarantee {
     effective: Fen,
     arriving: Fen,
     frozen: Fen,
@@ -45,7 +45,7 @@ struct Vault {
 }
 #[repr(C)]
 #[derive(Clone, Copy, Debug, PartialEq, Eq)]
-struct Marks {
+pub(super) struct Marks {
     dated: bool,
     day: u32,
     phase: u8,
@@ -87,7 +87,7 @@ pub struct Trade {
 }
 
 #[repr(C)]
-struct Answer {
+pub(super) struct Answer {
     number: u8,
     matured: Sheets,
     done: u32,
@@ -95,7 +95,7 @@ struct Answer {
 }
 
 #[repr(C)]
-struct Cover {
+pub(super) struct Cover {
     number: u8,
     headroom: i64,
     outstanding: Sheets,
@@ -138,7 +138,7 @@ pub fn apply(
     table: &mut [Trade],
     event: &[u8; EVENT_BYTES],
 ) -> answer::Answer {
-    let Answer { number, matured, done, dropped } = unsafe {
+    let answer = unsafe {
         book_apply(
             calendar.as_ptr(),
             calendar.len(),
@@ -149,7 +149,7 @@ pub fn apply(
             event.len(),
         )
     };
-    answer::Answer { number: number.into(), matured: matured.0, done, dropped }
+    answer.into()
 }
 
 /// A run of encoded events on a book and its table, into a lent buffer: the number.
@@ -182,9 +182,19 @@ pub fn run(calendar: &[u32], page: &mut Page, table: &mut [Trade], events: &[u8]
 
 /// Headroom and O of a book over its table, beside the number.
 pub fn cover(calendar: &[u32], page: &Page, table: &[Trade]) -> (u32, i64, u64) {
-    let Cover { number, headroom, outstanding } =
-        unsafe { book_cover(calendar.as_ptr(), calendar.len(), page, table.as_ptr(), table.len()) };
-    (number.into(), headroom, outstanding.0)
+    unsafe { book_cover(calendar.as_ptr(), calendar.len(), page, table.as_ptr(), table.len()) }.into()
+}
+
+impl From<Answer> for answer::Answer {
+    fn from(Answer { number, matured, done, dropped }: Answer) -> answer::Answer {
+        answer::Answer { number: number.into(), matured: matured.0, done, dropped }
+    }
+}
+
+impl From<Cover> for (u32, i64, u64) {
+    fn from(Cover { number, headroom, outstanding }: Cover) -> (u32, i64, u64) {
+        (number.into(), headroom, outstanding.0)
+    }
 }
 
 impl From<&Book> for Page {
@@ -205,10 +215,14 @@ impl From<&Book> for Page {
     }
 }
 
-fn vault(book: &Book) -> Vault {
+pub(super) fn guarantee(book: &Book) -> Guarantee {
     let Holding { effective, arriving, frozen } = book.holdings[CASH_KIND];
+    Guarantee { effective: Fen(effective), arriving: Fen(arriving), frozen: Fen(frozen) }
+}
+
+fn vault(book: &Book) -> Vault {
     Vault {
-        guarantee: Guarantee { effective: Fen(effective), arriving: Fen(arriving), frozen: Fen(frozen) },
+        guarantee: guarantee(book),
         securities: std::array::from_fn(|kind| {
             let Holding { effective, arriving, frozen } = book.holdings[kind];
             Security { effective, arriving, frozen, rate: book.rates[kind] }
@@ -217,7 +231,7 @@ fn vault(book: &Book) -> Vault {
 }
 
 /// The model's phases and statuses stand in the same order.
-fn marks(book: &Book) -> Marks {
+pub(super) fn marks(book: &Book) -> Marks {
     Marks {
         dated: book.day.is_some(),
         day: book.day.unwrap_or(0),

@@ -17,10 +17,10 @@ use Rattle.rules.specs.Trades.{noTrade}
 use Rattle.rules.specs.Book.{freshBook}
 use Rattle.rules.specs.Listing.{journalTable, listingOf, lengthCauses, listingCauses, writtenBy, RunOutcome, runDone, runOutcome}
 use Rattle.rules.proofs.StaysFit.{others-clear, fresh-is-fit}
-use Rattle.book.specs.Flat.{tradeAt, tradesTo, capacity, tradesOf}
-use Rattle.book.proofs.Refusing.{none-at-0}
-use Rattle.book.proofs.StepLaws.{not-unfit}
-use Rattle.book.proofs.RunLaws.{goes-on}
+use Rattle.core.specs.Flat.{tradeAt, tradesTo, capacity, tradesOf}
+use Rattle.core.proofs.Refusing.{none-at-0}
+use Rattle.core.proofs.StepLaws.{not-unfit}
+use Rattle.core.proofs.RunLaws.{goes-on}
 
 -- ---- a listing that is not refused
 

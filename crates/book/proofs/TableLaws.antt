@@ -3,7 +3,7 @@
 use mathlib.Core.Path.{_≡_, refl, sym, ap, _∙_}
 use mathlib.Core.Bool.{true}
 use mathlib.Core.List.{List, _++_}
-use Prim.Native.Nat.{ℕ, zero, suc, _+_, _*_, _≤_, _<_, _^_}
+use Prim.Native.Nat.{ℕ, zero, suc, _+_, _*_, _%_, _≤_, _<_, _^_}
 use native.Mathlib.Omega.{arith}
 use native.Mathlib.Decide.{ℕ-discrete}
 use borrow.Author.Tests.{lt-leb}
@@ -16,15 +16,18 @@ use Rattle.rules.specs.Trades.{noTrade}
 use Rattle.rules.specs.Fit.{capacityFit, fit}
 use Rattle.rules.specs.Step.{outcome, unfit, step}
 use Rattle.book.specs.Types.{Book, Trade, Entry}
-use Rattle.book.specs.Flat.{tradeAt, tradesTo, capacity, tradesOf}
-use Rattle.book.proofs.FlatLaws.{length-trades, trade-below, trade-at}
-use Rattle.book.proofs.StoreLaws.{same-words}
-use Rattle.book.proofs.StepLaws.{unfit-step}
+use Rattle.core.specs.Flat.{tradeAt, tradesTo, capacity, tradesOf}
+use Rattle.core.proofs.FlatLaws.{length-trades, trade-below, trade-at}
+use Rattle.core.proofs.StoreLaws.{same-words}
+use Rattle.core.proofs.StepLaws.{unfit-step}
 
 -- ---- the place of a trade: four numbers in the row, 32 bytes in the table
 
 pub words-fit : {k n m : ℕ} → k < n → n * 4 ≤ m → k * 4 + 3 < m
 words-fit l r = omega arith
+
+pub fours : (n : ℕ) → n * 4 % 4 ≡ 0
+fours n = omega arith
 
 pub place-fits : {i n : ℕ} → i < n → n * 32 < 2 ^ 63 → i * 32 < 2 ^ 64
 place-fits l r = omega arith

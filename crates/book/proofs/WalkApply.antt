@@ -43,7 +43,7 @@ use Rattle.rules.proofs.event.Entry.Laws as Ev′
 use Rattle.rules.proofs.answer.Applied as B
 use Rattle.rules.proofs.answer.Applied.Laws as B′
 use Rattle.book.specs.Types.{Book, Trade, Entry, Applied}
-use Rattle.book.specs.Flat.{appliedOf}
+use Rattle.core.specs.Flat.{appliedOf}
 use Rattle.book.proofs.WalkAgain.{slice-at, Slice, LentOn, lends, comes-home}
 use Rattle.book.proofs.WalkBook.{calVal, bookVal, OwnCal}
 use Rattle.book.proofs.table.apply as apply

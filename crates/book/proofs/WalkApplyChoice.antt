@@ -45,7 +45,7 @@ use Rattle.rules.proofs.event.Entry.Laws as Ev′
 use Rattle.rules.proofs.answer.Applied as B
 use Rattle.rules.proofs.answer.Applied.Laws as B′
 use Rattle.book.specs.Types.{Book, Trade, Entry, Applied}
-use Rattle.book.specs.Flat.{appliedOf}
+use Rattle.core.specs.Flat.{appliedOf}
 use Rattle.book.proofs.WalkBook.{calTy, calVal, bookVal}
 use Rattle.book.proofs.WalkApply.{tabTy, tabMut, entryVal, appliedVal, clauses, UpTo, stayed, args, passed, Post, Params, exits, calls-lent}
 use Rattle.book.proofs.table.apply as apply

@@ -46,7 +46,7 @@ use Rattle.rules.proofs.event.Entry.Laws as Ev′
 use Rattle.rules.proofs.answer.Applied as B
 use Rattle.rules.proofs.answer.Applied.Laws as B′
 use Rattle.book.specs.Types.{Book, Trade, Entry, Applied}
-use Rattle.book.specs.Flat.{appliedOf}
+use Rattle.core.specs.Flat.{appliedOf}
 use Rattle.book.proofs.WalkAgain.{slice-at, Slice, lends, comes-home}
 use Rattle.book.proofs.WalkArray.{arrTy, lends-array, array-home, Zeros, calls-zeros}
 use Rattle.book.proofs.WalkBook.{calTy, flatMut, calVal, bookVal, OwnCal}

@@ -28,7 +28,7 @@ use denote.Triple.Statement.{Contract}
 use denote.Triple.Walked.{says}
 use Rattle.rules.proofs.trade.Trade as T
 use Rattle.book.specs.Types.{Trade}
-use Rattle.book.specs.Flat.{tradesTo}
+use Rattle.core.specs.Flat.{tradesTo}
 use Rattle.book.proofs.WalkAgain.{slice-at, Slice, Shared}
 use Rattle.book.proofs.copies.copy_in as copy-in
 use Rattle.book.proofs.copies.copy_out as copy-out

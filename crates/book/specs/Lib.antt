@@ -1,7 +1,2 @@
--- How the core names and lays out its data, for private contracts; no rule stands here.
+-- The rules' types, for private contracts; no rule stands here.
 pub mod Types
-pub mod Sort
-pub mod Flat
-pub mod Figures
-pub mod Chains
-pub mod Lent

@@ -1,9 +1,9 @@
 // The lent table's trades as the core's numbers, and back: room for them, and the two loops over a slice of trades.
 ghost use mathlib.Core.Path.{_≡_};
-ghost use Prim.Native.Nat.{_*_, _≤_};
-ghost use lib.ListN.{length};
-ghost use Rattle.book.specs.Flat.{tradesTo};
-use crate::flat;
+ghost use Prim.Native.Nat.{_+_, _*_, _≤_, _<_};
+ghost use lib.ListN.{length, set};
+ghost use Rattle.core.specs.Flat.{tradeAt, tradesTo, tradesOf};
+use core::lent;
 use rules::trade::Trade;
 
 // Room for as many trades as the name says, four numbers each.
@@ -19,6 +19,20 @@ pub fn zeros_4096() -> [u64; 16_384] {
     [0; 16_384]
 }
 
+fn put_trade(flat: &mut [u64], place: usize, trade: Trade)
+    requires { ⌜ place * 4 + 3 < length (now flat) ⌝ }
+    ensures { λ _. ⌜ tradesOf (now (flat .exit)) ≡ set (tradesOf (now (flat .entry))) place trade ⌝ }
+{
+    lent::put_trade(flat, place, trade);
+}
+
+fn trade_at(flat: &[u64], place: usize) -> Trade
+    requires { ⌜ place * 4 + 3 < length (now flat) ⌝ }
+    ensures { λ r. ⌜ r ≡ tradeAt (now (flat .entry)) place ⌝ }
+{
+    lent::trade_at(flat, place)
+}
+
 pub fn copy_in(table: &[Trade], flat: &mut [u64])
     requires { ⌜ length (now table) * 4 ≤ length (now flat) ⌝ }
     ensures { λ _. ⌜ tradesTo (now (flat .exit)) (length (now (table .entry))) ≡ now (table .entry) ⌝ }
@@ -26,7 +40,7 @@ pub fn copy_in(table: &[Trade], flat: &mut [u64])
     let n = table.len();
     let mut place = 0;
     while place < n {
-        flat::put_trade(flat, place, table[place]);
+        put_trade(flat, place, table[place]);
         place += 1;
     }
 }
@@ -38,7 +52,7 @@ pub fn copy_out(flat: &[u64], table: &mut [Trade])
     let n = table.len();
     let mut slot = 0;
     while slot < n {
-        let trade = flat::trade_at(flat, slot);
+        let trade = trade_at(flat, slot);
         table[slot] = trade;
         slot += 1;
     }

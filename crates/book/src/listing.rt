@@ -3,7 +3,8 @@ ghost use mathlib.Core.Path.{_≡_};
 ghost use lib.ListN.{length};
 ghost use Rattle.money.specs.Causes.{firstOf, numberOf};
 ghost use Rattle.rules.specs.Listing.{listingOf, listingCauses, writtenBy};
-use crate::run;
+use crate::numbers;
+use core::lent;
 use rules::book;
 
 fn listing_refusal(words: usize, bytes: usize, room: usize) -> u8
@@ -12,7 +13,7 @@ fn listing_refusal(words: usize, bytes: usize, room: usize) -> u8
     if words > 1_200 {
         return 1;
     }
-    run::lengths_refusal(bytes, room)
+    lent::lengths_refusal(bytes, room)
 }
 
 // The listing of a journal's events, on a fresh book with a table of 1,024 trades.
@@ -24,6 +25,6 @@ pub fn run_listing(calendar: &[u32], events: &[u8], lines: &mut [u64]) -> u8
         return refusal;
     }
     let mut table = [0; 4096];
-    let _ = run::run_flat(calendar, book::fresh(), &mut table, events, lines);
+    let _ = numbers::run_flat(calendar, book::fresh(), &mut table, events, lines);
     0
 }

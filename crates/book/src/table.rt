@@ -7,12 +7,10 @@ ghost use lib.ListN.{length};
 ghost use Rattle.rules.specs.Step.{step};
 ghost use Rattle.rules.specs.Cover.{coverOf};
 ghost use Rattle.rules.specs.Listing.{runOutcome};
-ghost use Rattle.book.specs.Flat.{tradesTo, appliedOf};
+ghost use Rattle.core.specs.Flat.{tradesTo, appliedOf};
 use crate::copies;
-use crate::cover;
-use crate::dispatch;
-use crate::run;
-use crate::step;
+use crate::numbers;
+use crate::refused;
 use rules::answer::Applied;
 use rules::answer::Cover;
 use rules::answer::Ran;
@@ -32,7 +30,7 @@ fn apply_first(
     ensures { λ r. ⌜ (r ≡ appliedOf (step (now (calendar .entry)) book (tradesTo (now (flat .entry)) count) entry)) × (tradesTo (now (flat .exit)) count ≡ step (now (calendar .entry)) book (tradesTo (now (flat .entry)) count) entry .table) ⌝ }
 {
     let end = count * 4;
-    dispatch::apply_flat(calendar, book, &mut flat[..end], entry)
+    numbers::apply_flat(calendar, book, &mut flat[..end], entry)
 }
 
 // One entry by way of lent numbers, whose old content does not matter.
@@ -115,7 +113,7 @@ pub fn apply(calendar: &[u32], book: Book, table: &mut [Trade], entry: Entry) ->
 {
     let slots = table.len();
     if slots > 4_096 {
-        return step::answered(1, book);
+        return refused::entry(1, book);
     }
     let used = slots_used(book, slots);
     apply_front(calendar, book, &mut table[..used], entry)
@@ -127,7 +125,7 @@ fn cover_first(calendar: &[u32], book: Book, flat: &[u64], count: usize) -> Cove
     ensures { λ r. ⌜ r ≡ coverOf (now (calendar .entry)) book (tradesTo (now (flat .entry)) count) ⌝ }
 {
     let end = count * 4;
-    cover::cover_flat(calendar, book, &flat[..end])
+    numbers::cover_flat(calendar, book, &flat[..end])
 }
 
 // By way of lent numbers, whose old content does not matter.
@@ -191,7 +189,7 @@ pub fn cover(calendar: &[u32], book: Book, table: &[Trade]) -> Cover
 {
     let slots = table.len();
     if slots > 4_096 {
-        return cover::refused();
+        return refused::cover();
     }
     let used = slots_used(book, slots);
     cover_front(calendar, book, &table[..used])
@@ -210,7 +208,7 @@ fn run_first(
     ensures { λ r. ⌜ (r ≡ runOutcome (now (calendar .entry)) book (tradesTo (now (flat .entry)) count) (now (events .entry)) (now (lines .entry)) .ran) × (tradesTo (now (flat .exit)) count ≡ runOutcome (now (calendar .entry)) book (tradesTo (now (flat .entry)) count) (now (events .entry)) (now (lines .entry)) .table) × (now (lines .exit) ≡ runOutcome (now (calendar .entry)) book (tradesTo (now (flat .entry)) count) (now (events .entry)) (now (lines .entry)) .lines) ⌝ }
 {
     let end = count * 4;
-    run::run_flat(calendar, book, &mut flat[..end], events, lines)
+    numbers::run_flat(calendar, book, &mut flat[..end], events, lines)
 }
 
 // By way of lent numbers: the table is copied once, not once an event.
@@ -319,7 +317,7 @@ pub fn run(
     ensures { λ r. ⌜ (r ≡ runOutcome (now (calendar .entry)) book (now (table .entry)) (now (events .entry)) (now (lines .entry)) .ran) × (now (table .exit) ≡ runOutcome (now (calendar .entry)) book (now (table .entry)) (now (events .entry)) (now (lines .entry)) .table) × (now (lines .exit) ≡ runOutcome (now (calendar .entry)) book (now (table .entry)) (now (events .entry)) (now (lines .entry)) .lines) ⌝ }
 {
     if table.len() > 4_096 {
-        return run::refused(1, book);
+        return refused::run(1, book);
     }
     run_short(calendar, book, table, events, lines)
 }

@@ -1,2 +1,3 @@
 -- What crosses to C in another form than it has here.
 pub mod Page
+pub mod Slate

@@ -89,7 +89,7 @@ fn short_at(place: u8) -> ShortRun
     }
 }
 
-fn standing_at(marks: Marks) -> Standing
+pub fn standing_at(marks: Marks) -> Standing
     ensures { λ r. ⌜ r ≡ standingAt marks ⌝ }
 {
     Standing {
@@ -179,7 +179,7 @@ fn short_number(short: ShortRun) -> u8
     }
 }
 
-fn marks_of(standing: Standing) -> Marks
+pub fn marks_of(standing: Standing) -> Marks
     ensures { λ r. ⌜ r ≡ marksOf standing ⌝ }
 {
     let day = standing.day;

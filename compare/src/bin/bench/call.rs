@@ -4,7 +4,7 @@
 use std::hint::black_box;
 use std::ops::Range;
 
-use compare::proved;
+use compare::proved::{self, book::Page, lent::Rows};
 use model::answer::Answer;
 use model::book::{Book, Trade};
 use model::event::{Account, Event, EVENT_BYTES};
@@ -29,6 +29,8 @@ pub struct Shape {
     pub slots: usize,
     /// Contracts in rising order: easier to sort than drawn ones.
     rising: bool,
+    /// The proved side's book as a page, copied in and out, and not changed in place.
+    paged: bool,
 }
 
 /// All single calls, those of one event together.
@@ -37,18 +39,19 @@ pub fn shapes() -> impl Iterator<Item = Shape> {
         let tight = [16, 256, 1_024, CAPACITY].map(|trades| Shape::tight(kind, trades));
         let roomy = [16, 256].map(|trades| Shape { slots: CAPACITY, ..Shape::tight(kind, trades) });
         let rising = [Shape { rising: true, ..Shape::tight(kind, CAPACITY) }];
-        tight.into_iter().chain(roomy).chain(rising)
+        let paged = tight.map(|shape| Shape { paged: true, ..shape });
+        tight.into_iter().chain(roomy).chain(rising).chain(paged)
     })
 }
 
 impl Shape {
     /// A table with one slot to spare, where one may be so large.
     fn tight(kind: Kind, trades: usize) -> Shape {
-        Shape { kind, trades, slots: CAPACITY.min(trades + 1), rising: false }
+        Shape { kind, trades, slots: CAPACITY.min(trades + 1), rising: false, paged: false }
     }
 
     fn is_tight(&self) -> bool {
-        self.slots <= self.trades + 1 && !self.rising
+        self.slots <= self.trades + 1 && !self.rising && !self.paged
     }
 
     /// Whether the two differ in their trades alone.
@@ -62,10 +65,11 @@ impl Shape {
             Kind::Initial => "initial",
             Kind::Close => "close",
         };
-        let more = match (self.is_tight(), self.rising) {
-            (true, _) => String::new(),
-            (_, true) => "-rising".to_string(),
-            (_, false) => format!("-of-{}", self.slots),
+        let more = match self {
+            Shape { rising: true, .. } => "-rising".to_string(),
+            Shape { paged: true, .. } => "-paged".to_string(),
+            _ if self.is_tight() => String::new(),
+            _ => format!("-of-{}", self.slots),
         };
         format!("{kind}-{}{more}", self.trades)
     }
@@ -106,11 +110,28 @@ impl Shape {
     }
 }
 
+/// The proved side's book: changed in place, or as a page.
+#[derive(Clone, Copy, Debug, PartialEq)]
+pub enum Proved {
+    InPlace(Rows),
+    Paged(Page),
+}
+
+impl Proved {
+    fn of(book: &Book, shape: Shape) -> Proved {
+        if shape.paged {
+            Proved::Paged(book.into())
+        } else {
+            Proved::InPlace(book.into())
+        }
+    }
+}
+
 /// One event on one book, on both sides.
 pub struct Call {
     calendar: Vec<u32>,
     event: [u8; EVENT_BYTES],
-    pub proved: Desk<proved::book::Page, proved::book::Trade>,
+    pub proved: Desk<Proved, proved::book::Trade>,
     pub model: Desk<Book, Trade>,
 }
 
@@ -126,13 +147,13 @@ impl Call {
         let mut call = Call {
             calendar,
             event: shape.event().encode(),
-            proved: Desk::new((&book).into(), proved::book::table(&table), shape),
+            proved: Desk::new(Proved::of(&book, shape), proved::book::table(&table), shape),
             model: Desk::new(book, table, shape),
         };
         let answer = call.model_answer();
         assert_eq!(answer.number, 0);
         assert_eq!(call.proved_answer(), answer);
-        assert_eq!(call.proved.book, (&call.model.book).into());
+        assert_eq!(call.proved.book, Proved::of(&call.model.book, shape));
         assert_eq!(call.proved.table, proved::book::table(&call.model.table));
         call.proved.note_changes();
         call.model.note_changes();
@@ -141,7 +162,10 @@ impl Call {
 
     pub fn proved_answer(&mut self) -> Answer {
         let Desk { book, table, .. } = &mut self.proved;
-        proved::book::apply(&self.calendar, book, table, &self.event)
+        match book {
+            Proved::InPlace(rows) => proved::lent::apply(&self.calendar, rows, table, &self.event),
+            Proved::Paged(page) => proved::book::apply(&self.calendar, page, table, &self.event),
+        }
     }
 
     pub fn model_answer(&mut self) -> Answer {

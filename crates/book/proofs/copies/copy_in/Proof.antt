@@ -47,14 +47,14 @@ use Rattle.rules.specs.Trades.{noTrade}
 use Rattle.rules.proofs.trade.Trade as T
 use Rattle.rules.proofs.trade.Trade.Laws as T′
 use Rattle.book.specs.Types.{Trade}
-use Rattle.book.specs.Flat.{tradesOf}
+use Rattle.core.specs.Flat.{tradesOf}
 use Rattle.book.proofs.TableLaws.{words-fit, place-fits, CopiedTo, copied-none, copied-next, copied-all}
 use Rattle.book.proofs.WalkAgain.{slice-at, Slice, lends, comes-home}
 use Rattle.book.proofs.WalkLoop.{holds, fails, one-up, counts-up}
-use Rattle.book.proofs.flat.put_trade as put-trade
-use Rattle.book.proofs.flat.put_trade.Symbol as put-trade-def
-use Rattle.book.proofs.flat.put_trade.Symbol.{name as #put-trade}
-use Rattle.book.proofs.flat.put_trade.Met as put-trade-thm
+use Rattle.book.proofs.copies.put_trade as put-trade
+use Rattle.book.proofs.copies.put_trade.Symbol as put-trade-def
+use Rattle.book.proofs.copies.put_trade.Symbol.{name as #put-trade}
+use Rattle.book.proofs.copies.put_trade.Met as put-trade-thm
 use Rattle.book.proofs.copies.copy_in.Key.{name as #copy-in}
 use Rattle.book.proofs.copies.copy_in as copy-in
 use Rattle.book.proofs.copies.copy_in.Statement as stated
@@ -281,4 +281,4 @@ copy-in-spec 𝓤 H 𝓜 𝓖 𝓡 =
     entered 𝓤 H (tripleOf 𝓤 H (𝓖 .A) copy-in.signature (copy-in.spec 𝓤 H (𝓖 .A) (𝓜 .mem) (𝓡 .run)))
     (tables 𝓤 H 𝓜 𝓡 code.env .C) (tables 𝓤 H 𝓜 𝓡 code.env .Λ) #copy-in code.function (code.unfolded 𝓤 H 𝓜 𝓡)
     (copy-in-meets 𝓤 H (𝓖 .A) (givenOf 𝓤 H 𝓜 𝓖) (𝓜 .mem) (𝓡 .run) (tablesOf 𝓤 H 𝓜 (tables 𝓤 H 𝓜 𝓡 code.env))
-    (cited 𝓤 H (Put 𝓤 H (𝓖 .A) (𝓜 .mem) (𝓡 .run)) 𝓜 𝓡 code.env #put-trade put-trade-def.routine code.calls-book·flat·put-trade (put-trade-thm.met 𝓤 H 𝓜 𝓖 𝓡)))
+    (cited 𝓤 H (Put 𝓤 H (𝓖 .A) (𝓜 .mem) (𝓡 .run)) 𝓜 𝓡 code.env #put-trade put-trade-def.routine code.calls-book·copies·put-trade (put-trade-thm.met 𝓤 H 𝓜 𝓖 𝓡)))

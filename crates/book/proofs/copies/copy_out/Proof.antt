@@ -49,14 +49,14 @@ use Rattle.rules.specs.Trades.{noTrade}
 use Rattle.rules.proofs.trade.Trade as T
 use Rattle.rules.proofs.trade.Trade.Laws as T′
 use Rattle.book.specs.Types.{Trade}
-use Rattle.book.specs.Flat.{tradeAt}
+use Rattle.core.specs.Flat.{tradeAt}
 use Rattle.book.proofs.TableLaws.{words-fit, place-fits, writtenTo, length-written, written-all}
 use Rattle.book.proofs.WalkAgain.{slice-at}
 use Rattle.book.proofs.WalkLoop.{holds, fails, one-up, counts-up}
-use Rattle.book.proofs.flat.trade_at as trade-at
-use Rattle.book.proofs.flat.trade_at.Symbol as trade-at-def
-use Rattle.book.proofs.flat.trade_at.Symbol.{name as #trade-at}
-use Rattle.book.proofs.flat.trade_at.Met as trade-at-thm
+use Rattle.book.proofs.copies.trade_at as trade-at
+use Rattle.book.proofs.copies.trade_at.Symbol as trade-at-def
+use Rattle.book.proofs.copies.trade_at.Symbol.{name as #trade-at}
+use Rattle.book.proofs.copies.trade_at.Met as trade-at-thm
 use Rattle.book.proofs.copies.copy_out.Key.{name as #copy-out}
 use Rattle.book.proofs.copies.copy_out as copy-out
 use Rattle.book.proofs.copies.copy_out.Statement as stated
@@ -259,4 +259,4 @@ copy-out-spec 𝓤 H 𝓜 𝓖 𝓡 =
     entered 𝓤 H (tripleOf 𝓤 H (𝓖 .A) copy-out.signature (copy-out.spec 𝓤 H (𝓖 .A) (𝓜 .mem) (𝓡 .run)))
     (tables 𝓤 H 𝓜 𝓡 code.env .C) (tables 𝓤 H 𝓜 𝓡 code.env .Λ) #copy-out code.function (code.unfolded 𝓤 H 𝓜 𝓡)
     (copy-out-meets 𝓤 H (𝓖 .A) (givenOf 𝓤 H 𝓜 𝓖) (𝓜 .mem) (𝓡 .run) (tablesOf 𝓤 H 𝓜 (tables 𝓤 H 𝓜 𝓡 code.env))
-    (cited 𝓤 H (Get 𝓤 H (𝓖 .A) (𝓜 .mem) (𝓡 .run)) 𝓜 𝓡 code.env #trade-at trade-at-def.routine code.calls-book·flat·trade-at (trade-at-thm.met 𝓤 H 𝓜 𝓖 𝓡)))
+    (cited 𝓤 H (Get 𝓤 H (𝓖 .A) (𝓜 .mem) (𝓡 .run)) 𝓜 𝓡 code.env #trade-at trade-at-def.routine code.calls-book·copies·trade-at (trade-at-thm.met 𝓤 H 𝓜 𝓖 𝓡)))

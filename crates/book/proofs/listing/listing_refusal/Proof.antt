@@ -1,7 +1,7 @@
 use borrow.Author.Needs.{needs}
 use borrow.Author.Tests.{le-ltb}
 use Rattle.rules.specs.Listing.{listingCauses}
-use Rattle.book.proofs.Column.{column, passes}
+use Rattle.core.proofs.Column.{column, passes}
 use Rattle.book.proofs.listing.listing_refusal.Statement.{statement}
 use Rattle.book.proofs.listing.listing_refusal.Tie as tie
 

@@ -4,7 +4,7 @@ use borrow.Author.Needs.{needs}
 use lib.ListN.{length}
 use Rattle.money.specs.Causes.{firstOf}
 use Rattle.rules.specs.Listing.{listingCauses}
-use Rattle.book.proofs.Refusing.{refused}
+use Rattle.core.proofs.Refusing.{refused}
 use Rattle.book.proofs.ListingLaws.{listing-clear, fresh-listing, journal-starts-empty}
 use Rattle.book.proofs.listing.run_listing.Statement.{statement}
 use Rattle.book.proofs.listing.run_listing.Tie as tie

@@ -52,17 +52,17 @@ use Rattle.rules.proofs.event.Entry.Laws as Ev′
 use Rattle.rules.proofs.answer.Applied as B
 use Rattle.rules.proofs.answer.Applied.Laws as B′
 use Rattle.book.specs.Types.{Book, Trade, Entry, Applied}
-use Rattle.book.specs.Flat.{appliedOf}
+use Rattle.core.specs.Flat.{appliedOf}
 use Rattle.book.proofs.TableLaws.{long-step}
 use Rattle.rules.proofs.FrontLaws.{withRest, step-used}
 use Rattle.book.proofs.WalkFront.{lends-front, front-home}
 use Rattle.book.proofs.WalkArray.{big-lit}
 use Rattle.book.proofs.WalkBook.{calTy, calVal, bookVal, OwnCal, IsUsed, within, Used, calls-used}
 use Rattle.book.proofs.WalkApply.{tabTy, tabMut, entryVal, appliedVal, UpTo, stayed, args, passed, Post, Params, exits, to, goes, Gets, gets}
-use Rattle.book.proofs.step.answered as answered
-use Rattle.book.proofs.step.answered.Symbol as answered-def
-use Rattle.book.proofs.step.answered.Symbol.{name as #answered}
-use Rattle.book.proofs.step.answered.Met as answered-thm
+use Rattle.book.proofs.refused.entry as answered
+use Rattle.book.proofs.refused.entry.Symbol as answered-def
+use Rattle.book.proofs.refused.entry.Symbol.{name as #answered}
+use Rattle.book.proofs.refused.entry.Met as answered-thm
 use Rattle.book.proofs.table.slots_used.Symbol as used-def
 use Rattle.book.proofs.table.slots_used.Symbol.{name as #used}
 use Rattle.book.proofs.table.slots_used.Met as used-thm
@@ -244,6 +244,6 @@ apply-spec 𝓤 H 𝓜 𝓖 𝓡 =
     entered 𝓤 H (tripleOf 𝓤 H (𝓖 .A) apply.signature (apply.spec 𝓤 H (𝓖 .A) (𝓜 .mem) (𝓡 .run)))
     (tables 𝓤 H 𝓜 𝓡 code.env .C) (tables 𝓤 H 𝓜 𝓡 code.env .Λ) #apply code.function (code.unfolded 𝓤 H 𝓜 𝓡)
     (apply-meets 𝓤 H (𝓖 .A) (givenOf 𝓤 H 𝓜 𝓖) (𝓜 .mem) (𝓡 .run) (tablesOf 𝓤 H 𝓜 (tables 𝓤 H 𝓜 𝓡 code.env))
-    (cited 𝓤 H (Answered 𝓤 H (𝓖 .A) (𝓜 .mem) (𝓡 .run)) 𝓜 𝓡 code.env #answered answered-def.routine code.calls-book·step·answered (answered-thm.met 𝓤 H 𝓜 𝓖 𝓡))
+    (cited 𝓤 H (Answered 𝓤 H (𝓖 .A) (𝓜 .mem) (𝓡 .run)) 𝓜 𝓡 code.env #answered answered-def.routine code.calls-book·refused·entry (answered-thm.met 𝓤 H 𝓜 𝓖 𝓡))
     (cited 𝓤 H (Used 𝓤 H (𝓖 .A)) 𝓜 𝓡 code.env #used used-def.routine code.calls-book·table·slots-used (used-thm.met 𝓤 H 𝓜 𝓖 𝓡))
     (cited 𝓤 H (Front 𝓤 H (𝓖 .A) (𝓜 .mem) (𝓡 .run)) 𝓜 𝓡 code.env #front front-def.routine code.calls-book·table·apply-front (front-thm.met 𝓤 H 𝓜 𝓖 𝓡)))

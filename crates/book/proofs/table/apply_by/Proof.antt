@@ -48,7 +48,7 @@ use Rattle.rules.proofs.event.Entry.Laws as Ev′
 use Rattle.rules.proofs.answer.Applied as B
 use Rattle.rules.proofs.answer.Applied.Laws as B′
 use Rattle.book.specs.Types.{Book, Trade, Entry, Applied}
-use Rattle.book.specs.Flat.{tradesTo, appliedOf}
+use Rattle.core.specs.Flat.{tradesTo, appliedOf}
 use Rattle.book.proofs.WalkAgain.{slice-at, Slice, lends, comes-home, shares-out, shared-home}
 use Rattle.book.proofs.WalkCopies.{In, to-in, goes-in, GetsIn, gets-in, Out, to-out, goes-out, GetsOut, gets-out}
 use Rattle.book.proofs.copies.copy_in.Symbol as copy-in-def

@@ -53,15 +53,15 @@ use Rattle.rules.proofs.answer.Cover.Laws as B′
 use Rattle.rules.proofs.FrontLaws.{cover-used}
 use Rattle.book.specs.Types.{Book, Trade, Cover}
 use Rattle.book.proofs.TableLaws.{long-unfit}
-use Rattle.book.proofs.CoverLaws.{unfit-cover}
+use Rattle.core.proofs.CoverLaws.{unfit-cover}
 use Rattle.book.proofs.WalkFront.{shares-front}
 use Rattle.book.proofs.WalkArray.{big-lit}
 use Rattle.book.proofs.WalkBook.{calTy, calVal, bookVal, IsUsed, within, Used, calls-used}
 use Rattle.book.proofs.WalkCover.{tabTy, coverVal, UpTo, stayed, args, passed, Params, Post, exits, calls-shared}
-use Rattle.book.proofs.cover.refused as refused
-use Rattle.book.proofs.cover.refused.Symbol as refused-def
-use Rattle.book.proofs.cover.refused.Symbol.{name as #refused}
-use Rattle.book.proofs.cover.refused.Met as refused-thm
+use Rattle.book.proofs.refused.cover as refused
+use Rattle.book.proofs.refused.cover.Symbol as refused-def
+use Rattle.book.proofs.refused.cover.Symbol.{name as #refused}
+use Rattle.book.proofs.refused.cover.Met as refused-thm
 use Rattle.book.proofs.table.slots_used.Symbol as used-def
 use Rattle.book.proofs.table.slots_used.Symbol.{name as #used}
 use Rattle.book.proofs.table.slots_used.Met as used-thm
@@ -214,6 +214,6 @@ cover-spec 𝓤 H 𝓜 𝓖 𝓡 =
     entered 𝓤 H (tripleOf 𝓤 H (𝓖 .A) cover.signature (cover.spec 𝓤 H (𝓖 .A) (𝓜 .mem) (𝓡 .run)))
     (tables 𝓤 H 𝓜 𝓡 code.env .C) (tables 𝓤 H 𝓜 𝓡 code.env .Λ) #cover code.function (code.unfolded 𝓤 H 𝓜 𝓡)
     (cover-meets 𝓤 H (𝓖 .A) (givenOf 𝓤 H 𝓜 𝓖) (𝓜 .mem) (𝓡 .run) (tablesOf 𝓤 H 𝓜 (tables 𝓤 H 𝓜 𝓡 code.env))
-    (cited 𝓤 H (Refused 𝓤 H (𝓖 .A) (𝓜 .mem) (𝓡 .run)) 𝓜 𝓡 code.env #refused refused-def.routine code.calls-book·cover·refused (refused-thm.met 𝓤 H 𝓜 𝓖 𝓡))
+    (cited 𝓤 H (Refused 𝓤 H (𝓖 .A) (𝓜 .mem) (𝓡 .run)) 𝓜 𝓡 code.env #refused refused-def.routine code.calls-book·refused·cover (refused-thm.met 𝓤 H 𝓜 𝓖 𝓡))
     (cited 𝓤 H (Used 𝓤 H (𝓖 .A)) 𝓜 𝓡 code.env #used used-def.routine code.calls-book·table·slots-used (used-thm.met 𝓤 H 𝓜 𝓖 𝓡))
     (cited 𝓤 H (Front 𝓤 H (𝓖 .A) (𝓜 .mem) (𝓡 .run)) 𝓜 𝓡 code.env #front front-def.routine code.calls-book·table·cover-front (front-thm.met 𝓤 H 𝓜 𝓖 𝓡)))

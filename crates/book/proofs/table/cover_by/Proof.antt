@@ -45,7 +45,7 @@ use Rattle.rules.proofs.book.Book.Laws as Bk′
 use Rattle.rules.proofs.answer.Cover as B
 use Rattle.rules.proofs.answer.Cover.Laws as B′
 use Rattle.book.specs.Types.{Book, Trade, Cover}
-use Rattle.book.specs.Flat.{tradesTo}
+use Rattle.core.specs.Flat.{tradesTo}
 use Rattle.book.proofs.WalkAgain.{slice-at, Slice, Shared, lends, comes-home, shares-out, shared-home}
 use Rattle.book.proofs.WalkCopies.{In, to-in, goes-in, GetsIn, gets-in}
 use Rattle.book.proofs.copies.copy_in.Symbol as copy-in-def

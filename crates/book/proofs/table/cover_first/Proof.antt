@@ -1,10 +1,10 @@
-use mathlib.Core.Path.{_≡_, sym}
-use Prim.Native.Nat.{_*_}
+use mathlib.Core.Path.{_≡_, sym, ap, _∙_}
+use Prim.Native.Nat.{ℕ, _*_, _%_}
 use borrow.Author.Needs.{needs}
 use lib.ListN.{take}
 use lib.Seq.{length-take-le}
-use Rattle.book.specs.Flat.{tradesTo, tradesOf}
-use Rattle.book.proofs.TableLaws.{trades-of-front}
+use Rattle.core.specs.Flat.{tradesTo, tradesOf}
+use Rattle.book.proofs.TableLaws.{fours, trades-of-front}
 use Rattle.book.proofs.table.cover_first.Statement.{statement}
 use Rattle.book.proofs.table.cover_first.Tie as tie
 
@@ -17,7 +17,9 @@ slice-aggregate-cover-flat c =
     sym (length-take-le (a .args .count * 4) (a .args .flat .now) (a .pre))
 
 cover-flat-requires : tie.Need-cover-flat-requires
-cover-flat-requires c κs = search needs
+cover-flat-requires c κs =
+    let a = c .before .before .before in
+    ap (λ (n : ℕ). n % 4) (length-take-le (a .args .count * 4) (a .args .flat .now) (a .pre)) ∙ fours (a .args .count)
 
 returns : tie.Need-returns
 returns c =

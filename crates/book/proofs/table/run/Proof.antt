@@ -46,15 +46,15 @@ use Rattle.rules.proofs.answer.Ran as B
 use Rattle.rules.proofs.answer.Ran.Laws as B′
 use Rattle.book.specs.Types.{Book, Trade, Ran}
 use Rattle.book.proofs.TableLaws.{long-unfit}
-use Rattle.book.proofs.RunLaws.{Refused, unfit-run}
+use Rattle.core.proofs.RunLaws.{Refused, unfit-run}
 use Rattle.book.proofs.WalkArray.{big-lit}
 use Rattle.book.proofs.WalkBook.{calTy, flatMut, calVal, bookVal}
 use Rattle.book.proofs.WalkApply.{tabTy, tabMut}
 use Rattle.book.proofs.WalkRun.{eventsTy, linesTy, eventsVal, ranVal, UpTo, stayed, args, passed, Post, Params, exits, calls-lent}
-use Rattle.book.proofs.run.refused as refused
-use Rattle.book.proofs.run.refused.Symbol as refused-def
-use Rattle.book.proofs.run.refused.Symbol.{name as #refused}
-use Rattle.book.proofs.run.refused.Met as refused-thm
+use Rattle.book.proofs.refused.run as refused
+use Rattle.book.proofs.refused.run.Symbol as refused-def
+use Rattle.book.proofs.refused.run.Symbol.{name as #refused}
+use Rattle.book.proofs.refused.run.Met as refused-thm
 use Rattle.book.proofs.table.run_short.Symbol as short-def
 use Rattle.book.proofs.table.run_short.Symbol.{name as #short}
 use Rattle.book.proofs.table.run_short.Met as short-thm
@@ -213,5 +213,5 @@ run-spec 𝓤 H 𝓜 𝓖 𝓡 =
     entered 𝓤 H (tripleOf 𝓤 H (𝓖 .A) run-on.signature (run-on.spec 𝓤 H (𝓖 .A) (𝓜 .mem) (𝓡 .run)))
     (tables 𝓤 H 𝓜 𝓡 code.env .C) (tables 𝓤 H 𝓜 𝓡 code.env .Λ) #run code.function (code.unfolded 𝓤 H 𝓜 𝓡)
     (run-meets 𝓤 H (𝓖 .A) (givenOf 𝓤 H 𝓜 𝓖) (𝓜 .mem) (𝓡 .run) (tablesOf 𝓤 H 𝓜 (tables 𝓤 H 𝓜 𝓡 code.env))
-    (cited 𝓤 H (Refusing 𝓤 H (𝓖 .A) (𝓜 .mem) (𝓡 .run)) 𝓜 𝓡 code.env #refused refused-def.routine code.calls-book·run·refused (refused-thm.met 𝓤 H 𝓜 𝓖 𝓡))
+    (cited 𝓤 H (Refusing 𝓤 H (𝓖 .A) (𝓜 .mem) (𝓡 .run)) 𝓜 𝓡 code.env #refused refused-def.routine code.calls-book·refused·run (refused-thm.met 𝓤 H 𝓜 𝓖 𝓡))
     (cited 𝓤 H (Short 𝓤 H (𝓖 .A) (𝓜 .mem) (𝓡 .run)) 𝓜 𝓡 code.env #short short-def.routine code.calls-book·table·run-short (short-thm.met 𝓤 H 𝓜 𝓖 𝓡)))

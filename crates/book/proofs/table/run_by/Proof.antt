@@ -45,7 +45,7 @@ use Rattle.rules.proofs.book.Book.Laws as Bk′
 use Rattle.rules.proofs.answer.Ran as B
 use Rattle.rules.proofs.answer.Ran.Laws as B′
 use Rattle.book.specs.Types.{Book, Trade, Ran}
-use Rattle.book.specs.Flat.{tradesTo}
+use Rattle.core.specs.Flat.{tradesTo}
 use Rattle.book.proofs.WalkAgain.{slice-at, Slice, lends, comes-home, shares-out, shared-home}
 use Rattle.book.proofs.WalkCopies.{In, to-in, goes-in, GetsIn, gets-in, Out, to-out, goes-out, GetsOut, gets-out}
 use Rattle.book.proofs.copies.copy_in.Symbol as copy-in-def

@@ -1,10 +1,10 @@
-use mathlib.Core.Path.{_≡_, sym, _∙_}
-use Prim.Native.Nat.{ℕ, _*_}
+use mathlib.Core.Path.{_≡_, sym, _∙_, ap}
+use Prim.Native.Nat.{ℕ, _*_, _%_}
 use borrow.Author.Needs.{needs}
 use lib.ListN.{length, take, drop}
 use lib.Seq.{length-take-le}
-use Rattle.book.specs.Flat.{tradesTo, tradesOf}
-use Rattle.book.proofs.TableLaws.{trades-of-front, trades-before}
+use Rattle.core.specs.Flat.{tradesTo, tradesOf}
+use Rattle.book.proofs.TableLaws.{fours, trades-of-front, trades-before}
 use Rattle.book.proofs.table.run_first.Statement.{statement}
 use Rattle.book.proofs.table.run_first.Tie as tie
 
@@ -20,7 +20,9 @@ slice-aggregate-run-flat c =
     sym (length-take-le (a .args .count * 4) (a .args .flat .now) (a .pre))
 
 run-flat-requires : tie.Need-run-flat-requires
-run-flat-requires c κs = search needs
+run-flat-requires c κs =
+    let a = c .before .before .before .before .before .before in
+    ap (λ (n : ℕ). n % 4) (length-take-le (a .args .count * 4) (a .args .flat .now) (a .pre)) ∙ fours (a .args .count)
 
 same-length : tie.Need-same-length
 same-length c = search needs

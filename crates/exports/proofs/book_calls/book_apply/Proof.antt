@@ -47,7 +47,7 @@ use Rattle.rules.specs.declared.answer.Answer.{Answer}
 use Rattle.rules.specs.declared.answer.Applied.{Applied}
 use Rattle.rules.specs.Entry.{decoded}
 use Rattle.rules.specs.Step.{Outcome, step}
-use Rattle.book.specs.Flat.{appliedOf}
+use Rattle.core.specs.Flat.{appliedOf}
 use Rattle.book.proofs.WalkAgain.{slice-at, Slice, lends, comes-home}
 use Rattle.rules.proofs.trade.Trade as T
 use Rattle.rules.proofs.book.Book as Bk

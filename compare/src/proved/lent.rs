@@ -1,0 +1,205 @@
+//! A book in lent numbers, changed in place, as the archive lays it out, and
+//! the calls on it. A slot of the table is four numbers in memory.
+
+use model::answer;
+use model::book::{Book, Holding};
+use model::event::EVENT_BYTES;
+use model::journal::Line;
+use model::limits::APPLICATIONS;
+use model::money::CASH_KIND;
+
+use super::book::{guarantee, marks, Answer, Cash, Cover, Guarantee, Marks, Nets, Trade};
+use super::{lines_of, Fen, Sheets};
+
+/// What is small of a book.
+#[repr(C)]
+#[derive(Clone, Copy, Debug, PartialEq, Eq)]
+struct Slate {
+    nets: Nets,
+    cash: Cash,
+    guarantee: Guarantee,
+    size: Sheets,
+    marks: Marks,
+    applications: usize,
+    trades: usize,
+}
+
+#[repr(C)]
+struct Left {
+    answer: Answer,
+    slate: Slate,
+}
+
+#[repr(C)]
+struct RunLeft {
+    number: u8,
+    slate: Slate,
+}
+
+/// A book, made from the model's and held against it again after a call.
+#[derive(Clone, Copy, Debug, PartialEq, Eq)]
+pub struct Rows {
+    slate: Slate,
+    held: [u64; CASH_KIND * 4],
+    kinds: [u8; APPLICATIONS],
+    units: [u64; APPLICATIONS],
+}
+
+extern "C" {
+    fn lent_apply(
+        calendar: *const u32,
+        words: usize,
+        slate: Slate,
+        held: *mut u64,
+        held_length: usize,
+        kinds: *mut u8,
+        kinds_length: usize,
+        units: *mut u64,
+        units_length: usize,
+        table: *mut u64,
+        numbers: usize,
+        event: *const u8,
+        bytes: usize,
+    ) -> Left;
+    fn lent_cover(
+        calendar: *const u32,
+        words: usize,
+        slate: Slate,
+        held: *const u64,
+        held_length: usize,
+        kinds: *const u8,
+        kinds_length: usize,
+        units: *const u64,
+        units_length: usize,
+        table: *const u64,
+        numbers: usize,
+    ) -> Cover;
+    fn lent_run(
+        calendar: *const u32,
+        words: usize,
+        slate: Slate,
+        held: *mut u64,
+        held_length: usize,
+        kinds: *mut u8,
+        kinds_length: usize,
+        units: *mut u64,
+        units_length: usize,
+        table: *mut u64,
+        numbers: usize,
+        events: *const u8,
+        bytes: usize,
+        lines: *mut u64,
+        room: usize,
+    ) -> RunLeft;
+}
+
+/// One event on a book and its table.
+pub fn apply(
+    calendar: &[u32],
+    rows: &mut Rows,
+    table: &mut [Trade],
+    event: &[u8; EVENT_BYTES],
+) -> answer::Answer {
+    let Rows { slate, held, kinds, units } = rows;
+    let left = unsafe {
+        lent_apply(
+            calendar.as_ptr(),
+            calendar.len(),
+            *slate,
+            held.as_mut_ptr(),
+            held.len(),
+            kinds.as_mut_ptr(),
+            kinds.len(),
+            units.as_mut_ptr(),
+            units.len(),
+            table.as_mut_ptr().cast(),
+            table.len() * 4,
+            event.as_ptr(),
+            event.len(),
+        )
+    };
+    *slate = left.slate;
+    left.answer.into()
+}
+
+/// Headroom and O of a book over its table, beside the number.
+pub fn cover(calendar: &[u32], rows: &Rows, table: &[Trade]) -> (u32, i64, u64) {
+    let Rows { slate, held, kinds, units } = rows;
+    let cover = unsafe {
+        lent_cover(
+            calendar.as_ptr(),
+            calendar.len(),
+            *slate,
+            held.as_ptr(),
+            held.len(),
+            kinds.as_ptr(),
+            kinds.len(),
+            units.as_ptr(),
+            units.len(),
+            table.as_ptr().cast(),
+            table.len() * 4,
+        )
+    };
+    cover.into()
+}
+
+/// A run of encoded events on a book and its table, into a lent buffer: the number.
+pub fn run_into(
+    calendar: &[u32],
+    rows: &mut Rows,
+    table: &mut [Trade],
+    events: &[u8],
+    lines: &mut [u64],
+) -> u8 {
+    let Rows { slate, held, kinds, units } = rows;
+    let left = unsafe {
+        lent_run(
+            calendar.as_ptr(),
+            calendar.len(),
+            *slate,
+            held.as_mut_ptr(),
+            held.len(),
+            kinds.as_mut_ptr(),
+            kinds.len(),
+            units.as_mut_ptr(),
+            units.len(),
+            table.as_mut_ptr().cast(),
+            table.len() * 4,
+            events.as_ptr(),
+            events.len(),
+            lines.as_mut_ptr(),
+            lines.len(),
+        )
+    };
+    *slate = left.slate;
+    left.number
+}
+
+/// A run of encoded events on a book and its table, event by event, or its refusal.
+pub fn run(calendar: &[u32], rows: &mut Rows, table: &mut [Trade], events: &[u8]) -> Result<Vec<Line>, u8> {
+    lines_of(events, |lines| run_into(calendar, rows, table, events, lines))
+}
+
+impl From<&Book> for Rows {
+    fn from(book: &Book) -> Rows {
+        let mut held = [0; CASH_KIND * 4];
+        for (kind, row) in held.chunks_exact_mut(4).enumerate() {
+            let Holding { effective, arriving, frozen } = book.holdings[kind];
+            row.copy_from_slice(&[effective, arriving, frozen, book.rates[kind]]);
+        }
+        Rows {
+            slate: Slate {
+                nets: Nets { today: book.todays_net, cleared: book.cleared_net },
+                cash: Cash { own: Fen(book.own), client: Fen(book.client) },
+                guarantee: guarantee(book),
+                size: Sheets(book.size),
+                marks: marks(book),
+                applications: book.applications,
+                trades: book.trades,
+            },
+            held,
+            kinds: book.application_kinds,
+            units: book.application_units,
+        }
+    }
+}

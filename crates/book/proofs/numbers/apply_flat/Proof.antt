@@ -1,0 +1,70 @@
+use mathlib.Core.Path.{ap, _∙_}
+use borrow.Author.Needs.{needs}
+use Rattle.rules.specs.Step.{Outcome, step}
+use Rattle.book.specs.Types.{Book}
+use Rattle.core.specs.Flat.{tradesOf, appliedOf}
+use Rattle.core.specs.Lent.{Lent, lent}
+use Rattle.core.proofs.LentLaws.{Lengths, all-whole, by-step}
+use Rattle.core.proofs.SplitLaws.{whole}
+use Rattle.book.proofs.numbers.apply_flat.Statement.{statement}
+use Rattle.book.proofs.numbers.apply_flat.Tie as tie
+
+desk-of-requires : tie.Need-desk-of-requires
+desk-of-requires c κs = search needs
+
+held-of-requires : tie.Need-held-of-requires
+held-of-requires c κs = search needs
+
+kinds-of-requires : tie.Need-kinds-of-requires
+kinds-of-requires c κs = search needs
+
+units-of-requires : tie.Need-units-of-requires
+units-of-requires c κs = search needs
+
+slice-aggregate-apply : tie.Need-slice-aggregate-apply
+slice-aggregate-apply c = search needs
+
+slice-aggregate-apply-2 : tie.Need-slice-aggregate-apply-2
+slice-aggregate-apply-2 c = search needs
+
+slice-aggregate-apply-3 : tie.Need-slice-aggregate-apply-3
+slice-aggregate-apply-3 c = search needs
+
+apply-requires : tie.Need-apply-requires
+apply-requires c κs = search needs
+
+book-of-requires : tie.Need-book-of-requires
+book-of-requires c κs = search needs
+
+same-length : tie.Need-same-length
+same-length c = search needs
+
+returns : tie.Need-returns
+returns c =
+    let units-row = c .before .before .before .before .before .before .before .before .before .before .before .before .before .before .units-of in
+    let kinds-row = c .before .before .before .before .before .before .before .before .before .before .before .before .before .before .before .kinds-of in
+    let held-row = c .before .before .before .before .before .before .before .before .before .before .before .before .before .before .before .before .held-of in
+    let desk = c .before .before .before .before .before .before .before .before .before .before .before .before .before .before .before .before .before .desk-of in
+    let start = c .before .before .before .before .before .before .before .before .before .before .before .before .before .before .before .before .before .before .before .before .before .before in
+    let a = start .args in
+    let l : Lent = lent (desk .result) (held-row .result) (kinds-row .result) (units-row .result) (a .table .now) in
+    let long : Lengths l = record { held = search needs; kinds = search needs; units = search needs; table = start .pre } in
+    let same = whole (a .book) (held-row .result) (desk .ensures) (held-row .ensures) (kinds-row .ensures) (units-row .ensures) in
+    let told = c .before .before .before .before .before .before .before .before .before .apply .ensures .0 ∙ by-step (a .calendar .now) l (all-whole l long) (a .entry) ∙ ap (λ (book : Book). step (a .calendar .now) book (tradesOf (a .table .now)) (a .entry)) same in
+    (rw (c .book-of .ensures) (ap (λ (o : Outcome). appliedOf o) told), ap (λ (o : Outcome). o .table) told)
+
+pub apply-flat-spec : {M : Type 1} → statement M
+apply-flat-spec =
+    tie.close
+    (tie.spec
+    desk-of-requires
+    held-of-requires
+    kinds-of-requires
+    units-of-requires
+    slice-aggregate-apply
+    slice-aggregate-apply-2
+    slice-aggregate-apply-3
+    apply-requires
+    book-of-requires
+    same-length
+    returns)

@@ -1,0 +1,88 @@
+// A whole book over a table in numbers: taken apart, handed to the core, and put together again.
+ghost use mathlib.Core.Path.{_≡_};
+ghost use Prim.Native.Nat.{_%_};
+ghost use lib.ListN.{length};
+ghost use Rattle.rules.specs.Step.{step};
+ghost use Rattle.rules.specs.Cover.{coverOf};
+ghost use Rattle.rules.specs.Listing.{runOutcome};
+ghost use Rattle.core.specs.Flat.{tradesOf, appliedOf};
+use core::lent;
+use core::split;
+use rules::answer::Applied;
+use rules::answer::Cover;
+use rules::answer::Ran;
+use rules::book::Book;
+use rules::event::Entry;
+
+pub fn apply_flat(calendar: &[u32], book: Book, table: &mut [u64], entry: Entry) -> Applied
+    requires { ⌜ length (now table) % 4 ≡ 0 ⌝ }
+    ensures { λ r. ⌜ (r ≡ appliedOf (step (now (calendar .entry)) book (tradesOf (now (table .entry))) entry)) × (tradesOf (now (table .exit)) ≡ step (now (calendar .entry)) book (tradesOf (now (table .entry))) entry .table) ⌝ }
+{
+    let vault = book.vault;
+    let withdrawals = book.withdrawals;
+    let desk = split::desk_of(book);
+    let mut held = split::held_of(vault);
+    let mut kinds = split::kinds_of(withdrawals);
+    let mut units = split::units_of(withdrawals);
+    let done = lent::apply(
+        calendar,
+        desk,
+        &mut held,
+        &mut kinds,
+        &mut units,
+        table,
+        entry,
+    );
+    let answer = done.answer;
+    let after = done.desk;
+    Applied {
+        answer,
+        book: split::book_of(after, &held, kinds, units),
+    }
+}
+
+pub fn cover_flat(calendar: &[u32], book: Book, table: &[u64]) -> Cover
+    requires { ⌜ length (now table) % 4 ≡ 0 ⌝ }
+    ensures { λ r. ⌜ r ≡ coverOf (now (calendar .entry)) book (tradesOf (now (table .entry))) ⌝ }
+{
+    let vault = book.vault;
+    let withdrawals = book.withdrawals;
+    let desk = split::desk_of(book);
+    let held = split::held_of(vault);
+    let kinds = split::kinds_of(withdrawals);
+    let units = split::units_of(withdrawals);
+    lent::cover(calendar, desk, &held, &kinds, &units, table)
+}
+
+pub fn run_flat(
+    calendar: &[u32],
+    book: Book,
+    table: &mut [u64],
+    events: &[u8],
+    lines: &mut [u64],
+) -> Ran
+    requires { ⌜ length (now table) % 4 ≡ 0 ⌝ }
+    ensures { λ r. ⌜ (r ≡ runOutcome (now (calendar .entry)) book (tradesOf (now (table .entry))) (now (events .entry)) (now (lines .entry)) .ran) × (tradesOf (now (table .exit)) ≡ runOutcome (now (calendar .entry)) book (tradesOf (now (table .entry))) (now (events .entry)) (now (lines .entry)) .table) × (now (lines .exit) ≡ runOutcome (now (calendar .entry)) book (tradesOf (now (table .entry))) (now (events .entry)) (now (lines .entry)) .lines) ⌝ }
+{
+    let vault = book.vault;
+    let withdrawals = book.withdrawals;
+    let desk = split::desk_of(book);
+    let mut held = split::held_of(vault);
+    let mut kinds = split::kinds_of(withdrawals);
+    let mut units = split::units_of(withdrawals);
+    let ended = lent::run(
+        calendar,
+        desk,
+        &mut held,
+        &mut kinds,
+        &mut units,
+        table,
+        events,
+        lines,
+    );
+    let after = ended.desk;
+    Ran {
+        number: ended.number,
+        book: split::book_of(after, &held, kinds, units),
+    }
+}

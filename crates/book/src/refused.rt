@@ -1,0 +1,40 @@
+// What the calls answer where the table is too long: a number alone, and the book as it was.
+ghost use mathlib.Core.Path.{_≡_};
+ghost use Rattle.rules.specs.Book.{answer};
+ghost use Rattle.rules.specs.Cover.{uncounted};
+use money::units::Sheets;
+use rules::answer::Answer;
+use rules::answer::Applied;
+use rules::answer::Cover;
+use rules::answer::Ran;
+use rules::book::Book;
+
+pub fn entry(number: u8, book: Book) -> Applied
+    ensures { λ r. ⌜ r ≡ record { answer = answer number; book = book } ⌝ }
+{
+    Applied {
+        answer: Answer {
+            number,
+            matured: Sheets(0),
+            done: 0,
+            dropped: 0,
+        },
+        book,
+    }
+}
+
+pub fn run(number: u8, book: Book) -> Ran
+    ensures { λ r. ⌜ r ≡ record { number = number; book = book } ⌝ }
+{
+    Ran { number, book }
+}
+
+pub fn cover() -> Cover
+    ensures { λ r. ⌜ r ≡ uncounted ⌝ }
+{
+    Cover {
+        number: 1,
+        headroom: 0,
+        outstanding: Sheets(0),
+    }
+}

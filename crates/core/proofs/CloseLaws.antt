@@ -1,0 +1,165 @@
+-- Close: its causes by the code's tests, the matured figures as planned, the flat table after maturity, the evening that a fit book allows, and what it gives back.
+-- Assumes nothing.
+use mathlib.Core.Path.{_≡_, refl, sym, ap, _∙_}
+use mathlib.Core.Bool.{Bool, true, false, not, _||_}
+use mathlib.Core.List.{List, map}
+use mathlib.Core.Option.{Option, none, some}
+use Prim.Native.Nat.{ℕ}
+use native.Mathlib.Omega.{arith}
+use borrow.Author.Tests.{leb-true, leb-false, le-ltb, lt-ltb}
+use lib.Dec.{ltb}
+use lib.IntN.{ℤ, natAbs}
+use lib.ListN.{length, length-map, take, drop}
+use lib.Seq.{take-at, drop-at}
+use Rattle.money.specs.Units.{sheets}
+use Rattle.money.specs.Causes.{firstOf}
+use Rattle.money.specs.Days.{Calendar}
+use Rattle.money.proofs.Refusals.{hit, skip, clear}
+use Rattle.rules.specs.Limits.{netLimit}
+use Rattle.rules.specs.Book.{answer}
+use Rattle.rules.specs.Days.{paymentDay}
+use Rattle.rules.specs.Trades.{total, outstanding, maturing, maturityAmount, matured, remaining, packed, over}
+use Rattle.rules.specs.Fit.{netFit, securitiesFit, cashFit, fit}
+use Rattle.rules.specs.Close.{Evening, mayClose, today, maturedTrades, maturedSheets, maturedAmount, netWithMatured, clearedAtClose, closeCauses, allArrived, served, evening, closedTable, closedBook, closeAnswer}
+use Rattle.rules.proofs.FitParts.{securities-fit, cash-fits}
+use Rattle.rules.proofs.TableFit.{matured-lessens, fewer-fit}
+use Rattle.rules.proofs.EveningFit.{all-arrived-fit}
+use Rattle.core.specs.Types.{Security, Book, Trade}
+use Rattle.core.specs.declared.desk.Desk.{Desk}
+use Rattle.core.specs.declared.desk.Done.{Done}
+use Rattle.core.specs.declared.evening.Evened.{Evened}
+use Rattle.core.specs.declared.redemption.Plan.{Plan}
+use Rattle.core.specs.Flat.{Rows, tradesTo, tradesOf, bookOf, eveningAt, appliedAt, closedBy, tableBy, Kept}
+use Rattle.core.proofs.FitFacts.{fit-in-use}
+use Rattle.core.proofs.FlatLaws.{length-trades, take-trades}
+use Rattle.core.proofs.VaultLaws.{Sound}
+use Rattle.core.proofs.EveningLaws.{Kept as KeptEvening, applications-sound}
+
+-- ---- the causes, by the code's tests in their order
+
+fails : (b : Bool) → not b ≡ true → b ≡ false
+fails true e = sym e
+fails false e = refl
+
+pub holds : (b : Bool) → not b ≡ false → b ≡ true
+holds true e = refl
+holds false e = sym e
+
+outside : (net : ℤ) → not (netFit net) ≡ true → ltb netLimit (natAbs net) ≡ true
+outside net e = lt-ltb netLimit (natAbs net) (leb-false (natAbs net) netLimit (fails (netFit net) e))
+
+inside : (net : ℤ) → not (netFit net) ≡ false → ltb netLimit (natAbs net) ≡ false
+inside net e = le-ltb netLimit (natAbs net) (leb-true (natAbs net) netLimit (holds (netFit net) e))
+
+first-of-two : {a : Bool} (b : Bool) → a ≡ true → (a || b) ≡ true
+first-of-two b e = rw e
+
+second-of-two : {a b : Bool} → a ≡ false → b ≡ true → (a || b) ≡ true
+second-of-two {a} {b} e f = rw (e, f)
+
+none-of-two : {a b : Bool} → a ≡ false → b ≡ false → (a || b) ≡ false
+none-of-two {a} {b} e f = rw (e, f)
+
+module _ (calendar : Calendar) (book : Book) (table : List Trade) where
+  pub not-now : not (mayClose (book .standing)) ≡ true → firstOf (closeCauses calendar book table) ≡ some 4
+  unfolding closeCauses
+  not-now e = hit _ _ e
+
+  module _ (may : not (mayClose (book .standing)) ≡ false) where
+    pub today-outside : not (netFit (netWithMatured calendar book table)) ≡ true → firstOf (closeCauses calendar book table) ≡ some 14
+    unfolding closeCauses
+    today-outside e = skip _ _ may (hit _ _ (first-of-two _ (outside (netWithMatured calendar book table) e)))
+
+    module _ (fits : not (netFit (netWithMatured calendar book table)) ≡ false) where
+      pub cleared-outside : not (netFit (clearedAtClose calendar book table)) ≡ true → firstOf (closeCauses calendar book table) ≡ some 14
+      unfolding closeCauses
+      cleared-outside e =
+          skip _ _ may
+          (hit _ _ (second-of-two (inside (netWithMatured calendar book table) fits) (outside (clearedAtClose calendar book table) e)))
+
+      pub may-be-closed : not (netFit (clearedAtClose calendar book table)) ≡ false → firstOf (closeCauses calendar book table) ≡ none
+      unfolding closeCauses
+      may-be-closed e =
+          skip _ _ may
+          (skip _ _ (none-of-two (inside (netWithMatured calendar book table) fits) (inside (clearedAtClose calendar book table) e)) clear)
+
+-- ---- (a) what is planned over the flat table is what matures
+
+module _ (calendar : Calendar) (book : Book) (table : List ℕ) (fits : fit calendar book (tradesOf table) ≡ true) (day payment : ℕ) (d : day ≡ today book) (p : payment ≡ paymentDay calendar (book .standing .day))
+    (plan : Plan) (planned : plan ≡ record { sheets = total (maturing day) (tradesTo table (book .trades)); amount = total (maturityAmount day payment) (tradesTo table (book .trades)) }) where
+  pub sheets-planned : plan .sheets ≡ maturedSheets book (tradesOf table)
+  unfolding maturedSheets
+  sheets-planned = rw (planned, d) (ap (total (maturing (today book))) (sym (fit-in-use calendar book table fits)))
+
+  pub amount-planned : plan .amount ≡ maturedAmount calendar book (tradesOf table)
+  unfolding maturedAmount
+  amount-planned = rw (planned, d, p) (ap (total (maturityAmount (today book) (paymentDay calendar (book .standing .day)))) (sym (fit-in-use calendar book table fits)))
+
+-- ---- (a) and (e): the flat table after its due trades are redeemed
+
+module _ (table after : List ℕ) (count day : ℕ) (kept : Kept table count) (same : length after ≡ length table) (redeemed : tradesOf after ≡ over count (map (matured day) (tradesTo table count)) (tradesOf table)) where
+  long : length (map (matured day) (tradesTo table count)) ≡ count
+  long = length-map (tradesTo table count) (matured day) ∙ length-trades table count
+
+  pub redeemed-in-use : tradesTo after count ≡ map (matured day) (tradesTo table count)
+  redeemed-in-use =
+      sym (take-trades after count (omega (arith, kept .room)))
+      ∙ (ap (take count) redeemed ∙ take-at (map (matured day) (tradesTo table count)) (drop count (tradesOf table)) count long)
+
+  -- redeemed trades stay within their limits
+  pub redeemed-kept : Kept after count
+  redeemed-kept = record {
+    room = omega (arith, kept .room);
+    few = kept .few;
+    within = rw redeemed-in-use (fewer-fit (matured-lessens day (tradesTo table count)) (kept .within));
+  }
+
+  -- spare slots keep their content
+  pub spare-slots-kept : drop count (tradesOf after) ≡ drop count (tradesOf table)
+  spare-slots-kept = ap (drop count) redeemed ∙ drop-at (map (matured day) (tradesTo table count)) (drop count (tradesOf table)) count long
+
+module _ (book : Book) (table after : List ℕ) (day : ℕ) (d : day ≡ today book) (kept : Kept table (book .trades)) (same : length after ≡ length table) (redeemed : tradesOf after ≡ over (book .trades) (map (matured day) (tradesTo table (book .trades))) (tradesOf table)) where
+  pub trades-after-maturity : tradesTo after (book .trades) ≡ maturedTrades book (tradesOf table)
+  unfolding maturedTrades
+  trades-after-maturity =
+      redeemed-in-use table after (book .trades) day kept same redeemed
+      ∙ (ap (λ n. map (matured n) (tradesTo table (book .trades))) d
+      ∙ ap (map (matured (today book))) (sym (take-trades table (book .trades) (omega (arith, kept .room)))))
+
+  pub packed-after-maturity : packed (book .trades) (remaining (tradesTo after (book .trades))) (tradesOf after) ≡ closedTable book (tradesOf table)
+  unfolding closedTable
+  packed-after-maturity = rw (trades-after-maturity, spare-slots-kept table after (book .trades) day kept same redeemed)
+
+-- ---- (c) and (d): the evening of a book whose vault and cash are fit
+
+-- as its applications begin
+abbrev pub begun : Book → Evening
+begun book = record { own = book .cash .own; vault = allArrived (book .vault); done = 0; dropped = 0 }
+
+module _ (book : Book) (s : securitiesFit (book .vault) ≡ true) (c : cashFit (book .cash) (book .vault .guarantee) ≡ true) where
+  pub evening-begins : KeptEvening (begun book)
+  evening-begins =
+      let arrived = all-arrived-fit (book .cash .client) (book .cash .own) (book .vault) 0 0 (securities-fit (book .vault) s) (cash-fits (book .cash) (book .vault .guarantee) c) in
+      record { securities = arrived .securities; free = arrived .cash .free; cash = omega (arith, arrived .cash .sum) }
+
+  -- the vault that they leave has a value
+  pub evening-sound : (table : List Trade) → Sound (evening book table .vault)
+  unfolding evening
+  evening-sound table = applications-sound (served (book .standing)) (outstanding (maturedTrades book table)) (book .withdrawals) (begun book) evening-begins
+
+-- ---- what Close gives back, refused and done
+
+module _ (calendar : Calendar) (desk : Desk) (rows : Rows) (table : List Trade) where
+  abbrev outcome : Option ℕ
+  outcome = firstOf (closeCauses calendar (bookOf desk rows) table)
+
+  pub close-refused : (n : ℕ) (r : Done) → outcome ≡ some n → r ≡ record { answer = answer n; desk = desk }
+      → (appliedAt r rows ≡ closedBy outcome calendar (bookOf desk rows) table) × (table ≡ tableBy outcome table (closedTable (bookOf desk rows) table))
+  close-refused n r e left = rw (e, left) (refl, refl)
+
+pub close-done : (calendar : Calendar) (book : Book) (table : List Trade) (matured : ℕ) (evened : Evened) (securities : List Security) (desk : Desk) (rows : Rows)
+    → matured ≡ maturedSheets book table → eveningAt evened securities ≡ evening book table → bookOf desk rows ≡ closedBook calendar book table
+    → appliedAt (record { answer = record { number = 0; matured = sheets matured; done = evened .done; dropped = evened .dropped }; desk = desk }) rows ≡ closedBy none calendar book table
+unfolding closeAnswer
+close-done calendar book table matured evened securities desk rows m end next =
+    rw (m, sym end, sym next)

@@ -1,0 +1,38 @@
+-- Headroom and O of any book: refused where cause 1 applies, and within the limits of S and O where it does not.
+-- For the proofs of cover.rt, run.rt and table.rt. Assumes nothing.
+use mathlib.Core.Path.{_≡_}
+use mathlib.Core.Bool.{Bool, true, false, cond}
+use mathlib.Core.List.{List}
+use Prim.Native.Nat.{ℕ, suc, _-_, _≤_, min}
+use native.Mathlib.Omega.{arith}
+use lib.Dec.{ltb}
+use lib.IntN.{pos, negsuc, subℕ, natAbs}
+use Rattle.money.specs.Days.{Calendar}
+use Rattle.rules.specs.Vault.{value, outstandingOf, headroom}
+use Rattle.rules.specs.Fit.{fit}
+use Rattle.rules.specs.Step.{unfit}
+use Rattle.rules.specs.Cover.{counted, uncounted, coverOf}
+use Rattle.rules.proofs.FitParts.{fit-parts}
+use Rattle.core.specs.Types.{Book, Trade}
+
+small-difference : (a b : ℕ) → a ≤ 10000000000 → b ≤ 10000000000 → natAbs (subℕ a b) ≤ 10000000000
+small-difference a b h k = by-order (ltb a b)
+  where
+    by-order : (t : Bool) → natAbs (cond t (negsuc (b - suc a)) (pos (a - b))) ≤ 10000000000
+    by-order true = omega arith
+    by-order false = omega arith
+
+module _ (calendar : Calendar) (book : Book) (table : List Trade) where
+  pub unfit-cover : unfit calendar book table ≡ true → coverOf calendar book table ≡ uncounted
+  unfolding coverOf
+  unfit-cover e = rw e
+
+  pub fit-cover : unfit calendar book table ≡ false → coverOf calendar book table ≡ counted book table
+  unfolding coverOf
+  fit-cover e = rw e
+
+  pub headroom-size : fit calendar book table ≡ true → natAbs (headroom book table) ≤ 10000000000
+  unfolding headroom
+  headroom-size fits =
+      let parts = fit-parts calendar book table fits in
+      small-difference (min (book .size .0) (value (book .vault))) (outstandingOf book table) (omega (arith, parts .size .within)) (omega (arith, parts .size .within, parts .size .covers))

@@ -1,0 +1,38 @@
+-- The laws that the core's proofs share, and those that the calls above it cite.
+
+-- laws for the code: the core's table
+pub mod FlatLaws
+pub mod StoreLaws
+pub mod PlaceLaws
+pub mod ChainLaws
+pub mod RedemptionLaws
+pub mod PackingLaws
+-- laws for the code: the core's book, the vault and the evening
+pub mod HeldLaws
+pub mod HeldFit
+pub mod RowLaws
+pub mod SplitLaws
+pub mod SumLaws
+pub mod VaultLaws
+pub mod EveningLaws
+-- laws for the code: nets, days and refusals
+pub mod NetLaws
+pub mod PayLaws
+pub mod DayLaws
+pub mod Refusing
+pub mod GatherLaws
+pub mod FitFacts
+pub mod Fitting
+pub mod ContractLaws
+pub mod EarlyLaws
+pub mod OpenLaws
+pub mod CloseLaws
+pub mod InitialLaws
+pub mod StepLaws
+pub mod Column
+-- laws for the run of encoded events
+pub mod CoverLaws
+pub mod FigureLaws
+pub mod LineLaws
+pub mod RunLaws
+pub mod LentLaws

@@ -1,0 +1,80 @@
+-- Open: which cause applies, by what the code asks in turn, and that the trades in use can be redeemed on the day opened.
+-- For the event Open. Assumes nothing.
+use mathlib.Core.Path.{_≡_}
+use mathlib.Core.Bool.{true, false}
+use mathlib.Core.List.{List}
+use mathlib.Core.Option.{none, some}
+use Prim.Native.Nat.{ℕ, _≤_}
+use borrow.Author.Tests.{leb-true, leb-false, lt-ltb, le-ltb}
+use lib.IntN.{natAbs}
+use lib.ListN.{length}
+use Rattle.money.specs.Causes.{firstOf}
+use Rattle.money.specs.Days.{Calendar}
+use Rattle.rules.specs.Limits.{netLimit}
+use Rattle.rules.specs.Book.{isClosed, withStanding}
+use Rattle.rules.specs.Days.{following, paymentDay, followed}
+use Rattle.rules.specs.Trades.{inUse}
+use Rattle.rules.specs.Fit.{netFit, fit}
+use Rattle.rules.specs.Open.{turnsTerminated, nextDay, netWithFallbacks, openCauses, openedStanding}
+use Rattle.rules.proofs.TableFit.{all-the-same}
+use Rattle.rules.proofs.DayFit.{next-day}
+use Rattle.rules.proofs.FitParts.{fit-parts, parts-fit}
+use Rattle.core.specs.Types.{Book, Trading, Trade}
+use Rattle.core.specs.Flat.{tradesOf, Redeemable}
+use Rattle.core.proofs.FitFacts.{fit-redeemable}
+
+-- ---- the cause that applies
+
+module _ (calendar : Calendar) (book : Book) (table : List Trade) where
+  pub not-closed : isClosed (book .standing .phase) ≡ false → firstOf (openCauses calendar book table) ≡ some 4
+  unfolding openCauses firstOf
+  not-closed e = rw e
+
+  module _ (closed : isClosed (book .standing .phase) ≡ true) where
+    -- 14 waits for a day to open, so 16 is the only one left
+    pub no-day-to-open : followed calendar (following calendar (book .standing .day)) ≡ false → firstOf (openCauses calendar book table) ≡ some 16
+    unfolding openCauses firstOf
+    no-day-to-open e = rw (closed, e)
+
+    module _ (follows : followed calendar (following calendar (book .standing .day)) ≡ true) where
+      pub none-unless-ended : turnsTerminated (book .standing) ≡ false → firstOf (openCauses calendar book table) ≡ none
+      unfolding openCauses firstOf
+      none-unless-ended e = rw (closed, follows, e)
+
+      module _ (ended : turnsTerminated (book .standing) ≡ true) where
+        pub net-too-large : netFit (netWithFallbacks calendar book table) ≡ false → firstOf (openCauses calendar book table) ≡ some 14
+        unfolding openCauses firstOf
+        net-too-large e =
+            let net = natAbs (netWithFallbacks calendar book table) in
+            rw (closed, follows, ended, lt-ltb netLimit net (leb-false net netLimit e))
+
+        pub none-within-net : netFit (netWithFallbacks calendar book table) ≡ true → firstOf (openCauses calendar book table) ≡ none
+        unfolding openCauses firstOf
+        none-within-net e =
+            let net = natAbs (netWithFallbacks calendar book table) in
+            rw (closed, follows, ended, le-ltb netLimit net (leb-true net netLimit e))
+
+-- ---- redemption on the day opened
+
+module _ (calendar : Calendar) (book : Book) (table : List ℕ) (fits : fit calendar book (tradesOf table) ≡ true)
+    (follows : followed calendar (following calendar (book .standing .day)) ≡ true) where
+  -- the book is fit on the day opened too, before anything is redeemed
+  fits-next-day : fit calendar (withStanding (openedStanding calendar (book .standing)) book) (tradesOf table) ≡ true
+  fits-next-day =
+      let f = fit-parts calendar book (tradesOf table) fits in
+      let n = book .trades in
+      let trades = inUse n (tradesOf table) in
+      parts-fit calendar (withStanding (openedStanding calendar (book .standing)) book) (tradesOf table) (record {
+        capacity = f .capacity;
+        securities = f .securities;
+        cash = f .cash;
+        each = f .each;
+        size = f .size;
+        nets = f .nets;
+        differing = f .differing;
+        withdrawals = f .withdrawals;
+        day = next-day calendar (book .standing .day) (book .standing .phase) Trading (tradesOf table) trades n n (f .day) follows (all-the-same trades);
+      })
+
+  pub redeemable-next-day : length calendar ≤ 1200 → Redeemable table (book .trades) (paymentDay calendar (nextDay calendar (book .standing)))
+  redeemable-next-day few = fit-redeemable calendar (withStanding (openedStanding calendar (book .standing)) book) table fits-next-day few

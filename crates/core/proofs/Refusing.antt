@@ -1,0 +1,48 @@
+-- A refusal's number and the causes that it stands for: 0 where none applies, else the number of the first that does.
+-- For the events, which ask for the number first. Assumes nothing.
+use mathlib.Core.Path.{_≡_, refl, sym, ap, _∙_}
+use mathlib.Core.Bool.{Bool, true, false, not}
+use mathlib.Core.List.{List, []}
+use mathlib.Core.Option.{Option, none, some}
+use Prim.Native.Nat.{ℕ}
+use native.Mathlib.Omega.{arith}
+use Rattle.money.specs.Causes.{Cause, firstOf, numberOf}
+use Rattle.money.specs.Days.{Calendar}
+use Rattle.rules.specs.Book.{answer}
+use Rattle.rules.specs.Step.{eventCauses}
+use Rattle.rules.proofs.Answers.{numbers, event-numbers, number-passes, unused}
+use Rattle.core.specs.Types.{Book, Trade, Event}
+use Rattle.core.specs.declared.desk.Desk.{Desk}
+use Rattle.core.specs.declared.desk.Done.{Done}
+use Rattle.core.specs.Flat.{Rows, bookOf, appliedBy, appliedAt}
+
+-- the rows of no book: where a fact is the desk's alone
+abbrev pub noRows : Rows
+noRows = record { securities = []; kinds = []; units = [] }
+
+-- a number that is not 0 is a cause's
+pub refused : (o : Option ℕ) (n : ℕ) → n ≡ numberOf o → (n ≡ 0 → ⊥) → o ≡ some n
+refused none n e z = absurd (z e)
+refused (some k) n e z = ap some (sym e)
+
+-- 0 is no cause's number where all pass a test that 0 fails
+pub none-at-0 : (p : ℕ → Bool) (cs : List Cause) (n : ℕ) → p 0 ≡ false → numbers p cs ≡ true → n ≡ numberOf (firstOf cs) → n ≡ 0 → firstOf cs ≡ none
+none-at-0 p cs n fails all e z = go (firstOf cs) refl (sym e ∙ z)
+  where
+    go : (o : Option ℕ) → firstOf cs ≡ o → numberOf o ≡ 0 → o ≡ none
+    go none m l = refl
+    go (some k) m l =
+        let passes : p 0 ≡ true = rw l at (number-passes p cs k all m) in
+        let z : _≡_ {A = ℕ} 0 1 = cc in absurd (omega arith)
+
+pub done : (calendar : Calendar) (book : Book) (table : List Trade) (event : Event) (n : ℕ) → n ≡ numberOf (firstOf (eventCauses calendar book table event)) → n ≡ 0 → firstOf (eventCauses calendar book table event) ≡ none
+done calendar book table event n = none-at-0 (λ k. not (unused k)) (eventCauses calendar book table event) n refl (event-numbers calendar book table event .1)
+
+-- ---- what an event gives back: the book as it was where it is turned down, the new one where it is done
+
+module _ (causes : List Cause) (desk : Desk) (rows after : Rows) (next : Book) {r : Done} where
+  pub turned-down : {n : ℕ} → n ≡ numberOf (firstOf causes) → (n ≡ 0 → ⊥) → r ≡ record { answer = answer n; desk = desk } → after ≡ rows → appliedAt r after ≡ appliedBy (firstOf causes) (bookOf desk rows) next
+  turned-down {n} e z left same = rw (left, same, refused (firstOf causes) n e z)
+
+  pub carried-out : {done : Desk} → firstOf causes ≡ none → r ≡ record { answer = answer 0; desk = done } → bookOf done after ≡ next → appliedAt r after ≡ appliedBy (firstOf causes) (bookOf desk rows) next
+  carried-out e left same = rw (left, e) (ap (λ (book : Book). record { answer = answer 0; book = book }) same)

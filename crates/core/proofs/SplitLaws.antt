@@ -1,0 +1,15 @@
+-- A book taken apart and put together is the book.
+-- For the calls that take a whole book. Assumes nothing.
+use mathlib.Core.Path.{_≡_, ap, _∙_}
+use mathlib.Core.List.{List}
+use Prim.Native.Nat.{ℕ}
+use Rattle.core.specs.Types.{Security, Book}
+use Rattle.core.specs.declared.desk.Desk.{Desk}
+use Rattle.core.specs.Flat.{securitiesOf, rowsOf, bookOf, deskOf}
+
+pub whole : (book : Book) (held : List ℕ) {desk : Desk} {kinds units : List ℕ} → desk ≡ deskOf book → securitiesOf held ≡ book .vault .securities → kinds ≡ book .withdrawals .kinds → units ≡ book .withdrawals .units → bookOf desk (rowsOf held kinds units) ≡ book
+whole book held {desk} {kinds} {units} d s k u =
+    ap (λ (x : Desk). bookOf x (rowsOf held kinds units)) d
+    ∙ ap (λ (row : List Security). bookOf (deskOf book) (record { securities = row; kinds = kinds; units = units })) s
+    ∙ ap (λ (row : List ℕ). bookOf (deskOf book) (record { securities = book .vault .securities; kinds = row; units = units })) k
+    ∙ ap (λ (row : List ℕ). bookOf (deskOf book) (record { securities = book .vault .securities; kinds = book .withdrawals .kinds; units = row })) u

@@ -1,0 +1,211 @@
+use mathlib.Core.Path.{_≡_, sym, ap, _∙_}
+use mathlib.Core.Bool.{false, not}
+use mathlib.Core.List.{List}
+use borrow.Author.Needs.{needs}
+use borrow.Author.Tests.{le-leb}
+use lib.IntN.{ℤ, pos, natAbs, _+ℤ_}
+use Rattle.rules.specs.Limits.{netLimit}
+use Rattle.rules.specs.Fit.{netFit}
+use Rattle.rules.specs.Close.{mayClose, maturedSheets, maturedAmount, netWithMatured, clearedAtClose}
+use Rattle.rules.proofs.FitParts.{fit-parts, fit-withdrawals, fit-securities, fits-cash}
+use Rattle.core.specs.Types.{Nets, Book, Trade}
+use Rattle.core.specs.Flat.{Rows, tradesOf, rowsOf, bookOf, Redeemable}
+use Rattle.core.proofs.FitFacts.{fit-keeps, fit-redeemable}
+use Rattle.core.proofs.RedemptionLaws.{maturity-bound}
+use Rattle.core.proofs.Column.{denied, denied-not}
+use Rattle.core.proofs.CloseLaws.{holds, close-refused, not-now, today-outside, cleared-outside, may-be-closed, sheets-planned, amount-planned}
+use Rattle.core.proofs.close.close.Statement.{statement}
+use Rattle.core.proofs.close.close.Tie as tie
+
+-- the definitions at the arguments
+module _ (s : tie.Start) where
+  abbrev rows : Rows
+  rows = rowsOf (s .args .held .now) (s .args .kinds .now) (s .args .units .now)
+
+  abbrev book : Book
+  book = bookOf (s .args .desk) rows
+
+  abbrev trades : List Trade
+  trades = tradesOf (s .args .table .now)
+
+  abbrev today-net : ℤ
+  today-net = netWithMatured (s .args .calendar .now) book trades
+
+  abbrev cleared-net : ℤ
+  cleared-net = clearedAtClose (s .args .calendar .now) book trades
+
+-- the arguments, seen from the plan on and from the two tests
+abbrev from-plan : tie.After-maturity-plan → tie.Start
+from-plan c = c .before .before .before .before .before .before .before .before .before .before .before .before
+
+abbrev from-today : tie.After-today-fit → tie.Start
+from-today c = from-plan (c .before .before)
+
+abbrev from-cleared : tie.After-cleared-fit → tie.Start
+from-cleared c = from-today (c .before .before .before)
+
+redeemable : (c : tie.After-day-number) → Redeemable (c .before .before .before .before .before .before .before .before .before .before .before .args .table .now) (c .before .before .before .before .before .before .before .before .before .before .before .args .desk .trades) (c .before .before .payment-day .result)
+redeemable c =
+    let s = c .before .before .before .before .before .before .before .before .before .before .before in
+    rw (c .before .before .payment-day .ensures) (fit-redeemable (s .args .calendar .now) (book s) (s .args .table .now) (s .pre .4) (s .pre .3))
+
+-- the plan is what matures
+module _ (c : tie.After-maturity-plan) where
+  sheets-matured : c .maturity-plan .result .sheets ≡ maturedSheets (book (from-plan c)) (trades (from-plan c))
+  sheets-matured =
+      let s = from-plan c in
+      let day = c .before .day-number in
+      let payment = c .before .before .before .payment-day in
+      sheets-planned (s .args .calendar .now) (book s) (s .args .table .now) (s .pre .4) (day .result) (payment .result) (day .ensures) (payment .ensures) (c .maturity-plan .result) (c .maturity-plan .ensures)
+
+  amount-matured : c .maturity-plan .result .amount ≡ maturedAmount (from-plan c .args .calendar .now) (book (from-plan c)) (trades (from-plan c))
+  amount-matured =
+      let s = from-plan c in
+      let day = c .before .day-number in
+      let payment = c .before .before .before .payment-day in
+      amount-planned (s .args .calendar .now) (book s) (s .args .table .now) (s .pre .4) (day .result) (payment .result) (day .ensures) (payment .ensures) (c .maturity-plan .result) (c .maturity-plan .ensures)
+
+-- today's net as (b) begins, and the cleared net after it
+with-matured : (c : tie.After-today-plus)
+    → c .today-plus .result ≡ record { today = today-net (from-plan (c .before)); cleared = from-plan (c .before) .args .desk .nets .cleared }
+with-matured c =
+    let nets = from-plan (c .before) .args .desk .nets in
+    c .today-plus .ensures ∙ ap (λ n. record { today = nets .today +ℤ pos n; cleared = nets .cleared }) (amount-matured (c .before))
+
+all-joined : (c : tie.After-joined)
+    → c .joined .result ≡ record { today = pos 0; cleared = cleared-net (from-plan (c .before .before .before .before)) }
+all-joined c =
+    c .joined .ensures ∙ ap (λ (nets : Nets). record { today = pos 0; cleared = nets .cleared +ℤ nets .today }) (with-matured (c .before .before .before))
+
+-- the tests, as the causes have them
+may-go-on : (c : tie.Else1) → not (mayClose (c .before .before .before .before .before .before .before .before .args .desk .standing)) ≡ false
+may-go-on c = denied-not (c .before .may-close .ensures) (c .if1 .left)
+
+today-asked : (c : tie.After-today-fit)
+    → c .today-fit .result ≡ netFit (today-net (from-today c))
+today-asked c = c .today-fit .ensures ∙ ap (λ (nets : Nets). netFit (nets .today)) (with-matured (c .before))
+
+cleared-asked : (c : tie.After-cleared-fit)
+    → c .cleared-fit .result ≡ netFit (cleared-net (from-cleared c))
+cleared-asked c = c .cleared-fit .ensures ∙ ap (λ (nets : Nets). netFit (nets .cleared)) (all-joined (c .before))
+
+may-close-requires : tie.Need-may-close-requires
+may-close-requires c κs = search needs
+
+answered-requires : tie.Need-answered-requires
+answered-requires c κs = search needs
+
+returns : tie.Need-returns
+returns c =
+    let s = c .before .before .before .before .before .before .before .before .before in
+    close-refused (s .args .calendar .now) (s .args .desk) (rows s) (trades s) 4 _
+    (not-now (s .args .calendar .now) (book s) (trades s) (denied (c .before .before .may-close .ensures) (c .before .if1 .taken)))
+    (c .answered .ensures)
+
+payment-day-requires : tie.Need-payment-day-requires
+payment-day-requires c κs = search needs
+
+day-number-requires : tie.Need-day-number-requires
+day-number-requires c κs = search needs
+
+maturity-plan-requires : tie.Need-maturity-plan-requires
+maturity-plan-requires c κs = redeemable c
+
+today-plus-requires : tie.Need-today-plus-requires
+today-plus-requires c κs =
+    let s = from-plan c in
+    let nets = fit-parts (s .args .calendar .now) (book s) (trades s) (s .pre .4) .nets in
+    (le-leb (natAbs (s .args .desk .nets .today)) netLimit (nets .today), rw (c .maturity-plan .ensures) (maturity-bound _ _ _ (redeemable (c .before)) _))
+
+today-fit-requires : tie.Need-today-fit-requires
+today-fit-requires c κs = search needs
+
+answered-requires-2 : tie.Need-answered-requires-2
+answered-requires-2 c κs = search needs
+
+same-length : tie.Need-same-length
+same-length c = search needs
+
+returns-2 : tie.Need-returns-2
+returns-2 c =
+    let s = from-today (c .before .before) in
+    close-refused (s .args .calendar .now) (s .args .desk) (rows s) (trades s) 14 _
+    (today-outside (s .args .calendar .now) (book s) (trades s) (may-go-on (c .before .before .before .before .before .before .before .before)) (denied (today-asked (c .before .before)) (c .before .if2 .taken)))
+    (c .answered2 .ensures)
+
+joined-requires : tie.Need-joined-requires
+joined-requires c κs =
+    let s = from-today (c .before) in
+    let nets = fit-parts (s .args .calendar .now) (book s) (trades s) (s .pre .4) .nets in
+    (sym (c .before .today-fit .ensures) ∙ holds _ (c .if2 .left), rw (with-matured (c .before .before)) (le-leb (natAbs (s .args .desk .nets .cleared)) netLimit (nets .cleared)))
+
+cleared-fit-requires : tie.Need-cleared-fit-requires
+cleared-fit-requires c κs = search needs
+
+answered-requires-3 : tie.Need-answered-requires-3
+answered-requires-3 c κs = search needs
+
+same-length-2 : tie.Need-same-length-2
+same-length-2 c = search needs
+
+returns-3 : tie.Need-returns-3
+returns-3 c =
+    let s = from-cleared (c .before .before) in
+    close-refused (s .args .calendar .now) (s .args .desk) (rows s) (trades s) 14 _
+    (cleared-outside (s .args .calendar .now) (book s) (trades s) (may-go-on (c .before .before .before .before .before .before .before .before .before .before .before)) (denied-not (today-asked (c .before .before .before .before .before)) (c .before .before .before .before .if2 .left)) (denied (cleared-asked (c .before .before)) (c .before .if3 .taken)))
+    (c .answered3 .ensures)
+
+closed-requires : tie.Need-closed-requires
+closed-requires c κs =
+    let s = from-cleared (c .before .before .before .before .before) in
+    let fits = fit-parts (s .args .calendar .now) (book s) (trades s) (s .pre .4) in
+    ((s .pre .0, s .pre .1, s .pre .2, fit-keeps (s .args .calendar .now) (book s) (s .args .table .now) (s .pre .4)), (fit-withdrawals (book s .withdrawals) (fits .withdrawals), fit-securities (book s .vault) (fits .securities), fits-cash (s .args .desk .cash) (s .args .desk .guarantee) (fits .cash)))
+
+same-length-3 : tie.Need-same-length-3
+same-length-3 c = search needs
+
+same-length-4 : tie.Need-same-length-4
+same-length-4 c = search needs
+
+same-length-5 : tie.Need-same-length-5
+same-length-5 c = search needs
+
+same-length-6 : tie.Need-same-length-6
+same-length-6 c = search needs
+
+returns-4 : tie.Need-returns-4
+returns-4 c =
+    let closed = c .before .before .before .before .before .before .before .before in
+    let left = closed .before .before .before .before .before in
+    let tested = left .before in
+    let today = tested .before .before .before in
+    let s = from-cleared tested in
+    rw (may-be-closed (s .args .calendar .now) (book s) (trades s) (may-go-on (today .before .before .before .before .before .before)) (denied-not (today-asked today) (tested .before .before .if2 .left)) (denied-not (cleared-asked tested) (left .if3 .left)))
+    (closed .closed .ensures .0 (s .args .calendar .now) (sheets-matured (today .before .before)) (all-joined (tested .before)), closed .closed .ensures .1)
+
+pub close-spec : {M : Type 1} → statement M
+close-spec =
+    tie.close
+    (tie.spec
+    may-close-requires
+    answered-requires
+    returns
+    payment-day-requires
+    day-number-requires
+    maturity-plan-requires
+    today-plus-requires
+    today-fit-requires
+    answered-requires-2
+    same-length
+    returns-2
+    joined-requires
+    cleared-fit-requires
+    answered-requires-3
+    same-length-2
+    returns-3
+    closed-requires
+    same-length-3
+    same-length-4
+    same-length-5
+    same-length-6
+    returns-4)

@@ -1,0 +1,113 @@
+use mathlib.Core.Path.{_≡_, sym, ap, _∙_}
+use mathlib.Core.List.{List}
+use borrow.Author.Needs.{needs}
+use lib.ListN.{length}
+use Rattle.rules.specs.Trades.{outstanding, remaining}
+use Rattle.rules.specs.Close.{maturedTrades, evening}
+use Rattle.core.specs.Types.{Book, Trade}
+use Rattle.core.specs.Flat.{tradesTo, tradesOf, securitiesOf, rowsOf, bookOf, eveningAt}
+use Rattle.core.proofs.CloseLaws.{redeemed-kept, trades-after-maturity, packed-after-maturity, evening-sound, close-done}
+use Rattle.core.proofs.close.closed.Statement.{statement}
+use Rattle.core.proofs.close.closed.Tie as tie
+
+-- the definitions at the arguments: the book, and the trades after maturity
+module _ (s : tie.Start) where
+  abbrev book : Book
+  book = bookOf (s .args .desk) (rowsOf (s .args .held .now) (s .args .kinds .now) (s .args .units .now))
+
+  abbrev trades : List Trade
+  trades = tradesOf (s .args .table .now)
+
+  abbrev left-of : List Trade
+  left-of = maturedTrades book trades
+
+-- those stand in the table, and O counts their sheets
+module _ (c : tie.After-outstanding-of) where
+  abbrev from-count : tie.Start
+  from-count = c .before .before .before .before .before .before .before .before .before .before .before .before
+
+  trades-left : tradesTo (c .before .before .before .before .redeem-due .last .0) (from-count .args .desk .trades) ≡ left-of from-count
+  trades-left =
+      let redeemed = c .before .before .before .before in
+      trades-after-maturity (book from-count) _ _ _ (redeemed .before .day-number .ensures) (from-count .pre .0 .3) (redeemed .redeem-due .kept .0) (redeemed .redeem-due .ensures)
+
+  sheets-left : c .outstanding-of .result ≡ outstanding (left-of from-count)
+  sheets-left = c .outstanding-of .ensures ∙ ap outstanding trades-left
+
+-- the evening's end
+module _ (c : tie.After-evening-end) where
+  abbrev from-evening : tie.Start
+  from-evening = from-count (c .before .before .before .before .before .before .before .before)
+
+  evening-over : eveningAt (c .evening-end .result) (securitiesOf (c .evening-end .last .1 .0)) ≡ evening (book from-evening) (trades from-evening)
+  evening-over = c .evening-end .ensures (trades from-evening) (sheets-left (c .before .before .before .before .before .before .before .before))
+
+day-number-requires : tie.Need-day-number-requires
+day-number-requires c κs = search needs
+
+redeem-due-requires : tie.Need-redeem-due-requires
+redeem-due-requires c κs = search needs
+
+outstanding-of-requires : tie.Need-outstanding-of-requires
+outstanding-of-requires c κs =
+    let redeemed = c .before .before .before .redeem-due in
+    redeemed-kept _ _ _ _ (c .before .before .before .before .before .before .before .before .before .before .before .pre .0 .3) (redeemed .kept .0) (redeemed .ensures)
+
+pack-requires : tie.Need-pack-requires
+pack-requires c κs = search needs
+
+evening-end-requires : tie.Need-evening-end-requires
+evening-end-requires c κs = search needs
+
+clear-requires : tie.Need-clear-requires
+clear-requires c κs = let s = from-evening (c .before .before .before .before) in (s .pre .0 .1, s .pre .0 .2)
+
+closed-desk-requires : tie.Need-closed-desk-requires
+closed-desk-requires c κs =
+    let end = c .before .before .before .before .before .before .before .before .before .before in
+    let s = from-evening end in
+    let sound = rw (sym (evening-over end)) at (evening-sound (book s) (s .pre .1 .1) (s .pre .1 .2) (trades s)) in
+    (end .evening-end .kept .1 .0 ∙ s .pre .0 .0, sound .0, sound .1, sound .2)
+
+same-length : tie.Need-same-length
+same-length c = search needs
+
+same-length-2 : tie.Need-same-length-2
+same-length-2 c = search needs
+
+same-length-3 : tie.Need-same-length-3
+same-length-3 c = search needs
+
+same-length-4 : tie.Need-same-length-4
+same-length-4 c = let packed = c .before .before .before .before .before .before .before .before .before .before .before .before .before .before .before .before .before in packed .pack .kept .0 ∙ packed .before .before .before .before .before .before .redeem-due .kept .0
+
+returns : tie.Need-returns
+returns c =
+    let cleared = c .before .before .before .before .before .before .clear in
+    let end = c .before .before .before .before .before .before .before .before .before .before .before in
+    let packed = end .before .before .before .before .before .before in
+    let counted = packed .before .before in
+    let redeemed = counted .before .before .before .before in
+    let s = from-count counted in (
+      (λ calendar matured nets.
+          let next = c .closed-desk .ensures calendar _ (trades s) nets (evening-over end) (sheets-left counted) (packed .pack .ensures .0 ∙ ap (λ l. length (remaining l)) (trades-left counted)) in
+          close-done calendar (book s) (trades s) (s .args .matured) (end .evening-end .result) (securitiesOf (end .evening-end .last .1 .0)) (c .closed-desk .result) (rowsOf (end .evening-end .last .1 .0) (cleared .last .0) (cleared .last .1 .0)) matured (evening-over end) (rw (cleared .ensures .0, cleared .ensures .1) next)),
+      packed .pack .ensures .1 ∙ packed-after-maturity (book s) _ _ _ (redeemed .before .day-number .ensures) (s .pre .0 .3) (redeemed .redeem-due .kept .0) (redeemed .redeem-due .ensures),
+    )
+
+pub closed-spec : {M : Type 1} → statement M
+closed-spec =
+    tie.close
+    (tie.spec
+    day-number-requires
+    redeem-due-requires
+    outstanding-of-requires
+    pack-requires
+    evening-end-requires
+    clear-requires
+    closed-desk-requires
+    same-length
+    same-length-2
+    same-length-3
+    same-length-4
+    returns)

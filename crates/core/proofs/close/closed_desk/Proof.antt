@@ -1,0 +1,32 @@
+use mathlib.Core.Path.{sym}
+use borrow.Author.Needs.{needs}
+use Rattle.rules.specs.Close.{isShortClose, closedBook}
+use Rattle.core.proofs.close.closed_desk.Statement.{statement}
+use Rattle.core.proofs.close.closed_desk.Tie as tie
+
+value-of-requires : tie.Need-value-of-requires
+value-of-requires c κs = search needs
+
+is-short-requires : tie.Need-is-short-requires
+is-short-requires c κs = search needs
+
+short-at-close-requires : tie.Need-short-at-close-requires
+short-at-close-requires c κs = search needs
+
+closed-standing-requires : tie.Need-closed-standing-requires
+closed-standing-requires c κs = search needs
+
+returns : tie.Need-returns
+unfolding closedBook isShortClose
+returns c = λ calendar rows table nets end left kept.
+    rw (c .closed-standing .ensures, c .before .short-at-close .ensures, c .before .before .is-short .ensures, c .before .before .before .value-of .ensures, nets, sym end, left, kept)
+
+pub closed-desk-spec : {M : Type 1} → statement M
+closed-desk-spec =
+    tie.close
+    (tie.spec
+    value-of-requires
+    is-short-requires
+    short-at-close-requires
+    closed-standing-requires
+    returns)

@@ -1,0 +1,53 @@
+use mathlib.Core.Path.{refl, _∙_}
+use native.Mathlib.Omega.{arith}
+use borrow.Author.Needs.{needs}
+use Rattle.rules.specs.Close.{allArrived, evening}
+use Rattle.rules.proofs.FitParts.{cash-fits}
+use Rattle.core.specs.Types.{Book}
+use Rattle.core.specs.Flat.{rowsOf, bookOf}
+use Rattle.core.proofs.EveningLaws.{sound-of}
+use Rattle.core.proofs.CloseLaws.{begun, evening-begins}
+use Rattle.core.proofs.close.evening_end.Statement.{statement}
+use Rattle.core.proofs.close.evening_end.Tie as tie
+
+abbrev book : tie.Start → Book
+book s = bookOf (s .args .desk) (rowsOf (s .args .held .now) (s .args .kinds .now) (s .args .units .now))
+
+all-arrived-requires : tie.Need-all-arrived-requires
+all-arrived-requires c κs = search needs
+
+guarantee-arrived-requires : tie.Need-guarantee-arrived-requires
+guarantee-arrived-requires c κs = omega (arith, cash-fits _ _ (c .before .before .before .before .before .before .before .before .before .pre .1 .2) .sum)
+
+is-served-requires : tie.Need-is-served-requires
+is-served-requires c κs = search needs
+
+applications-requires : tie.Need-applications-requires
+unfolding allArrived
+applications-requires c κs =
+    let s = c .before .before .before .before .before .before .before .before .before .before .before .before in
+    let arrived = c .before .before .before .before .before .all-arrived in
+    let kept = evening-begins (book s) (s .pre .1 .1) (s .pre .1 .2) in
+    let sound = sound-of (begun (book s)) kept in
+    rw (c .before .before .guarantee-arrived .ensures, arrived .ensures)
+    ((s .pre .0 .1, s .pre .0 .2, arrived .kept .0 ∙ s .pre .0 .0, s .pre .1 .0), (sound .0, sound .1, sound .2, kept .cash, refl, refl))
+
+same-length : tie.Need-same-length
+same-length c = search needs
+
+returns : tie.Need-returns
+unfolding evening allArrived
+returns c = λ table left.
+    let end = c .before .before in
+    rw (end .applications .ensures, end .before .before .is-served .ensures, end .before .before .before .guarantee-arrived .ensures, end .before .before .before .before .before .before .all-arrived .ensures, left)
+
+pub evening-end-spec : {M : Type 1} → statement M
+evening-end-spec =
+    tie.close
+    (tie.spec
+    all-arrived-requires
+    guarantee-arrived-requires
+    is-served-requires
+    applications-requires
+    same-length
+    returns)

@@ -1,0 +1,304 @@
+use mathlib.Core.Path.{_≡_, refl}
+use mathlib.Core.Bool.{true}
+use mathlib.Core.List.{List}
+use borrow.Author.Needs.{needs}
+use Rattle.money.specs.Days.{Calendar}
+use Rattle.rules.specs.Fit.{cashFit, securitiesFit, withdrawalsFit, netsFit}
+use Rattle.rules.specs.Step.{eventCauses, act}
+use Rattle.rules.proofs.FitParts.{Fit, fit-parts, fits-cash, fit-securities, fit-withdrawals, fit-nets}
+use Rattle.core.specs.Types.{Book, Trade}
+use Rattle.core.specs.Flat.{Rows, rowsOf, bookOf, tradesOf}
+use Rattle.core.proofs.FitFacts.{fit-keeps}
+use Rattle.core.proofs.StepLaws.{leaves-table, changes-table, pays, closes}
+use Rattle.core.proofs.dispatch.event_on.Statement.{statement}
+use Rattle.core.proofs.dispatch.event_on.Tie as tie
+
+-- the book that stands in the desk and the rows, and the groups of its fitness
+module _ (s : tie.Start) where
+  abbrev calendar : Calendar
+  calendar = s .args .calendar .now
+
+  abbrev rows : Rows
+  rows = rowsOf (s .args .held .now) (s .args .kinds .now) (s .args .units .now)
+
+  abbrev book : Book
+  book = bookOf (s .args .desk) rows
+
+  abbrev table : List Trade
+  table = tradesOf (s .args .table .now)
+
+  parts : Fit calendar book table
+  parts = fit-parts _ _ _ (s .pre .4)
+
+  cash : cashFit (book .cash) (book .vault .guarantee) ≡ true
+  cash = fits-cash _ _ (parts .cash)
+
+  securities : securitiesFit (book .vault) ≡ true
+  securities = fit-securities _ (parts .securities)
+
+  withdrawals : withdrawalsFit (book .withdrawals) ≡ true
+  withdrawals = fit-withdrawals _ (parts .withdrawals)
+
+  nets : netsFit (book .nets) ≡ true
+  nets = fit-nets _ (parts .nets)
+
+enum-told : tie.Need-enum-told
+enum-told c = search needs
+
+open-requires : tie.Need-open-requires
+open-requires c κs =
+    let s = c .before .before .before .before .before .before .before .before in
+    (record { rows = rows s; fits = s .pre .4 }, s .pre .3)
+
+enum-known-event : tie.Need-enum-known-event
+enum-known-event c = search needs
+
+fund-in-requires : tie.Need-fund-in-requires
+fund-in-requires c κs =
+    let s = c .before .before .before .before .before .before .before .before in
+    cash s
+
+enum-known-event-2 : tie.Need-enum-known-event-2
+enum-known-event-2 c = search needs
+
+fund-out-requires : tie.Need-fund-out-requires
+fund-out-requires c κs = search needs
+
+enum-known-event-3 : tie.Need-enum-known-event-3
+enum-known-event-3 c = search needs
+
+set-size-requires : tie.Need-set-size-requires
+set-size-requires c κs = search needs
+
+enum-known-event-4 : tie.Need-enum-known-event-4
+enum-known-event-4 c = search needs
+
+set-rate-requires : tie.Need-set-rate-requires
+set-rate-requires c κs =
+    let s = c .before .before .before .before .before .before .before .before .before in
+    s .pre .0
+
+enum-known-event-5 : tie.Need-enum-known-event-5
+enum-known-event-5 c = search needs
+
+pledge-requires : tie.Need-pledge-requires
+pledge-requires c κs =
+    let s = c .before .before .before .before .before .before .before .before .before in
+    (s .pre .0, securities s, cash s)
+
+enum-known-event-6 : tie.Need-enum-known-event-6
+enum-known-event-6 c = search needs
+
+freeze-requires : tie.Need-freeze-requires
+freeze-requires c κs =
+    let s = c .before .before .before .before .before .before .before .before .before in
+    s .pre .0
+
+enum-known-event-7 : tie.Need-enum-known-event-7
+enum-known-event-7 c = search needs
+
+withdraw-requires : tie.Need-withdraw-requires
+withdraw-requires c κs =
+    let s = c .before .before .before .before .before .before .before .before .before .before .before in
+    ((s .pre .0, s .pre .1, s .pre .2), (withdrawals s, securities s, cash s))
+
+enum-known-event-8 : tie.Need-enum-known-event-8
+enum-known-event-8 c = search needs
+
+initial-requires : tie.Need-initial-requires
+initial-requires c κs =
+    let s = c .before .before .before .before .before .before .before .before .before .before in
+    (s .pre .0, record { kinds = s .args .kinds .now; units = s .args .units .now; fits = s .pre .4 }, s .pre .3, s .pre .5)
+
+enum-known-event-9 : tie.Need-enum-known-event-9
+enum-known-event-9 c = search needs
+
+early-requires : tie.Need-early-requires
+early-requires c κs =
+    let s = c .before .before .before .before .before .before .before .before .before in
+    (record { rows = rows s; fits = s .pre .4 }, s .pre .3)
+
+enum-told-2 : tie.Need-enum-told-2
+enum-told-2 c = search needs
+
+pay-requires : tie.Need-pay-requires
+pay-requires c κs =
+    let s = c .before .before .before .before .before .before .before in
+    (nets s, cash s)
+
+enum-told-3 : tie.Need-enum-told-3
+enum-told-3 c = search needs
+
+close-requires : tie.Need-close-requires
+close-requires c κs =
+    let s = c .before .before .before .before .before .before .before .before .before .before .before in
+    (s .pre .0, s .pre .1, s .pre .2, s .pre .3, s .pre .4)
+
+same-length : tie.Need-same-length
+same-length c = search needs
+
+returns : tie.Need-returns
+unfolding eventCauses act
+returns c =
+    let s = c .before .before .before .before .before .before .before .before .before .before .before in
+    rw (c .before .before .before .before .enum-told .given .1) (changes-table _ (book s) (table s) (s .pre .4) (s .pre .3) _ _ _ refl _ _ (c .before .before .«open» .ensures (rows s)))
+
+returns-2 : tie.Need-returns-2
+unfolding eventCauses act
+returns-2 c =
+    let s = c .before .before .before .before .before .before .before .before .before in
+    rw (c .before .before .event .given .1) (leaves-table _ (book s) (table s) (s .pre .4) (s .pre .3) _ _ refl _ (c .fund-in .ensures (rows s)))
+
+returns-3 : tie.Need-returns-3
+unfolding eventCauses act
+returns-3 c =
+    let s = c .before .before .before .before .before .before .before .before .before in
+    rw (c .before .before .event2 .given .1) (leaves-table _ (book s) (table s) (s .pre .4) (s .pre .3) _ _ refl _ (c .fund-out .ensures (rows s)))
+
+returns-4 : tie.Need-returns-4
+unfolding eventCauses act
+returns-4 c =
+    let s = c .before .before .before .before .before .before .before .before .before in
+    rw (c .before .before .event3 .given .1) (leaves-table _ (book s) (table s) (s .pre .4) (s .pre .3) _ _ refl _ (c .set-size .ensures (rows s) (table s) (s .pre .5)))
+
+same-length-2 : tie.Need-same-length-2
+same-length-2 c = search needs
+
+returns-5 : tie.Need-returns-5
+unfolding eventCauses act
+returns-5 c =
+    let s = c .before .before .before .before .before .before .before .before .before .before .before .before in
+    rw (c .before .before .before .before .before .event4 .given .1) (leaves-table _ (book s) (table s) (s .pre .4) (s .pre .3) _ _ refl _ (c .before .before .set-rate .ensures (s .args .kinds .now) (s .args .units .now)))
+
+same-length-3 : tie.Need-same-length-3
+same-length-3 c = search needs
+
+returns-6 : tie.Need-returns-6
+unfolding eventCauses act
+returns-6 c =
+    let s = c .before .before .before .before .before .before .before .before .before .before .before .before in
+    rw (c .before .before .before .before .before .event5 .given .1) (leaves-table _ (book s) (table s) (s .pre .4) (s .pre .3) _ _ refl _ (c .before .before .pledge .ensures (s .args .kinds .now) (s .args .units .now)))
+
+same-length-4 : tie.Need-same-length-4
+same-length-4 c = search needs
+
+returns-7 : tie.Need-returns-7
+unfolding eventCauses act
+returns-7 c =
+    let s = c .before .before .before .before .before .before .before .before .before .before .before .before in
+    rw (c .before .before .before .before .before .event6 .given .1) (leaves-table _ (book s) (table s) (s .pre .4) (s .pre .3) _ _ refl _ (c .before .before .freeze .ensures (s .args .kinds .now) (s .args .units .now)))
+
+same-length-5 : tie.Need-same-length-5
+same-length-5 c = search needs
+
+same-length-6 : tie.Need-same-length-6
+same-length-6 c = search needs
+
+same-length-7 : tie.Need-same-length-7
+same-length-7 c = search needs
+
+returns-8 : tie.Need-returns-8
+unfolding eventCauses act
+returns-8 c =
+    let s = c .before .before .before .before .before .before .before .before .before .before .before .before .before .before .before .before in
+    rw (c .before .before .before .before .before .before .before .before .before .event7 .given .1) (leaves-table _ (book s) (table s) (s .pre .4) (s .pre .3) _ _ refl _ (c .before .before .before .before .withdraw .ensures))
+
+same-length-8 : tie.Need-same-length-8
+same-length-8 c = search needs
+
+same-length-9 : tie.Need-same-length-9
+same-length-9 c = search needs
+
+returns-9 : tie.Need-returns-9
+unfolding eventCauses act
+returns-9 c =
+    let s = c .before .before .before .before .before .before .before .before .before .before .before .before .before in
+    rw (c .before .before .before .before .before .before .event8 .given .1) (changes-table _ (book s) (table s) (s .pre .4) (s .pre .3) _ _ _ refl _ _ (c .before .before .initial .ensures (s .args .kinds .now) (s .args .units .now)))
+
+same-length-10 : tie.Need-same-length-10
+same-length-10 c = search needs
+
+returns-10 : tie.Need-returns-10
+unfolding eventCauses act
+returns-10 c =
+    let s = c .before .before .before .before .before .before .before .before .before .before .before .before in
+    rw (c .before .before .before .before .before .event9 .given .1) (changes-table _ (book s) (table s) (s .pre .4) (s .pre .3) _ _ _ refl _ _ (c .before .before .early .ensures (rows s)))
+
+returns-11 : tie.Need-returns-11
+unfolding eventCauses act
+returns-11 c =
+    let s = c .before .before .before .before .before .before .before .before in
+    rw (c .before .enum-told2 .given .1) (pays _ (book s) (table s) (s .pre .4) (s .pre .3) _ refl _ (c .pay .ensures (rows s)))
+
+same-length-11 : tie.Need-same-length-11
+same-length-11 c = search needs
+
+same-length-12 : tie.Need-same-length-12
+same-length-12 c = search needs
+
+same-length-13 : tie.Need-same-length-13
+same-length-13 c = search needs
+
+same-length-14 : tie.Need-same-length-14
+same-length-14 c = search needs
+
+returns-12 : tie.Need-returns-12
+unfolding eventCauses act
+returns-12 c =
+    let s = c .before .before .before .before .before .before .before .before .before .before .before .before .before .before .before .before .before .before .before .before in
+    rw (c .before .before .before .before .before .before .before .before .before .before .before .before .before .enum-told3 .given .1) (closes _ (book s) (table s) (s .pre .4) (s .pre .3) _ _ refl _ _ (c .before .before .before .before .before .before .before .before .close .ensures))
+
+pub event-on-spec : {M : Type 1} → statement M
+event-on-spec =
+    tie.close
+    (tie.spec
+    enum-told
+    open-requires
+    enum-known-event
+    fund-in-requires
+    enum-known-event-2
+    fund-out-requires
+    enum-known-event-3
+    set-size-requires
+    enum-known-event-4
+    set-rate-requires
+    enum-known-event-5
+    pledge-requires
+    enum-known-event-6
+    freeze-requires
+    enum-known-event-7
+    withdraw-requires
+    enum-known-event-8
+    initial-requires
+    enum-known-event-9
+    early-requires
+    enum-told-2
+    pay-requires
+    enum-told-3
+    close-requires
+    same-length
+    returns
+    returns-2
+    returns-3
+    returns-4
+    same-length-2
+    returns-5
+    same-length-3
+    returns-6
+    same-length-4
+    returns-7
+    same-length-5
+    same-length-6
+    same-length-7
+    returns-8
+    same-length-8
+    same-length-9
+    returns-9
+    same-length-10
+    returns-10
+    returns-11
+    same-length-11
+    same-length-12
+    same-length-13
+    same-length-14
+    returns-12)

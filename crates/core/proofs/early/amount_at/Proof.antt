@@ -1,0 +1,29 @@
+use native.Mathlib.Omega.{arith}
+use borrow.Author.Needs.{needs}
+use Rattle.core.specs.Flat.{bookOf}
+use Rattle.core.proofs.RedemptionLaws.{begun-before}
+use Rattle.core.proofs.FitFacts.{fit-keeps, fit-redeemable}
+use Rattle.core.proofs.ContractLaws.{trade-here}
+use Rattle.core.proofs.early.amount_at.Statement.{statement}
+use Rattle.core.proofs.early.amount_at.Tie as tie
+
+payment-day-requires : tie.Need-payment-day-requires
+payment-day-requires c κs = search needs
+
+redeemed-for-requires : tie.Need-redeemed-for-requires
+redeemed-for-requires c κs =
+    let start = c .before .before .before .before in
+    let redeemable = fit-redeemable (start .args .calendar .now) (bookOf (start .args .desk) (start .pre .0 .rows)) (start .args .table .now) (start .pre .0 .fits) (start .pre .1) in
+    let begun = begun-before _ _ _ redeemable _ (start .pre .3) in (
+      (omega (arith, redeemable .kept .room, start .pre .3), start .pre .4, start .pre .5),
+      rw (c .payment-day .ensures) (begun, redeemable .term),
+    )
+
+returns : tie.Need-returns
+returns c rows =
+    let start = c .before .before .before .before .before in
+    let own = trade-here _ _ _ _ (fit-keeps (start .args .calendar .now) (bookOf (start .args .desk) (start .pre .0 .rows)) (start .args .table .now) (start .pre .0 .fits) .room) (start .pre .2) (start .pre .3) in
+    rw (c .redeemed-for .ensures, c .before .payment-day .ensures, own)
+
+pub amount-at-spec : {M : Type 1} → statement M
+amount-at-spec = tie.close (tie.spec payment-day-requires redeemed-for-requires returns)

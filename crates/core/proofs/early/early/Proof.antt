@@ -1,0 +1,102 @@
+use mathlib.Core.Option.{none}
+use mathlib.Core.Path.{_≡_, refl, _∙_}
+use native.Mathlib.Omega.{arith}
+use borrow.Author.Needs.{needs}
+use Rattle.money.specs.Causes.{firstOf}
+use Rattle.rules.specs.Early.{earlyCauses, earlyBook, earlyTable}
+use Rattle.core.specs.Flat.{Rows, bookOf, tradesOf, Kept}
+use Rattle.core.proofs.Refusing.{refused, turned-down, carried-out}
+use Rattle.core.proofs.FitFacts.{fit-keeps, fit-net}
+use Rattle.core.proofs.ContractLaws.{take-off-here}
+use Rattle.core.proofs.EarlyLaws.{Redeems, early-at-most, early-clear, early-redeems}
+use Rattle.core.proofs.early.early.Statement.{statement}
+use Rattle.core.proofs.early.early.Tie as tie
+
+-- the trades in use stand in the table, within their limits
+kept : (s : tie.Start) → Kept (s .args .table .now) (s .args .desk .trades)
+kept s = fit-keeps (s .args .calendar .now) (bookOf (s .args .desk) (s .pre .0 .rows)) (s .args .table .now) (s .pre .0 .fits)
+
+clear : (c : tie.Else1) (rows : Rows) → (let s = c .before .before .before .before .before .before .before .args in firstOf (earlyCauses (s .calendar .now) (bookOf (s .desk) rows) (tradesOf (s .table .now)) (s .contract) (s .count) (s .price)) ≡ none)
+clear c rows =
+    let s = c .before .before .before .before .before .before .before .args in
+    early-clear (s .calendar .now) (bookOf (s .desk) rows) _ _ _ _ _ (c .before .early-refusal .ensures rows) (c .if1 .left)
+
+redeems : (c : tie.Else1) → (let s = c .before .before .before .before .before .before .before .args in Redeems (s .table .now) (s .desk .trades) (c .before .before .before .place-of .result) (s .count) (s .price))
+redeems c =
+    let start = c .before .before .before .before .before .before .before in
+    early-redeems (start .args .calendar .now) (bookOf (start .args .desk) (start .pre .0 .rows)) _ _ _ _ _ (start .pre .0 .fits) (c .before .before .before .place-of .ensures) (clear c (start .pre .0 .rows))
+
+place-of-requires : tie.Need-place-of-requires
+place-of-requires c κs = kept (c .before .before .before) .room
+
+early-refusal-requires : tie.Need-early-refusal-requires
+early-refusal-requires c κs = search needs
+
+answered-requires : tie.Need-answered-requires
+answered-requires c κs = search needs
+
+same-length : tie.Need-same-length
+same-length c = search needs
+
+returns : tie.Need-returns
+returns c rows =
+    let s = c .before .before .before .before .before .before .before .before .args in
+    let causes = earlyCauses (s .calendar .now) (bookOf (s .desk) rows) (tradesOf (s .table .now)) (s .contract) (s .count) (s .price) in
+    let refusal = refused (firstOf causes) _ (c .before .before .early-refusal .ensures rows) (c .before .if1 .taken) in
+    (turned-down causes _ rows _ _ (c .before .before .early-refusal .ensures rows) (c .before .if1 .taken) (c .answered .ensures) refl, rw refusal)
+
+amount-at-requires : tie.Need-amount-at-requires
+amount-at-requires c κs =
+    let start = c .before .before .before .before .before .before .before .before in
+    let r = redeems (c .before) in
+    (start .pre .0, start .pre .1, c .before .before .before .before .place-of .ensures, r .below, r .few, r .cheap)
+
+sheets-at-requires : tie.Need-sheets-at-requires
+sheets-at-requires c κs = omega (arith, redeems (c .before .before .before) .below, kept (c .before .before .before .before .before .before .before .before .before .before) .room)
+
+sub-left : tie.Need-sub-left
+sub-left c = omega (arith, redeems (c .before .before .before .before .before) .enough, c .before .sheets-at .ensures)
+
+put-sheets-requires : tie.Need-put-sheets-requires
+put-sheets-requires c κs = omega (arith, redeems (c .before .before .before .before .before .before) .below, kept (c .before .before .before .before .before .before .before .before .before .before .before .before .before) .room)
+
+today-plus-requires : tie.Need-today-plus-requires
+today-plus-requires c κs =
+    let start = c .before .before .before .before .before .before .before .before .before .before .before .before .before .before .before .before .before in
+    let s = start .args in
+    let r = redeems (c .before .before .before .before .before .before .before .before .before .before) in
+    (fit-net (s .calendar .now) (bookOf (s .desk) (start .pre .0 .rows)) (s .table .now) (start .pre .0 .fits), rw (c .before .before .before .before .before .before .before .before .amount-at .ensures (start .pre .0 .rows)) (early-at-most (s .calendar .now) (bookOf (s .desk) (start .pre .0 .rows)) (tradesOf (s .table .now)) (s .contract) (s .count) (s .price) (start .pre .1) (r .few) (r .cheap)))
+
+answered-requires-2 : tie.Need-answered-requires-2
+answered-requires-2 c κs = search needs
+
+same-length-2 : tie.Need-same-length-2
+same-length-2 c = search needs
+
+returns-2 : tie.Need-returns-2
+unfolding earlyBook earlyTable
+returns-2 c rows =
+    let start = c .before .before .before .before .before .before .before .before .before .before .before .before .before .before .before .before .before .before .before in
+    let r = redeems (c .before .before .before .before .before .before .before .before .before .before .before .before) in
+    let written = rw (c .before .before .before .before .before .before .before .before .sheets-at .ensures) at (c .before .before .before .before .before .put-sheets .ensures) in
+    let taken-off = take-off-here _ _ _ _ (kept start .room) (c .before .before .before .before .before .before .before .before .before .before .before .before .before .before .before .place-of .ensures) _ (r .below) in
+    let e = clear (c .before .before .before .before .before .before .before .before .before .before .before .before) rows in
+    (carried-out _ _ rows _ _ e (c .answered2 .ensures) (rw (c .before .today-plus .ensures, c .before .before .before .before .before .before .before .before .before .before .amount-at .ensures rows)), rw e (written ∙ taken-off))
+
+pub early-spec : {M : Type 1} → statement M
+early-spec =
+    tie.close
+    (tie.spec
+    place-of-requires
+    early-refusal-requires
+    answered-requires
+    same-length
+    returns
+    amount-at-requires
+    sheets-at-requires
+    sub-left
+    put-sheets-requires
+    today-plus-requires
+    answered-requires-2
+    same-length-2
+    returns-2)

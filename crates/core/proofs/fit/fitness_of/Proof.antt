@@ -1,0 +1,36 @@
+use mathlib.Core.Path.{_≡_, sym, ap, _∙_}
+use mathlib.Core.Bool.{false≢true}
+use native.Mathlib.Omega.{arith}
+use borrow.Author.Needs.{needs}
+use Rattle.rules.specs.Trades.{outstanding}
+use Rattle.rules.proofs.FitParts.{capacity-fits, fit-parts}
+use Rattle.core.proofs.GatherLaws.{gathered-where}
+use Rattle.core.proofs.FitFacts.{room-where-fit, fit-in-use, fit-keeps}
+use Rattle.core.proofs.Fitting.{fitting, upheld, by-flat-tests}
+use Rattle.core.proofs.fit.fitness_of.Statement.{statement}
+use Rattle.core.proofs.fit.fitness_of.Tie as tie
+
+capacity-fit-requires : tie.Need-capacity-fit-requires
+capacity-fit-requires c κs = search needs
+
+returns : tie.Need-returns
+returns c = (by-flat-tests _ _ _ _ (search fitting depth 12), λ z. absurd (false≢true z))
+
+gather-requires : tie.Need-gather-requires
+gather-requires c κs =
+    let fits = upheld (c .before .capacity-fit .ensures) (c .if1 .left) in
+    let capacity = capacity-fits _ _ fits in
+    (room-where-fit _ _ fits, omega (arith, capacity .within, capacity .room))
+
+is-fit-requires : tie.Need-is-fit-requires
+is-fit-requires c κs =
+    let s = c .before .before .before .before .before .before .before .before in
+    (s .pre .0, s .pre .1, s .pre .2, s .pre .3, upheld (c .before .before .capacity-fit .ensures) (c .before .if1 .left), c .gather .ensures)
+
+returns-2 : tie.Need-returns-2
+returns-2 c =
+    let gathered = gathered-where _ _ (c .before .gather .ensures) in
+    (c .is-fit .ensures, λ z. let fits = sym (c .is-fit .ensures) ∙ z in gathered .1 (fit-keeps _ _ _ fits .within) .0 ∙ ap outstanding (sym (fit-in-use _ _ _ fits)))
+
+pub fitness-of-spec : {M : Type 1} → statement M
+fitness-of-spec = tie.close (tie.spec capacity-fit-requires returns gather-requires is-fit-requires returns-2)

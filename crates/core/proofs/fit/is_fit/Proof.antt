@@ -1,0 +1,82 @@
+use mathlib.Core.Path.{_≡_}
+use mathlib.Core.Bool.{true}
+use borrow.Author.Needs.{needs}
+use Rattle.rules.specs.Fit.{capacityFit}
+use Rattle.core.specs.Flat.{tradesOf}
+use Rattle.core.proofs.GatherLaws.{gathered-where}
+use Rattle.core.proofs.FitFacts.{kept-where-fit}
+use Rattle.core.proofs.Fitting.{fitting, upheld, by-flat-tests}
+use Rattle.core.proofs.fit.is_fit.Statement.{statement}
+use Rattle.core.proofs.fit.is_fit.Tie as tie
+
+securities-fit-requires : tie.Need-securities-fit-requires
+securities-fit-requires c κs = search needs
+
+returns : tie.Need-returns
+returns c =
+    let s = c .before .before .before .before .before .before .before in
+    let capacity = s .pre .4 in
+    let row = c .before .securities-fit .ensures (s .args .desk .guarantee) in
+    by-flat-tests _ _ _ _ (search fitting depth 12)
+
+cash-fit-requires : tie.Need-cash-fit-requires
+cash-fit-requires c κs = search needs
+
+returns-2 : tie.Need-returns-2
+returns-2 c =
+    let s = c .before .before .before .before .before .before .before .before .before .before .before in
+    let capacity = s .pre .4 in
+    let row = c .before .before .before .before .before .securities-fit .ensures (s .args .desk .guarantee) in
+    by-flat-tests _ _ _ _ (search fitting depth 12)
+
+returns-3 : tie.Need-returns-3
+returns-3 c =
+    let s = c .before .before .before .before .before .before .before .before .before .before .before .before in
+    let capacity = s .pre .4 in
+    let row = c .before .before .before .before .before .before .securities-fit .ensures (s .args .desk .guarantee) in
+    let each = gathered-where _ _ (s .pre .5) .0 in
+    by-flat-tests _ _ _ _ (search fitting depth 12)
+
+size-fit-requires : tie.Need-size-fit-requires
+size-fit-requires c κs = search needs
+
+returns-4 : tie.Need-returns-4
+returns-4 c =
+    let s = c .before .before .before .before .before .before .before .before .before .before .before .before .before .before in
+    let capacity = s .pre .4 in
+    let row = c .before .before .before .before .before .before .before .before .securities-fit .ensures (s .args .desk .guarantee) in
+    let gathered = gathered-where _ _ (s .pre .5) in
+    let each = upheld (gathered .0) (c .before .before .if3 .left) in
+    let size = rw (gathered .1 each .0) at (c .before .size-fit .ensures) in
+    by-flat-tests _ _ _ _ (search fitting depth 12)
+
+others-fit-requires : tie.Need-others-fit-requires
+others-fit-requires c κs =
+    let s = c .before .before .before .before .before .before .before .before .before .before .before .before .before .before in
+    let gathered = gathered-where _ _ (s .pre .5) in
+    let each = upheld (gathered .0) (c .before .before .if3 .left) in
+    (s .pre .3, s .pre .1, s .pre .2, kept-where-fit _ _ (s .pre .4) each, gathered .1 each .1)
+
+returns-5 : tie.Need-returns-5
+returns-5 c =
+    let s = c .before .before .before .before .before .before .before .before .before .before .before .before .before .before .before in
+    let capacity = s .pre .4 in
+    let row = c .before .before .before .before .before .before .before .before .before .securities-fit .ensures (s .args .desk .guarantee) in
+    let gathered = gathered-where _ _ (s .pre .5) in
+    let each = upheld (gathered .0) (c .before .before .before .if3 .left) in
+    let size = rw (gathered .1 each .0) at (c .before .before .size-fit .ensures) in
+    by-flat-tests _ _ _ _ (search fitting depth 12)
+
+pub is-fit-spec : {M : Type 1} → statement M
+is-fit-spec =
+    tie.close
+    (tie.spec
+    securities-fit-requires
+    returns
+    cash-fit-requires
+    returns-2
+    returns-3
+    size-fit-requires
+    returns-4
+    others-fit-requires
+    returns-5)

@@ -1,0 +1,19 @@
+use mathlib.Core.Path.{_∙_}
+use borrow.Author.Needs.{needs}
+use Rattle.core.proofs.freeze.put_frozen.Statement.{statement}
+use Rattle.core.proofs.freeze.put_frozen.Tie as tie
+
+security-at-requires : tie.Need-security-at-requires
+security-at-requires c κs = search needs
+
+put-security-requires : tie.Need-put-security-requires
+put-security-requires c κs = search needs
+
+same-length : tie.Need-same-length
+same-length c = search needs
+
+returns : tie.Need-returns
+returns c = c .before .before .put-security .ensures ∙ rw (c .before .before .before .before .security-at .ensures)
+
+pub put-frozen-spec : {M : Type 1} → statement M
+put-frozen-spec = tie.close (tie.spec security-at-requires put-security-requires same-length returns)

@@ -1,0 +1,68 @@
+use mathlib.Core.Path.{_≡_, refl}
+use mathlib.Core.List.{[]}
+use mathlib.Core.Option.{none}
+use Prim.Native.Nat.{_≤_}
+use native.Mathlib.Omega.{arith}
+use borrow.Author.Needs.{needs}
+use borrow.Author.Tests.{ltb-false}
+use Rattle.money.specs.declared.units.Fen.{Fen}
+use Rattle.money.specs.Causes.{firstOf}
+use Rattle.money.proofs.Refusals.{failed}
+use Rattle.rules.specs.Funds.{holds, fundOutCauses, fundedOut}
+use Rattle.rules.specs.Step.{eventCauses}
+use Rattle.core.specs.Types.{Book, Account, FundOut}
+use Rattle.core.specs.Flat.{Rows, bookOf}
+use Rattle.core.proofs.Refusing.{noRows, turned-down, carried-out, done}
+use Rattle.core.proofs.funds.fund_out.Statement.{statement}
+use Rattle.core.proofs.funds.fund_out.Tie as tie
+
+none-applies : (c : tie.Else1) (rows : Rows) → firstOf (fundOutCauses (bookOf (c .before .before .args .desk) rows) (c .before .before .args .account) (c .before .before .args .amount)) ≡ none
+unfolding eventCauses
+none-applies c rows =
+    let a = c .before .before .args in
+    done [] (bookOf (a .desk) rows) [] (FundOut (a .account) (a .amount)) _ (c .before .fund-out-refusal .ensures rows) (c .if1 .left)
+
+covered : (book : Book) (account : Account) (amount : Fen) → firstOf (fundOutCauses book account amount) ≡ none → amount .0 ≤ holds account (book .cash)
+unfolding fundOutCauses
+covered book account amount e = ltb-false (holds account (book .cash)) (amount .0) (failed (fundOutCauses book account amount) e 13 .1 .0 refl)
+
+fund-out-refusal-requires : tie.Need-fund-out-refusal-requires
+fund-out-refusal-requires c κs = search needs
+
+answered-requires : tie.Need-answered-requires
+answered-requires c κs = search needs
+
+returns : tie.Need-returns
+returns c rows = turned-down _ _ rows _ _ (c .before .before .fund-out-refusal .ensures rows) (c .before .if1 .taken) (c .answered .ensures) refl
+
+balance-requires : tie.Need-balance-requires
+balance-requires c κs = search needs
+
+sub-with-account : tie.Need-sub-with-account
+sub-with-account c =
+    let q = c .before .before .before in
+    let a = q .before .before .args in
+    omega (arith, c .before .balance .ensures, covered (bookOf (a .desk) noRows) (a .account) (a .amount) (none-applies q noRows))
+
+with-account-requires : tie.Need-with-account-requires
+with-account-requires c κs = search needs
+
+answered-requires-2 : tie.Need-answered-requires-2
+answered-requires-2 c κs = search needs
+
+returns-2 : tie.Need-returns-2
+unfolding fundedOut
+returns-2 c rows = carried-out _ _ rows _ _ (none-applies (c .before .before .before .before .before) rows) (c .answered2 .ensures) (rw (c .before .with-account .ensures, c .before .before .before .balance .ensures))
+
+pub fund-out-spec : {M : Type 1} → statement M
+fund-out-spec =
+    tie.close
+    (tie.spec
+    fund-out-refusal-requires
+    answered-requires
+    returns
+    balance-requires
+    sub-with-account
+    with-account-requires
+    answered-requires-2
+    returns-2)

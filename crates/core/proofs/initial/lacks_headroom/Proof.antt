@@ -1,0 +1,25 @@
+use mathlib.Core.Path.{_≡_}
+use native.Mathlib.Omega.{arith}
+use Rattle.rules.specs.Vault.{headroom}
+use Rattle.rules.proofs.FitParts.{fit-parts, fit-securities}
+use Rattle.core.proofs.initial.lacks_headroom.Statement.{statement}
+use Rattle.core.proofs.initial.lacks_headroom.Tie as tie
+
+value-of-requires : tie.Need-value-of-requires
+value-of-requires c κs =
+    let s = c .before .before .before .before in
+    let parts = fit-parts _ _ _ (s .pre .1 .fits) in
+    (s .pre .0, fit-securities _ (parts .securities), parts .cash .free, omega (arith, parts .cash .sum))
+
+above-headroom-requires : tie.Need-above-headroom-requires
+above-headroom-requires c κs =
+    let s = c .before .before .before .before .before in
+    let size = fit-parts _ _ _ (s .pre .1 .fits) .size in
+    (omega (arith, s .pre .2, size .within, size .covers), s .pre .3)
+
+returns : tie.Need-returns
+unfolding headroom
+returns c kinds units = rw (c .before .before .before .before .before .before .pre .2, c .before .value-of .ensures) at (c .above-headroom .ensures)
+
+pub lacks-headroom-spec : {M : Type 1} → statement M
+lacks-headroom-spec = tie.close (tie.spec value-of-requires above-headroom-requires returns)

@@ -1,0 +1,72 @@
+use borrow.Author.Needs.{needs}
+use mathlib.Core.Path.{refl, sym, _∙_}
+use mathlib.Core.Bool.{false≢true}
+use borrow.Author.Tests.{not-false}
+use Rattle.core.proofs.Fitting.{refuted, upheld}
+use Rattle.core.proofs.LentLaws.{step-parts, fit-in, refused-step, by-step}
+use Rattle.core.proofs.lent.apply.Statement.{statement}
+use Rattle.core.proofs.lent.apply.Tie as tie
+
+fitness-in-requires : tie.Need-fitness-in-requires
+fitness-in-requires c κs = search needs
+
+answered-requires : tie.Need-answered-requires
+answered-requires c κs = search needs
+
+same-length : tie.Need-same-length
+same-length c = search needs
+
+same-length-2 : tie.Need-same-length-2
+same-length-2 c = search needs
+
+same-length-3 : tie.Need-same-length-3
+same-length-3 c = search needs
+
+same-length-4 : tie.Need-same-length-4
+same-length-4 c = search needs
+
+returns : tie.Need-returns
+returns c = rw (c .answered .ensures) (sym (refused-step _ _ (refuted (c .before .before .fitness-in .ensures .0) (c .before .if1 .taken)) _), λ z. refl)
+
+entry-on-requires : tie.Need-entry-on-requires
+entry-on-requires c κs =
+    let passed = c .before .before .before .before in
+    let found = fit-in _ _ (upheld (passed .before .fitness-in .ensures .0) (passed .if1 .left)) in
+    (found .long .held, found .long .kinds, found .long .units, found .few, found .fits, passed .before .fitness-in .ensures .1 (not-false _ (passed .if1 .left)))
+
+same-length-5 : tie.Need-same-length-5
+same-length-5 c = search needs
+
+same-length-6 : tie.Need-same-length-6
+same-length-6 c = search needs
+
+same-length-7 : tie.Need-same-length-7
+same-length-7 c = search needs
+
+same-length-8 : tie.Need-same-length-8
+same-length-8 c = search needs
+
+returns-2 : tie.Need-returns-2
+returns-2 c =
+    let passed = c .before .before .before .before .before .before .before .before .before .before .before .before .before in
+    let found = fit-in _ _ (upheld (passed .before .fitness-in .ensures .0) (passed .if1 .left)) in
+    let done = c .before .before .before .before .before .before .before .before .entry-on .ensures in
+    (step-parts _ _ _ (done .0) (done .1) ∙ sym (by-step _ _ (found .whole) _), λ z. absurd (false≢true (sym z ∙ found .whole)))
+
+pub apply-spec : {M : Type 1} → statement M
+apply-spec =
+    tie.close
+    (tie.spec
+    fitness-in-requires
+    answered-requires
+    same-length
+    same-length-2
+    same-length-3
+    same-length-4
+    returns
+    entry-on-requires
+    same-length-5
+    same-length-6
+    same-length-7
+    same-length-8
+    returns-2)

@@ -1,0 +1,44 @@
+use borrow.Author.Needs.{needs}
+use mathlib.Core.Path.{sym, _∙_}
+use mathlib.Core.Bool.{false≢true}
+use Rattle.core.proofs.Fitting.{refuted, upheld}
+use Rattle.core.proofs.LentLaws.{lengths, not-whole, too-long, by-fitness}
+use Rattle.core.proofs.lent.fitness_in.Statement.{statement}
+use Rattle.core.proofs.lent.fitness_in.Tie as tie
+
+is-whole-requires : tie.Need-is-whole-requires
+is-whole-requires c κs = search needs
+
+not-fit-requires : tie.Need-not-fit-requires
+not-fit-requires c κs = search needs
+
+returns : tie.Need-returns
+returns c = rw (c .not-fit .ensures) (sym (not-whole _ _ (refuted (c .before .before .is-whole .ensures) (c .before .if1 .taken))), λ z. absurd (false≢true z))
+
+not-fit-requires-2 : tie.Need-not-fit-requires-2
+not-fit-requires-2 c κs = search needs
+
+returns-2 : tie.Need-returns-2
+returns-2 c = rw (c .not-fit2 .ensures) (sym (too-long _ _ (c .before .if2 .taken)), λ z. absurd (false≢true z))
+
+fitness-of-requires : tie.Need-fitness-of-requires
+fitness-of-requires c κs =
+    let long = lengths _ (upheld (c .before .before .is-whole .ensures) (c .before .if1 .left)) in
+    (long .held, long .kinds, long .units, c .if2 .left)
+
+returns-3 : tie.Need-returns-3
+returns-3 c =
+    let whole = upheld (c .before .before .before .is-whole .ensures) (c .before .before .if1 .left) in
+    (c .fitness-of .ensures .0 ∙ by-fitness _ _ whole (c .before .if2 .left), c .fitness-of .ensures .1)
+
+pub fitness-in-spec : {M : Type 1} → statement M
+fitness-in-spec =
+    tie.close
+    (tie.spec
+    is-whole-requires
+    not-fit-requires
+    returns
+    not-fit-requires-2
+    returns-2
+    fitness-of-requires
+    returns-3)

@@ -1,0 +1,14 @@
+use borrow.Author.Needs.{needs}
+use mir.Syntax.{w64}
+use mir.ValLaws.{toZ-ofZ}
+use Rattle.core.proofs.nets.cleared_fit.Statement.{statement}
+use Rattle.core.proofs.nets.cleared_fit.Tie as tie
+
+net-fit-requires : tie.Need-net-fit-requires
+net-fit-requires c κs = search needs
+
+returns : tie.Need-returns
+returns c = rw (toZ-ofZ w64 (c .before .before .args .nets .cleared) (record { sfits = c .before .struct-told .given .1 .0 .1 })) at (c .net-fit .ensures)
+
+pub cleared-fit-spec : {M : Type 1} → statement M
+cleared-fit-spec = tie.close (tie.spec net-fit-requires returns)

@@ -1,0 +1,83 @@
+use mathlib.Core.Path.{_≡_, sym, ap, _∙_}
+use borrow.Author.Needs.{needs}
+use borrow.Author.Tests.{not-true, not-false}
+use denote.Ref.{now}
+use lib.IntN.{ℤ}
+use Rattle.rules.specs.Fit.{netFit}
+use Rattle.rules.specs.Open.{netWithFallbacks, openedBook, openedTable}
+use Rattle.core.specs.Types.{Book, Nets}
+use Rattle.core.specs.Flat.{Rows, bookOf, tradesOf}
+use Rattle.core.proofs.FitFacts.{fit-in-use, fit-keeps}
+use Rattle.core.proofs.RedemptionLaws.{all-due}
+use Rattle.core.proofs.OpenLaws.{net-too-large, none-within-net}
+use Rattle.core.proofs.open.terminated.Statement.{statement}
+use Rattle.core.proofs.open.terminated.Tie as tie
+
+-- the book that the desk is fit as
+abbrev book : tie.Start → Book
+book s = bookOf (s .args .desk) (s .pre .0 .0 .rows)
+
+abbrev net : tie.Start → Rows → ℤ
+net s rows = netWithFallbacks (now (s .args .calendar)) (bookOf (s .args .desk) rows) (tradesOf (now (s .args .table)))
+
+-- the code's test is of the net with every trade redeemed
+net-tested : (c : tie.After-cleared-fit) (rows : Rows) → netFit (net (c .before .before .before .before .before) rows) ≡ c .cleared-fit .result
+net-tested c rows = ap (λ (nets : Nets). netFit (nets .cleared)) (sym (c .before .with-fallbacks .ensures rows)) ∙ sym (c .cleared-fit .ensures)
+
+with-fallbacks-requires : tie.Need-with-fallbacks-requires
+with-fallbacks-requires c κs = search needs
+
+cleared-fit-requires : tie.Need-cleared-fit-requires
+cleared-fit-requires c κs = search needs
+
+answered-requires : tie.Need-answered-requires
+answered-requires c κs = search needs
+
+same-length : tie.Need-same-length
+same-length c = search needs
+
+returns : tie.Need-returns
+returns c rows =
+    let q = c .before .before in
+    let s = q .before .before .before .before .before in
+    let e = net-too-large (now (s .args .calendar)) (bookOf (s .args .desk) rows) (tradesOf (now (s .args .table))) (s .pre .1 .1 .0) (s .pre .1 .0 .0) (s .pre .1 .1 .1) (net-tested q rows ∙ not-true _ (c .before .if1 .taken)) in
+    (rw (c .answered .ensures, e), rw e)
+
+redeem-due-requires : tie.Need-redeem-due-requires
+redeem-due-requires c κs =
+    let s = c .before .before .before .before .before .before .before in
+    fit-keeps (now (s .args .calendar)) (book s) (now (s .args .table)) (s .pre .0 .0 .fits) .room
+
+answered-requires-2 : tie.Need-answered-requires-2
+answered-requires-2 c κs = search needs
+
+same-length-2 : tie.Need-same-length-2
+same-length-2 c = search needs
+
+returns-2 : tie.Need-returns-2
+unfolding openedBook openedTable
+returns-2 c rows =
+    let r = c .before .before .before in
+    let q = r .before .before .before in
+    let s = q .before .before .before .before .before in
+    let calendar = now (s .args .calendar) in
+    let table = now (s .args .table) in
+    let ended = s .pre .1 .1 .1 in
+    let e = none-within-net calendar (bookOf (s .args .desk) rows) (tradesOf table) (s .pre .1 .1 .0) (s .pre .1 .0 .0) ended (net-tested q rows ∙ not-false _ (r .before .before .if1 .left)) in (
+      rw (c .answered2 .ensures, e, q .before .with-fallbacks .ensures rows, s .pre .1 .0 .1, ended),
+      r .redeem-due .ensures ∙ rw (e, ended, fit-in-use calendar (book s) table (s .pre .0 .0 .fits), all-due table (s .args .desk .trades)),
+    )
+
+pub terminated-spec : {M : Type 1} → statement M
+terminated-spec =
+    tie.close
+    (tie.spec
+    with-fallbacks-requires
+    cleared-fit-requires
+    answered-requires
+    same-length
+    returns
+    redeem-due-requires
+    answered-requires-2
+    same-length-2
+    returns-2)

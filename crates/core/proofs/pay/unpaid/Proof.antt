@@ -1,0 +1,17 @@
+use borrow.Author.Needs.{needs}
+use Rattle.rules.specs.Pay.{paidBook}
+use Rattle.core.proofs.pay.unpaid.Statement.{statement}
+use Rattle.core.proofs.pay.unpaid.Tie as tie
+
+failed-more-requires : tie.Need-failed-more-requires
+failed-more-requires c κs = search needs
+
+paid-standing-requires : tie.Need-paid-standing-requires
+paid-standing-requires c κs = search needs
+
+returns : tie.Need-returns
+unfolding paidBook
+returns c rows = rw (c .paid-standing .ensures, c .before .failed-more .ensures)
+
+pub unpaid-spec : {M : Type 1} → statement M
+unpaid-spec = tie.close (tie.spec failed-more-requires paid-standing-requires returns)

@@ -1,0 +1,23 @@
+use mathlib.Core.Path.{_∙_}
+use native.Mathlib.Omega.{arith}
+use borrow.Author.Needs.{needs}
+use Rattle.core.proofs.pledge.put_arrived.Statement.{statement}
+use Rattle.core.proofs.pledge.put_arrived.Tie as tie
+
+security-at-requires : tie.Need-security-at-requires
+security-at-requires c κs = search needs
+
+add-security : tie.Need-add-security
+add-security c = rw (c .before .security-at .ensures) (omega (arith, c .before .before .before .before .pre .2))
+
+put-security-requires : tie.Need-put-security-requires
+put-security-requires c κs = search needs
+
+same-length : tie.Need-same-length
+same-length c = search needs
+
+returns : tie.Need-returns
+returns c = c .before .before .put-security .ensures ∙ rw (c .before .before .before .before .before .security-at .ensures)
+
+pub put-arrived-spec : {M : Type 1} → statement M
+put-arrived-spec = tie.close (tie.spec security-at-requires add-security put-security-requires same-length returns)

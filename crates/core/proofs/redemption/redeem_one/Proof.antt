@@ -1,0 +1,37 @@
+use native.Mathlib.Omega.{arith}
+use borrow.Author.Needs.{needs}
+use Rattle.rules.proofs.TradeLaws.{maturing-le}
+use Rattle.core.specs.Flat.{tradeAt}
+use Rattle.core.proofs.redemption.redeem_one.Statement.{statement}
+use Rattle.core.proofs.redemption.redeem_one.Tie as tie
+
+sheets-at-requires : tie.Need-sheets-at-requires
+sheets-at-requires c κs = search needs
+
+maturing-at-requires : tie.Need-maturing-at-requires
+maturing-at-requires c κs = search needs
+
+sub-left : tie.Need-sub-left
+sub-left c =
+    let start = c .before .before .before .before .before in
+    omega (arith, c .maturing-at .ensures, c .before .before .sheets-at .ensures, maturing-le (start .args .by) (tradeAt (start .args .table .now) (start .args .place)))
+
+put-sheets-requires : tie.Need-put-sheets-requires
+put-sheets-requires c κs = search needs
+
+same-length : tie.Need-same-length
+same-length c = search needs
+
+returns : tie.Need-returns
+returns c = rw (c .before .before .before .before .maturing-at .ensures, c .before .before .before .before .before .before .sheets-at .ensures) at (c .before .before .put-sheets .ensures)
+
+pub redeem-one-spec : {M : Type 1} → statement M
+redeem-one-spec =
+    tie.close
+    (tie.spec
+    sheets-at-requires
+    maturing-at-requires
+    sub-left
+    put-sheets-requires
+    same-length
+    returns)

@@ -1,0 +1,111 @@
+use borrow.Author.Needs.{needs}
+use mathlib.Core.Path.{_≡_, ap, _∙_}
+use mathlib.Core.Bool.{true}
+use native.Mathlib.Omega.{arith}
+use lib.ListN.{length}
+use lib.Seq.{sets}
+use Rattle.rules.specs.Fit.{fit}
+use Rattle.rules.specs.Entry.{decoded}
+use Rattle.rules.specs.Step.{Outcome, step}
+use Rattle.rules.specs.Cover.{counted}
+use Rattle.rules.proofs.FitParts.{fit-parts}
+use Rattle.core.specs.Figures.{Figures}
+use Rattle.core.specs.Flat.{Rows, rowsOf, bookOf, appliedAt, tradesOf, appliedOf}
+use Rattle.core.proofs.CoverLaws.{headroom-size}
+use Rattle.core.proofs.FigureLaws.{moved-after, counted-from}
+use Rattle.core.proofs.LineLaws.{line-told}
+use Rattle.core.proofs.RunLaws.{fit-after}
+use Rattle.core.proofs.run.run_event.Statement.{statement}
+use Rattle.core.proofs.run.run_event.Tie as tie
+
+-- what the event leaves, and the rows and the table as the call left them
+module _ (c : tie.After-entry-on) where
+  abbrev start : tie.Start
+  start = c .before .before .before .before .before .before .before .before .before .before .before .before .before
+
+  abbrev left : Outcome
+  left = step (start .args .calendar .now) (bookOf (start .args .desk) (rowsOf (start .args .held .now) (start .args .kinds .now) (start .args .units .now))) (tradesOf (start .args .table .now)) (decoded (start .args .bytes .now))
+
+  abbrev rows : Rows
+  rows = rowsOf (c .entry-on .last .1 .1 .0) (c .entry-on .last .1 .1 .1 .0) (c .entry-on .last .1 .1 .1 .1 .0)
+
+  applied : appliedAt (c .entry-on .result) rows ≡ appliedOf left
+  applied = rw (c .before .before .before .before .before .decode .ensures) at (c .entry-on .ensures .0)
+
+  tabled : tradesOf (c .entry-on .last .1 .1 .1 .1 .1 .0) ≡ left .table
+  tabled = rw (c .before .before .before .before .before .decode .ensures) at (c .entry-on .ensures .1)
+
+  still-fit : fit (start .args .calendar .now) (bookOf (c .entry-on .result .desk) rows) (tradesOf (c .entry-on .last .1 .1 .1 .1 .1 .0)) ≡ true
+  still-fit = fit-after _ _ _ _ (start .pre .4) (appliedAt (c .entry-on .result) rows) _ (c .entry-on .ensures .0) (c .entry-on .ensures .1)
+
+  still-long : length (c .entry-on .last .1 .1 .0) ≡ 128
+  still-long = c .entry-on .kept .1 .1 .0 ∙ start .pre .0
+
+decode-requires : tie.Need-decode-requires
+decode-requires c κs = search needs
+
+entry-on-requires : tie.Need-entry-on-requires
+entry-on-requires c κs =
+    let s = c .before .before .before .before .before .before .before .before .before .before .before .before in
+    (s .pre .0, s .pre .1, s .pre .2, s .pre .3, s .pre .4, ap (λ (f : Figures). f .outstanding) (s .pre .5))
+
+figures-after-requires : tie.Need-figures-after-requires
+figures-after-requires c κs =
+    let called = c .before .before .before .before .before .before .before .before .before .before .before .before in (
+      still-long called,
+      record { kinds = called .entry-on .last .1 .1 .1 .0; units = called .entry-on .last .1 .1 .1 .1 .0; fits = still-fit called },
+      moved-after _ _ _ _ (start called .pre .4) _ (start called .pre .5) (appliedAt (called .entry-on .result) (rows called)) _ (called .entry-on .ensures .0) (called .entry-on .ensures .1),
+    )
+
+cover-from-requires : tie.Need-cover-from-requires
+cover-from-requires c κs =
+    let size = fit-parts _ _ _ (still-fit (c .before .before .before .before .before .before .before .before .before .before .before .before .before)) .size in
+    (size .within, rw (c .figures-after .ensures) (omega (arith, size .within, size .covers)))
+
+-- the cover of what is left
+covered : (c : tie.After-cover-from) → (let called = c .before .before .before .before .before .before .before .before .before .before .before .before .before .before in c .cover-from .result ≡ counted (bookOf (called .entry-on .result .desk) (rows called)) (tradesOf (called .entry-on .last .1 .1 .1 .1 .1 .0)))
+covered c = c .cover-from .ensures ∙ counted-from (bookOf (c .before .before .before .before .before .before .before .before .before .before .before .before .before .before .entry-on .result .desk) (rows (c .before .before .before .before .before .before .before .before .before .before .before .before .before .before))) _ _ (c .before .figures-after .ensures)
+
+write-line-requires : tie.Need-write-line-requires
+write-line-requires c κs =
+    let called = c .before .before .before .before .before .before .before .before .before .before .before .before .before .before .before in
+    (start called .pre .6, rw (covered (c .before)) (headroom-size _ _ _ (still-fit called)), omega (arith, fit-parts _ _ _ (still-fit called) .cash .sum))
+
+same-length : tie.Need-same-length
+same-length c = search needs
+
+same-length-2 : tie.Need-same-length-2
+same-length-2 c = search needs
+
+same-length-3 : tie.Need-same-length-3
+same-length-3 c = search needs
+
+same-length-4 : tie.Need-same-length-4
+same-length-4 c = search needs
+
+same-length-5 : tie.Need-same-length-5
+same-length-5 c = search needs
+
+returns : tie.Need-returns
+returns c =
+    let called = c .before .before .before .before .before .before .before .before .before .before .before .before .before .before .before .before .before .before in
+    let a = start called .args in
+    let e = applied called in
+    let t = tabled called in
+    (ap (λ x. x .book) e, t, c .before .before .write-line .ensures ∙ ap (λ line. sets (a .lines .now) (a .at) line) (line-told _ _ _ e t (covered (c .before .before .before .before))), c .before .before .before .before .before .figures-after .ensures)
+
+pub run-event-spec : {M : Type 1} → statement M
+run-event-spec =
+    tie.close
+    (tie.spec
+    decode-requires
+    entry-on-requires
+    figures-after-requires
+    cover-from-requires
+    write-line-requires
+    same-length
+    same-length-2
+    same-length-3
+    same-length-4
+    same-length-5
+    returns)

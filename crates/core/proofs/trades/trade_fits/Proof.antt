@@ -1,0 +1,52 @@
+use mathlib.Core.Bool.{cond, true, false, Bool}
+use mathlib.Core.Path.{_≡_, refl}
+use borrow.Author.Needs.{needs}
+use borrow.Author.Tests.{le-leb, lt-leb}
+use lib.Dec.{leb}
+use Rattle.money.specs.Limits.{tradeLimit}
+use Rattle.rules.specs.Folds.{every}
+use Rattle.core.specs.Flat.{tradeAt}
+use Rattle.core.proofs.trades.trade_fits.Statement.{statement}
+use Rattle.core.proofs.trades.trade_fits.Tie as tie
+
+few : (c : tie.Else1) → leb (tradeAt (c .before .before .before .args .table .now) (c .before .before .before .args .place) .sheets .0) tradeLimit ≡ true
+few c = le-leb _ _ (rw (c .before .sheets-at .ensures) at (c .if1 .left))
+
+-- a test that is the only one left
+only : (test : Bool) → test ≡ cond test true false
+only true = refl
+only false = refl
+
+sheets-at-requires : tie.Need-sheets-at-requires
+sheets-at-requires c κs = search needs
+
+returns : tie.Need-returns
+unfolding every
+returns c = rw (lt-leb _ _ (rw (c .before .sheets-at .ensures) at (c .if1 .taken)))
+
+price-at-requires : tie.Need-price-at-requires
+price-at-requires c κs = search needs
+
+returns-2 : tie.Need-returns-2
+unfolding every
+returns-2 c = rw (few (c .before .before .before), lt-leb _ _ (rw (c .before .before .price-at .ensures) at (c .if2 .taken)))
+
+fallback-at-requires : tie.Need-fallback-at-requires
+fallback-at-requires c κs = search needs
+
+returns-3 : tie.Need-returns-3
+unfolding every
+returns-3 c =
+    let cheap = rw (c .before .before .before .before .price-at .ensures) at (c .before .before .if2 .left) in
+    rw (few (c .before .before .before .before .before), le-leb _ _ cheap, c .before .fallback-at .ensures) (only _)
+
+pub trade-fits-spec : {M : Type 1} → statement M
+trade-fits-spec =
+    tie.close
+    (tie.spec
+    sheets-at-requires
+    returns
+    price-at-requires
+    returns-2
+    fallback-at-requires
+    returns-3)

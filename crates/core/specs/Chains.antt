@@ -1,0 +1,38 @@
+-- Chains of trades whose contracts fall into the same bucket: for private contracts. It states no rule.
+-- Assumes nothing.
+use Prim.Native.Nat.{ℕ, zero, suc, _%_, _≤_, _<_}
+use mathlib.Core.Path.{_≡_}
+use mathlib.Core.Logic.{_⊎_}
+use mathlib.Core.Bool.{true, false}
+use mathlib.Core.List.{List}
+use lib.ListN.{getD}
+use Rattle.rules.specs.Trades.{same, differ}
+use Rattle.core.specs.Types.{Contract}
+use Rattle.core.specs.Flat.{tradeAt, tradesTo}
+pub use Rattle.core.specs.declared.chains.Told.{Told}
+pub use Rattle.core.specs.declared.chains.Told.the-variants.{Differs, Repeats, Nothing}
+
+abbrev pub bucketOf : Contract → ℕ
+bucketOf contract = contract .0 % 8191
+
+-- a place is reached from a link, one more than a place or 0 at the end, in so many steps
+unfoldable pub Reaches : (next : List ℕ) → (steps link place : ℕ) → Type 0
+Reaches next zero link place = ⊥
+Reaches next (suc steps) zero place = ⊥
+Reaches next (suc steps) (suc at) place = (at ≡ place) ⊎ Reaches next steps (getD next at 0) place
+
+-- links lead to earlier places
+abbrev pub Falls : (next : List ℕ) → (below : ℕ) → Type 0
+Falls next below = (at : ℕ) → at < below → getD next at 0 ≤ at
+
+-- what a look along a chain tells of a contract
+abbrev pub Tells : (table next : List ℕ) → (link : ℕ) → Contract → Told → Type 0
+Tells table next link contract Differs = (steps place : ℕ) → Reaches next steps link place → same (tradeAt table place .contract) contract ≡ false
+Tells table next link contract Repeats = (place : ℕ) × (place < link) × (same (tradeAt table place .contract) contract ≡ true)
+Tells table next link contract Nothing = Unit {0}
+
+-- and all chains of the first trades
+abbrev pub TellsAll : (table : List ℕ) → (count : ℕ) → Told → Type 0
+TellsAll table count Differs = differ (tradesTo table count) ≡ true
+TellsAll table count Repeats = differ (tradesTo table count) ≡ false
+TellsAll table count Nothing = Unit {0}

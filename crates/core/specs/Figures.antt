@@ -1,0 +1,56 @@
+-- O and V together, what an event tells of how it moves them, and what one walk gathers: for private contracts. It states no rule.
+-- Assumes nothing.
+use Prim.Native.Nat.{ℕ, _+_, max}
+use mathlib.Core.Bool.{true, false, cond}
+use mathlib.Core.Path.{_≡_}
+use mathlib.Core.List.{List, [], _∷_}
+use Rattle.rules.specs.Trades.{inUse, outstanding}
+use Rattle.rules.specs.Vault.{value, outstandingOf}
+use Rattle.rules.specs.Fit.{tradeFit, allTrades}
+use Rattle.core.specs.Types.{Trade, Book, Event, Open, FundIn, FundOut, Size, Rate, Pledge, Freeze, Withdraw, Initial, Early, Pay, Close, Entry, Known, Undecodable}
+use Rattle.core.specs.Flat.{vaultOf, securitiesOf}
+use Rattle.core.specs.declared.desk.Desk.{Desk}
+pub use Rattle.core.specs.declared.figures.Figures.{Figures}
+pub use Rattle.core.specs.declared.trades.Gathered.{Gathered}
+
+-- of a book over its table
+abbrev pub figuresOf : Book → List Trade → Figures
+figuresOf book table = record { outstanding = outstandingOf book table; value = value (book .vault) }
+
+-- O of a desk, and both of a desk with its row of securities
+abbrev pub outstandingAt : Desk → List Trade → ℕ
+outstandingAt desk table = outstanding (inUse (desk .trades) table)
+
+abbrev pub figuresAt : Desk → (held : List ℕ) → List Trade → Figures
+figuresAt desk held table = record { outstanding = outstandingAt desk table; value = value (vaultOf (desk .guarantee) (securitiesOf held)) }
+
+-- what is known of them after an event that is done
+abbrev pub Moved : Event → (before after : Figures) → Type 0
+Moved Open before after = after .value ≡ before .value
+Moved (FundIn account amount) before after = after ≡ before
+Moved (FundOut account amount) before after = after ≡ before
+Moved (Size size) before after = after ≡ before
+Moved (Rate kind rate) before after = after .outstanding ≡ before .outstanding
+Moved (Pledge kind units) before after = after .outstanding ≡ before .outstanding
+Moved (Freeze kind units) before after = after .outstanding ≡ before .outstanding
+Moved (Withdraw kind units) before after = after ≡ before
+Moved (Initial terms) before after = (after .outstanding ≡ before .outstanding + terms .sheets .0) × (after .value ≡ before .value)
+Moved (Early contract count price) before after = (before .outstanding ≡ after .outstanding + count .0) × (after .value ≡ before .value)
+Moved Pay before after = after ≡ before
+Moved Close before after = Unit {0}
+
+-- after any entry, by its number
+abbrev pub MovedBy : Entry → (number : ℕ) → (before after : Figures) → Type 0
+MovedBy (Known event) number before after = ((number ≡ 0 → ⊥) → after ≡ before) × (number ≡ 0 → Moved event before after)
+MovedBy Undecodable number before after = after ≡ before
+
+-- ---- what one walk over trades gathers
+
+unfoldable pub latestFirst : List Trade → ℕ
+latestFirst [] = 0
+latestFirst (trade ∷ trades) = max (trade .first) (latestFirst trades)
+
+abbrev pub gatheredOf : List Trade → Gathered
+gatheredOf trades =
+    cond (allTrades tradeFit trades) (record { fit = true; outstanding = outstanding trades; latest = latestFirst trades })
+    (record { fit = false; outstanding = 0; latest = 0 })

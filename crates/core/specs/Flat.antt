@@ -1,0 +1,171 @@
+-- How the core lays out its table, four numbers a trade, and its book, a desk and rows: what private contracts read them by. No rule of document 01 stands here.
+-- Assumes nothing.
+use Prim.Native.Nat.{ℕ, zero, suc, _+_, _*_, _/_, _%_, _≤_}
+use mathlib.Core.Path.{_≡_}
+use mathlib.Core.Bool.{true, cond}
+use mathlib.Core.List.{List, [], _∷_, _++_, map}
+use mathlib.Core.Option.{Option, none, some}
+use lib.Dec.{leb}
+use lib.ListN.{length, getD}
+use Rattle.money.specs.Limits.{termLimit}
+use Rattle.money.specs.Units.{sheets, ticks}
+use Rattle.money.specs.Days.{Calendar}
+use Rattle.rules.specs.Limits.{capacityLimit}
+use Rattle.rules.specs.Book.{answer}
+use Rattle.rules.specs.Pay.{fails, paidBook, payNumber}
+use Rattle.rules.specs.Close.{Evening, closeAnswer, closedBook}
+use Rattle.rules.specs.Step.{Outcome}
+use Rattle.rules.specs.Trades.{same}
+use Rattle.rules.specs.Fit.{tradeFit, allTrades, fit}
+use Rattle.core.specs.Types.{Security, Guarantee, Vault, Book, Applied, Contract, Trade}
+use Rattle.core.specs.declared.desk.Desk.{Desk}
+use Rattle.core.specs.declared.desk.Done.{Done}
+use Rattle.core.specs.declared.evening.Evened.{Evened}
+
+-- a number of the trade at a place
+abbrev pub word : List ℕ → (place field : ℕ) → ℕ
+word table place field = getD table (place * 4 + field) 0
+
+-- prices and days have 32 bits, two to a number
+abbrev pub lower : ℕ → ℕ
+lower number = number % 4294967296
+
+abbrev pub upper : ℕ → ℕ
+upper number = number / 4294967296 % 4294967296
+
+unfoldable pub tradeAt : List ℕ → ℕ → Trade
+tradeAt table place = record {
+  contract = record { 0 = getD table (place * 4) 0 };
+  sheets = sheets (word table place 1);
+  price = ticks (lower (word table place 2));
+  fallback = ticks (upper (word table place 2));
+  first = lower (word table place 3);
+  due = upper (word table place 3);
+}
+
+-- the first trades of the table, and all of them
+unfoldable pub tradesTo : List ℕ → ℕ → List Trade
+tradesTo table zero = []
+tradesTo table (suc count) = tradesTo table count ++ (tradeAt table count ∷ [])
+
+abbrev pub capacity : List ℕ → ℕ
+capacity table = length table / 4
+
+abbrev pub tradesOf : List ℕ → List Trade
+tradesOf table = tradesTo table (capacity table)
+
+-- ---- the rows beside the desk: the securities, four numbers each, and the applications
+
+unfoldable pub securityIn : List ℕ → ℕ → Security
+securityIn held kind = record {
+  effective = getD held (kind * 4) 0;
+  arriving = getD held (kind * 4 + 1) 0;
+  frozen = getD held (kind * 4 + 2) 0;
+  rate = getD held (kind * 4 + 3) 0;
+}
+
+unfoldable pub securitiesTo : List ℕ → ℕ → List Security
+securitiesTo held zero = []
+securitiesTo held (suc count) = securitiesTo held count ++ (securityIn held count ∷ [])
+
+abbrev pub securitiesOf : List ℕ → List Security
+securitiesOf held = securitiesTo held 32
+
+pub record Rows : Type 0 where
+  pub securities : List Security
+  pub kinds : List ℕ
+  pub units : List ℕ
+
+abbrev pub rowsOf : (held kinds units : List ℕ) → Rows
+rowsOf held kinds units = record { securities = securitiesOf held; kinds = kinds; units = units }
+
+abbrev pub vaultOf : Guarantee → List Security → Vault
+vaultOf guarantee securities = record { guarantee = guarantee; securities = securities }
+
+-- the book that a desk and rows are, and the desk of a book
+abbrev pub bookOf : Desk → Rows → Book
+bookOf desk rows = record {
+  nets = desk .nets;
+  cash = desk .cash;
+  vault = vaultOf (desk .guarantee) (rows .securities);
+  size = desk .size;
+  standing = desk .standing;
+  withdrawals = record { kinds = rows .kinds; units = rows .units; count = desk .applications };
+  trades = desk .trades;
+}
+
+abbrev pub deskOf : Book → Desk
+deskOf book = record {
+  nets = book .nets;
+  cash = book .cash;
+  guarantee = book .vault .guarantee;
+  size = book .size;
+  standing = book .standing;
+  applications = book .withdrawals .count;
+  trades = book .trades;
+}
+
+-- what an event leaves, and the evening, with their rows
+abbrev pub appliedAt : Done → Rows → Applied
+appliedAt done rows = record { answer = done .answer; book = bookOf (done .desk) rows }
+
+abbrev pub eveningAt : Evened → List Security → Evening
+eveningAt evened securities = record { own = evened .own; vault = vaultOf (evened .guarantee) securities; done = evened .done; dropped = evened .dropped }
+
+-- what the core may rely on where it does not have the rows: some rows make the desk a fit book
+pub record Fits (calendar : Calendar) (desk : Desk) (table : List Trade) : Type 0 where
+  pub rows : Rows
+  pub fits : fit calendar (bookOf desk rows) table ≡ true
+
+pub record FitsHeld (calendar : Calendar) (desk : Desk) (held : List ℕ) (table : List Trade) : Type 0 where
+  pub kinds : List ℕ
+  pub units : List ℕ
+  pub fits : fit calendar (bookOf desk (rowsOf held kinds units)) table ≡ true
+
+-- where a contract's trade stands, or how many trades there are
+unfoldable pub placeOf : Contract → List Trade → ℕ
+placeOf contract [] = 0
+placeOf contract (trade ∷ trades) = cond (same (trade .contract) contract) 0 (suc (placeOf contract trades))
+
+-- the contracts of trades, by their numbers
+abbrev pub contractNumbers : List Trade → List ℕ
+contractNumbers trades = map (λ trade. trade .contract .0) trades
+
+-- ---- what the core may rely on
+
+-- the trades in use stand in the table, within their limits
+pub record Kept (table : List ℕ) (count : ℕ) : Type 0 where
+  pub room : count * 4 ≤ length table
+  pub few : count ≤ capacityLimit
+  pub within : allTrades tradeFit (tradesTo table count) ≡ true
+
+-- and can be redeemed on a day that is paid on `payment`
+pub record Redeemable (table : List ℕ) (count payment : ℕ) : Type 0 where
+  pub kept : Kept table count
+  pub begun : allTrades (λ trade. leb (trade .first) payment) (tradesTo table count) ≡ true
+  pub term : payment ≤ termLimit
+
+-- ---- what an event that leaves the table gives back
+
+abbrev pub appliedBy : Option ℕ → (before after : Book) → Applied
+appliedBy none before after = record { answer = answer 0; book = after }
+appliedBy (some number) before after = record { answer = answer number; book = before }
+
+-- the table of an event that may change it
+abbrev pub tableBy : Option ℕ → (before after : List Trade) → List Trade
+tableBy none before after = after
+tableBy (some number) before after = before
+
+-- Pay answers 99 where it fails, and then changes the book too
+abbrev pub paidBy : Option ℕ → Book → Applied
+paidBy none before = record { answer = answer (payNumber (fails before)); book = paidBook (fails before) before }
+paidBy (some number) before = record { answer = answer number; book = before }
+
+-- Close carries its figures in the answer
+abbrev pub closedBy : Option ℕ → Calendar → Book → List Trade → Applied
+closedBy none calendar before table = record { answer = closeAnswer before table; book = closedBook calendar before table }
+closedBy (some number) calendar before table = record { answer = answer number; book = before }
+
+-- what a step gives back beside the table
+abbrev pub appliedOf : Outcome → Applied
+appliedOf outcome = record { answer = outcome .answer; book = outcome .book }

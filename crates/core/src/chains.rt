@@ -1,0 +1,66 @@
+// Whether contracts differ, by chains: each trade is linked to the last one before it whose contract falls into the same bucket, so that
+// a contract is compared with few others. A chain that gets long tells nothing, and the contracts are sorted instead.
+ghost use mathlib.Core.Path.{_≡_};
+ghost use Prim.Native.Nat.{_+_, _*_, _≤_, _<_};
+ghost use lib.ListN.{length, replicate};
+ghost use Rattle.rules.specs.Trades.{differ};
+ghost use Rattle.core.specs.Flat.{tradesTo};
+ghost use Rattle.core.specs.Chains.{bucketOf, Falls, Tells, TellsAll};
+use crate::flat;
+use rules::trade::Contract;
+
+// What is known of a contract, or of all of them: that it is not there before, that it is, or nothing.
+pub enum Told {
+    Differs,
+    Repeats,
+    Nothing,
+}
+
+fn bucket_of(contract: Contract) -> usize
+    ensures { λ r. ⌜ r ≡ bucketOf contract ⌝ }
+{
+    (contract.0 % 8_191) as usize
+}
+
+// A contract looked for along a chain, over 64 trades at most. A link is one more than a place, and 0 at the end.
+fn look_along(table: &[u64], next: &[u16], from: usize, contract: Contract) -> Told
+    requires { ⌜ (from * 4 ≤ length (now table)) × (from ≤ length (now next)) × (Falls (now next) from) ⌝ }
+    ensures { λ r. ⌜ Tells (now (table .entry)) (now (next .entry)) from contract r ⌝ }
+{
+    let mut link = from;
+    let mut steps: usize = 0;
+    while link != 0 {
+        if steps >= 64 {
+            return Told::Nothing;
+        }
+        let place = link - 1;
+        if flat::same_contract(flat::contract_at(table, place), contract) {
+            return Told::Repeats;
+        }
+        link = next[place] as usize;
+        steps += 1;
+    }
+    Told::Differs
+}
+
+// The trades linked one after the other, each looked for along the chain of its bucket.
+pub fn linked_differ(table: &[u64], count: usize, heads: &mut [u16], next: &mut [u16]) -> Told
+    requires { ⌜ (count * 4 ≤ length (now table)) × (count ≤ 4096) × (now heads ≡ replicate 8191 0) × (count ≤ length (now next)) ⌝ }
+    ensures { λ r. ⌜ TellsAll (now (table .entry)) count r ⌝ }
+{
+    let mut i = 0;
+    while i < count {
+        let contract = flat::contract_at(table, i);
+        let bucket = bucket_of(contract);
+        let first = heads[bucket];
+        match look_along(table, &*next, first as usize, contract) {
+            Told::Differs => {}
+            Told::Repeats => return Told::Repeats,
+            Told::Nothing => return Told::Nothing,
+        }
+        next[i] = first;
+        heads[bucket] = (i + 1) as u16;
+        i += 1;
+    }
+    Told::Differs
+}

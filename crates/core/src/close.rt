@@ -1,0 +1,226 @@
+// 12 Close: maturity, the nets, the evening's applications, the table and the short run.
+ghost use mathlib.Core.Path.{_≡_};
+ghost use mathlib.Core.Bool.{true};
+ghost use Prim.Native.Nat.{_≤_};
+ghost use mathlib.Core.List.{List};
+ghost use mathlib.Core.Option.{none};
+ghost use lib.IntN.{pos};
+ghost use lib.ListN.{length};
+ghost use Rattle.money.specs.Causes.{firstOf};
+ghost use Rattle.money.specs.Days.{Calendar};
+ghost use Rattle.rules.specs.Fit.{securitiesFit, cashFit, withdrawalsFit, fit};
+ghost use Rattle.rules.specs.Book.{noApplications};
+ghost use Rattle.rules.specs.Close.{mayClose, maturedTrades, maturedSheets, clearedAtClose, served, evening as eveningOf, shortMore, shortAtClose, closedStanding, closeCauses, closedBook, closedTable};
+ghost use Rattle.rules.specs.Trades.{outstanding, remaining};
+ghost use Rattle.core.specs.Types.{Trade};
+ghost use Rattle.core.specs.Flat.{Rows, vaultOf, securitiesOf, rowsOf, bookOf, eveningAt, appliedAt, tradesOf, closedBy, tableBy, Kept};
+use crate::days;
+use crate::desk;
+use crate::desk::Desk;
+use crate::desk::Done;
+use crate::evening;
+use crate::evening::Evened;
+use crate::nets;
+use crate::packing;
+use crate::redemption;
+use crate::standing;
+use crate::trades;
+use crate::vault;
+use money::units::Fen;
+use money::units::Sheets;
+use rules::answer::Answer;
+use rules::book::Cash;
+use rules::book::Nets;
+use rules::book::Phase;
+use rules::book::ShortRun;
+use rules::book::Standing;
+
+fn may_close(standing: Standing) -> bool
+    ensures { λ r. ⌜ r ≡ mayClose standing ⌝ }
+{
+    if standing::is_paid(standing) {
+        return true;
+    }
+    if !standing::is_trading(standing) {
+        return false;
+    }
+    standing::is_terminated(standing)
+}
+
+fn is_served(standing: Standing) -> bool
+    ensures { λ r. ⌜ r ≡ served standing ⌝ }
+{
+    if !standing::is_paid(standing) {
+        return false;
+    }
+    !standing::has_failed(standing)
+}
+
+fn longer(short: ShortRun) -> ShortRun
+    ensures { λ r. ⌜ r ≡ shortMore short ⌝ }
+{
+    match short {
+        ShortRun::NotShort => ShortRun::ShortOnce,
+        ShortRun::ShortOnce => ShortRun::ShortTwice,
+        ShortRun::ShortTwice => ShortRun::ShortThrice,
+        ShortRun::ShortThrice => ShortRun::ShortThrice,
+    }
+}
+
+fn short_at_close(is_short: bool, short: ShortRun) -> ShortRun
+    ensures { λ r. ⌜ r ≡ shortAtClose «is_short» short ⌝ }
+{
+    if is_short {
+        return longer(short);
+    }
+    ShortRun::NotShort
+}
+
+fn closed_standing(short: ShortRun, standing: Standing) -> Standing
+    ensures { λ r. ⌜ r ≡ closedStanding short standing ⌝ }
+{
+    let day = standing.day;
+    let status = standing.status;
+    let failed = standing.failed;
+    Standing {
+        day,
+        phase: Phase::Closed,
+        status,
+        failed,
+        short,
+    }
+}
+
+// The list of applications empties to zeros.
+fn clear(kinds: &mut [u8], units: &mut [u64])
+    requires { ⌜ (length (now kinds) ≡ 128) × (length (now units) ≡ 128) ⌝ }
+    ensures { λ _. ⌜ (now (kinds .exit) ≡ noApplications .kinds) × (now (units .exit) ≡ noApplications .units) ⌝ }
+{
+    let mut i = 0;
+    while i < 128 {
+        kinds[i] = 0;
+        units[i] = 0;
+        i += 1;
+    }
+}
+
+// The evening's end, with the sheets that are left after maturity.
+fn evening_end(desk: Desk, held: &mut [u64], kinds: &[u8], units: &[u64], left: u64) -> Evened
+    requires { ⌜ (length (now held) ≡ 128) × (length (now kinds) ≡ 128) × (length (now units) ≡ 128) ⌝ }
+    requires { ⌜ (withdrawalsFit (bookOf desk (rowsOf (now held) (now kinds) (now units)) .withdrawals) ≡ true) × (securitiesFit (bookOf desk (rowsOf (now held) (now kinds) (now units)) .vault) ≡ true) × (cashFit (desk .cash) (desk .guarantee) ≡ true) ⌝ }
+    ensures { λ r. ⌜ ((table : List Trade) → left ≡ outstanding (maturedTrades (bookOf desk (rowsOf (now (held .entry)) (now (kinds .entry)) (now (units .entry)))) table) → eveningAt r (securitiesOf (now (held .exit))) ≡ eveningOf (bookOf desk (rowsOf (now (held .entry)) (now (kinds .entry)) (now (units .entry)))) table) ⌝ }
+{
+    let standing = desk.standing;
+    let guarantee = desk.guarantee;
+    evening::all_arrived(held, guarantee);
+    let begun = Evened {
+        own: Fen(desk.cash.own.0),
+        guarantee: evening::guarantee_arrived(guarantee),
+        done: 0,
+        dropped: 0,
+    };
+    evening::applications(
+        is_served(standing),
+        left,
+        kinds,
+        units,
+        desk.applications,
+        held,
+        begun,
+    )
+}
+
+// The desk after the evening: `cleared` has the nets, `kept` the trades that stay.
+fn closed_desk(
+    desk: Desk,
+    held: &[u64],
+    cleared: Nets,
+    evened: Evened,
+    left: u64,
+    kept: usize,
+) -> Desk
+    requires { ⌜ (length (now held) ≡ 128) × (securitiesFit (vaultOf (evened .guarantee) (securitiesOf (now held))) ≡ true) × (evened .guarantee .frozen .0 ≤ evened .guarantee .effective .0) × (evened .guarantee .effective .0 ≤ 10000000000000000) ⌝ }
+    ensures { λ r. ⌜ ((calendar : Calendar) (rows : Rows) (table : List Trade) → cleared ≡ record { today = pos 0; cleared = clearedAtClose calendar (bookOf desk rows) table } → eveningAt evened (securitiesOf (now (held .entry))) ≡ eveningOf (bookOf desk rows) table → left ≡ outstanding (maturedTrades (bookOf desk rows) table) → kept ≡ length (remaining (maturedTrades (bookOf desk rows) table)) → bookOf r (rowsOf (now (held .entry)) (noApplications .kinds) (noApplications .units)) ≡ closedBook calendar (bookOf desk rows) table) ⌝ }
+{
+    let standing = desk.standing;
+    let short = standing.short;
+    let guarantee = evened.guarantee;
+    let is_short = evening::is_short(desk.size.0, vault::value_of(held, guarantee), left);
+    let cash = Cash {
+        own: Fen(evened.own.0),
+        client: Fen(desk.cash.client.0),
+    };
+    let mut next = desk;
+    next.nets = cleared;
+    next.cash = cash;
+    next.guarantee = guarantee;
+    next.standing = closed_standing(short_at_close(is_short, short), standing);
+    next.applications = 0;
+    next.trades = kept;
+    next
+}
+
+// What Close does, once nothing refuses it. O is what is left after maturity, before the table is packed.
+fn closed(
+    desk: Desk,
+    held: &mut [u64],
+    kinds: &mut [u8],
+    units: &mut [u64],
+    table: &mut [u64],
+    matured: u64,
+    cleared: Nets,
+) -> Done
+    requires { ⌜ (length (now held) ≡ 128) × (length (now kinds) ≡ 128) × (length (now units) ≡ 128) × (Kept (now table) (desk .trades)) ⌝ }
+    requires { ⌜ (withdrawalsFit (bookOf desk (rowsOf (now held) (now kinds) (now units)) .withdrawals) ≡ true) × (securitiesFit (bookOf desk (rowsOf (now held) (now kinds) (now units)) .vault) ≡ true) × (cashFit (desk .cash) (desk .guarantee) ≡ true) ⌝ }
+    ensures { λ r. ⌜ ((calendar : Calendar) → matured ≡ maturedSheets (bookOf desk (rowsOf (now (held .entry)) (now (kinds .entry)) (now (units .entry)))) (tradesOf (now (table .entry))) → cleared ≡ record { today = pos 0; cleared = clearedAtClose calendar (bookOf desk (rowsOf (now (held .entry)) (now (kinds .entry)) (now (units .entry)))) (tradesOf (now (table .entry))) } → appliedAt r (rowsOf (now (held .exit)) (now (kinds .exit)) (now (units .exit))) ≡ closedBy none calendar (bookOf desk (rowsOf (now (held .entry)) (now (kinds .entry)) (now (units .entry)))) (tradesOf (now (table .entry)))) × (tradesOf (now (table .exit)) ≡ closedTable (bookOf desk (rowsOf (now (held .entry)) (now (kinds .entry)) (now (units .entry)))) (tradesOf (now (table .entry)))) ⌝ }
+{
+    let standing = desk.standing;
+    let day = standing.day;
+    let count = desk.trades;
+    redemption::redeem_due(table, count, days::day_number(day));
+    let left = trades::outstanding_of(&*table, count);
+    let kept = packing::pack(table, count);
+    let evened = evening_end(desk, held, &*kinds, &*units, left);
+    clear(kinds, units);
+    let next = closed_desk(desk, &*held, cleared, evened, left, kept);
+    Done {
+        answer: Answer {
+            number: 0,
+            matured: Sheets(matured),
+            done: evened.done,
+            dropped: evened.dropped,
+        },
+        desk: next,
+    }
+}
+
+// All that can refuse it is decided on a plan, before anything is written.
+pub fn close(
+    calendar: &[u32],
+    desk: Desk,
+    held: &mut [u64],
+    kinds: &mut [u8],
+    units: &mut [u64],
+    table: &mut [u64],
+) -> Done
+    requires { ⌜ (length (now held) ≡ 128) × (length (now kinds) ≡ 128) × (length (now units) ≡ 128) × (length (now calendar) ≤ 1200) × (fit (now calendar) (bookOf desk (rowsOf (now held) (now kinds) (now units))) (tradesOf (now table)) ≡ true) ⌝ }
+    ensures { λ r. ⌜ (appliedAt r (rowsOf (now (held .exit)) (now (kinds .exit)) (now (units .exit))) ≡ closedBy (firstOf (closeCauses (now (calendar .entry)) (bookOf desk (rowsOf (now (held .entry)) (now (kinds .entry)) (now (units .entry)))) (tradesOf (now (table .entry))))) (now (calendar .entry)) (bookOf desk (rowsOf (now (held .entry)) (now (kinds .entry)) (now (units .entry)))) (tradesOf (now (table .entry)))) × (tradesOf (now (table .exit)) ≡ tableBy (firstOf (closeCauses (now (calendar .entry)) (bookOf desk (rowsOf (now (held .entry)) (now (kinds .entry)) (now (units .entry)))) (tradesOf (now (table .entry))))) (tradesOf (now (table .entry))) (closedTable (bookOf desk (rowsOf (now (held .entry)) (now (kinds .entry)) (now (units .entry)))) (tradesOf (now (table .entry))))) ⌝ }
+{
+    let standing = desk.standing;
+    if !may_close(standing) {
+        return desk::answered(4, desk);
+    }
+    let day = standing.day;
+    let count = desk.trades;
+    let payment = days::payment_day(calendar, day);
+    let plan = redemption::maturity_plan(&*table, count, days::day_number(day), payment);
+    let with_matured = nets::today_plus(desk.nets, plan.amount);
+    if !nets::today_fit(with_matured) {
+        return desk::answered(14, desk);
+    }
+    let cleared = nets::joined(with_matured);
+    if !nets::cleared_fit(cleared) {
+        return desk::answered(14, desk);
+    }
+    closed(desk, held, kinds, units, table, plan.sheets, cleared)
+}

@@ -1,0 +1,49 @@
+// Headroom and O of a book.
+ghost use mathlib.Core.Path.{_≡_};
+ghost use Prim.Native.Nat.{_≤_, min};
+ghost use Rattle.money.specs.Units.{sheets};
+ghost use Rattle.rules.specs.Vault.{headroomOf};
+ghost use Rattle.rules.specs.Cover.{uncounted};
+use crate::figures::Figures;
+use crate::nets;
+use money::units::Sheets;
+use rules::answer::Cover;
+
+fn smaller(a: u64, b: u64) -> u64
+    ensures { λ r. ⌜ r ≡ min a b ⌝ }
+{
+    if a < b {
+        return a;
+    }
+    b
+}
+
+// The smaller of S and V, less O.
+fn headroom_from(size: u64, value: u64, outstanding: u64) -> i64
+    requires { ⌜ (size ≤ 10000000000) × (outstanding ≤ 10000000000) ⌝ }
+    ensures { λ r. ⌜ r ≡ headroomOf size value outstanding ⌝ }
+{
+    nets::difference(smaller(size, value), outstanding)
+}
+
+// From O and V.
+pub fn cover_from(size: u64, figures: Figures) -> Cover
+    requires { ⌜ (size ≤ 10000000000) × (figures .outstanding ≤ 10000000000) ⌝ }
+    ensures { λ r. ⌜ r ≡ record { number = 0; headroom = headroomOf size (figures .value) (figures .outstanding); outstanding = sheets (figures .outstanding) } ⌝ }
+{
+    Cover {
+        number: 0,
+        headroom: headroom_from(size, figures.value, figures.outstanding),
+        outstanding: Sheets(figures.outstanding),
+    }
+}
+
+pub fn refused() -> Cover
+    ensures { λ r. ⌜ r ≡ uncounted ⌝ }
+{
+    Cover {
+        number: 1,
+        headroom: 0,
+        outstanding: Sheets(0),
+    }
+}

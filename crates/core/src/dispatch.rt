@@ -1,0 +1,106 @@
+// The twelve events on a book: which function each is, and when none is asked.
+ghost use mathlib.Core.Path.{_≡_};
+ghost use mathlib.Core.Bool.{true};
+ghost use Prim.Native.Nat.{_≤_};
+ghost use lib.ListN.{length};
+ghost use Rattle.rules.specs.Fit.{fit};
+ghost use Rattle.rules.specs.Step.{step};
+ghost use Rattle.core.specs.Types.{Known};
+ghost use Rattle.core.specs.Flat.{rowsOf, bookOf, appliedAt, tradesOf, appliedOf};
+ghost use Rattle.core.specs.Figures.{outstandingAt};
+use crate::close;
+use crate::desk;
+use crate::desk::Desk;
+use crate::desk::Done;
+use crate::early;
+use crate::freeze;
+use crate::funds;
+use crate::initial;
+use crate::open;
+use crate::pay;
+use crate::pledge;
+use crate::rate;
+use crate::size;
+use crate::withdraw;
+use rules::event::Entry;
+use rules::event::Event;
+
+// One event on a fit book, under a calendar of at most 1,200 words; O comes with it.
+fn event_on(
+    calendar: &[u32],
+    desk: Desk,
+    held: &mut [u64],
+    kinds: &mut [u8],
+    units: &mut [u64],
+    table: &mut [u64],
+    outstanding: u64,
+    event: Event,
+) -> Done
+    requires { ⌜ (length (now held) ≡ 128) × (length (now kinds) ≡ 128) × (length (now units) ≡ 128) × (length (now calendar) ≤ 1200) × (fit (now calendar) (bookOf desk (rowsOf (now held) (now kinds) (now units))) (tradesOf (now table)) ≡ true) × (outstanding ≡ outstandingAt desk (tradesOf (now table))) ⌝ }
+    ensures { λ r. ⌜ (appliedAt r (rowsOf (now (held .exit)) (now (kinds .exit)) (now (units .exit))) ≡ appliedOf (step (now (calendar .entry)) (bookOf desk (rowsOf (now (held .entry)) (now (kinds .entry)) (now (units .entry)))) (tradesOf (now (table .entry))) (Known event))) × (tradesOf (now (table .exit)) ≡ step (now (calendar .entry)) (bookOf desk (rowsOf (now (held .entry)) (now (kinds .entry)) (now (units .entry)))) (tradesOf (now (table .entry))) (Known event) .table) ⌝ }
+{
+    match event {
+        Event::Open => open::open(calendar, desk, table),
+        Event::FundIn(account, amount) => funds::fund_in(desk, account, amount),
+        Event::FundOut(account, amount) => funds::fund_out(desk, account, amount),
+        Event::Size(sheets) => size::set_size(desk, outstanding, sheets),
+        Event::Rate(kind, rate) => rate::set_rate(desk, held, kind, rate),
+        Event::Pledge(kind, amount) => pledge::pledge(desk, held, kind, amount),
+        Event::Freeze(kind, amount) => freeze::freeze(desk, held, kind, amount),
+        Event::Withdraw(kind, amount) => withdraw::withdraw(
+            desk,
+            &*held,
+            kinds,
+            units,
+            kind,
+            amount,
+        ),
+        Event::Initial(terms) => initial::initial(
+            calendar,
+            desk,
+            &*held,
+            table,
+            outstanding,
+            terms,
+        ),
+        Event::Early(contract, count, price) => early::early(
+            calendar,
+            desk,
+            table,
+            contract,
+            count,
+            price,
+        ),
+        Event::Pay => pay::pay(desk),
+        Event::Close => close::close(calendar, desk, held, kinds, units, table),
+    }
+}
+
+// One entry on a fit book.
+pub fn entry_on(
+    calendar: &[u32],
+    desk: Desk,
+    held: &mut [u64],
+    kinds: &mut [u8],
+    units: &mut [u64],
+    table: &mut [u64],
+    outstanding: u64,
+    entry: Entry,
+) -> Done
+    requires { ⌜ (length (now held) ≡ 128) × (length (now kinds) ≡ 128) × (length (now units) ≡ 128) × (length (now calendar) ≤ 1200) × (fit (now calendar) (bookOf desk (rowsOf (now held) (now kinds) (now units))) (tradesOf (now table)) ≡ true) × (outstanding ≡ outstandingAt desk (tradesOf (now table))) ⌝ }
+    ensures { λ r. ⌜ (appliedAt r (rowsOf (now (held .exit)) (now (kinds .exit)) (now (units .exit))) ≡ appliedOf (step (now (calendar .entry)) (bookOf desk (rowsOf (now (held .entry)) (now (kinds .entry)) (now (units .entry)))) (tradesOf (now (table .entry))) entry)) × (tradesOf (now (table .exit)) ≡ step (now (calendar .entry)) (bookOf desk (rowsOf (now (held .entry)) (now (kinds .entry)) (now (units .entry)))) (tradesOf (now (table .entry))) entry .table) ⌝ }
+{
+    match entry {
+        Entry::Known(event) => event_on(
+            calendar,
+            desk,
+            held,
+            kinds,
+            units,
+            table,
+            outstanding,
+            event,
+        ),
+        Entry::Undecodable => desk::answered(2, desk),
+    }
+}

@@ -1,0 +1,118 @@
+// 10 Early: takes sheets off a trade at the price given; the amount joins today's net.
+ghost use mathlib.Core.Path.{_≡_};
+ghost use Prim.Native.Nat.{_≤_, _<_, _*_};
+ghost use lib.ListN.{length};
+ghost use Rattle.money.specs.Causes.{firstOf, numberOf};
+ghost use Rattle.rules.specs.Early.{earlyAmount, pastDue, earlyCauses, earlyBook, earlyTable};
+ghost use Rattle.core.specs.Flat.{Rows, bookOf, Fits, appliedAt, tradesTo, tradesOf, placeOf, appliedBy, tableBy};
+use crate::days;
+use crate::desk;
+use crate::desk::Desk;
+use crate::desk::Done;
+use crate::flat;
+use crate::nets;
+use crate::redemption;
+use crate::standing;
+use crate::trades;
+use money::units::Sheets;
+use money::units::Ticks;
+use rules::trade::Contract;
+
+// Whether today is at or past the due day of the trade at a place.
+fn past_due(desk: Desk, table: &[u64], place: usize, contract: Contract) -> bool
+    requires { ⌜ (desk .trades * 4 ≤ length (now table)) × (place ≡ placeOf contract (tradesTo (now table) (desk .trades))) ⌝ }
+    ensures { λ r. ⌜ ((rows : Rows) → r ≡ pastDue (bookOf desk rows) (tradesOf (now (table .entry))) contract) ⌝ }
+{
+    if place >= desk.trades {
+        return false;
+    }
+    let standing = desk.standing;
+    let day = standing.day;
+    flat::due_at(table, place) <= days::day_number(day)
+}
+
+// The amount of sheets of the trade at a place, from its first payment day to today's.
+fn amount_at(
+    calendar: &[u32],
+    desk: Desk,
+    table: &[u64],
+    place: usize,
+    contract: Contract,
+    count: Sheets,
+    price: Ticks,
+) -> u64
+    requires { ⌜ (Fits (now calendar) desk (tradesOf (now table))) × (length (now calendar) ≤ 1200) × (place ≡ placeOf contract (tradesTo (now table) (desk .trades))) × (place < desk .trades) × (count .0 ≤ 100000000) × (price .0 ≤ 100000) ⌝ }
+    ensures { λ r. ⌜ ((rows : Rows) → r ≡ earlyAmount (now (calendar .entry)) (bookOf desk rows) (tradesOf (now (table .entry))) contract count price) ⌝ }
+{
+    let standing = desk.standing;
+    let day = standing.day;
+    let payment = days::payment_day(calendar, day);
+    redemption::redeemed_for(table, place, count.0, price, payment)
+}
+
+fn early_refusal(
+    calendar: &[u32],
+    desk: Desk,
+    table: &[u64],
+    place: usize,
+    contract: Contract,
+    count: Sheets,
+    price: Ticks,
+) -> u8
+    requires { ⌜ (Fits (now calendar) desk (tradesOf (now table))) × (length (now calendar) ≤ 1200) × (place ≡ placeOf contract (tradesTo (now table) (desk .trades))) ⌝ }
+    ensures { λ r. ⌜ ((rows : Rows) → r ≡ numberOf (firstOf (earlyCauses (now (calendar .entry)) (bookOf desk rows) (tradesOf (now (table .entry))) contract count price))) ⌝ }
+{
+    let standing = desk.standing;
+    if !standing::is_trading(standing) {
+        return 4;
+    }
+    if standing::is_terminated(standing) {
+        return 5;
+    }
+    if count.0 == 0 {
+        return 7;
+    }
+    if price.0 > 100_000 {
+        return 8;
+    }
+    if past_due(desk, table, place, contract) {
+        return 9;
+    }
+    if place >= desk.trades {
+        return 10;
+    }
+    if flat::sheets_at(table, place) < count.0 {
+        return 13;
+    }
+    let nets = desk.nets;
+    let amount = amount_at(calendar, desk, table, place, contract, count, price);
+    if !nets::today_fit(nets::today_plus(nets, amount)) {
+        return 14;
+    }
+    0
+}
+
+pub fn early(
+    calendar: &[u32],
+    desk: Desk,
+    table: &mut [u64],
+    contract: Contract,
+    count: Sheets,
+    price: Ticks,
+) -> Done
+    requires { ⌜ (Fits (now calendar) desk (tradesOf (now table))) × (length (now calendar) ≤ 1200) ⌝ }
+    ensures { λ r. ⌜ ((rows : Rows) → (appliedAt r rows ≡ appliedBy (firstOf (earlyCauses (now (calendar .entry)) (bookOf desk rows) (tradesOf (now (table .entry))) contract count price)) (bookOf desk rows) (earlyBook (now (calendar .entry)) (bookOf desk rows) (tradesOf (now (table .entry))) contract count price)) × (tradesOf (now (table .exit)) ≡ tableBy (firstOf (earlyCauses (now (calendar .entry)) (bookOf desk rows) (tradesOf (now (table .entry))) contract count price)) (tradesOf (now (table .entry))) (earlyTable (bookOf desk rows) (tradesOf (now (table .entry))) contract count))) ⌝ }
+{
+    let place = trades::place_of(&*table, desk.trades, contract);
+    let refusal = early_refusal(calendar, desk, &*table, place, contract, count, price);
+    if refusal != 0 {
+        return desk::answered(refusal, desk);
+    }
+    let amount = amount_at(calendar, desk, &*table, place, contract, count, price);
+    let left = flat::sheets_at(&*table, place) - count.0;
+    flat::put_sheets(table, place, left);
+    let nets = desk.nets;
+    let mut next = desk;
+    next.nets = nets::today_plus(nets, amount);
+    desk::answered(0, next)
+}

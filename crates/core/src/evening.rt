@@ -1,0 +1,191 @@
+// The evening: what arrives becomes effective, then the applications in order; and headroom's two tests.
+ghost use mathlib.Core.Path.{_≡_};
+ghost use mathlib.Core.Bool.{true, cond};
+ghost use Prim.Native.Nat.{_≤_, _+_};
+ghost use lib.IntN.{pos};
+ghost use mathlib.Core.List.{map};
+ghost use lib.ListN.{length};
+ghost use lib.Signed.{ltZ};
+ghost use Rattle.money.specs.Collateral.{rateOf, unitLimitOf, kindValue};
+ghost use Rattle.rules.specs.Vault.{securityAt, effectiveOf, frozenOf, value as valueOf, headroomOf};
+ghost use Rattle.rules.specs.Fit.{securitiesFit, withdrawalsFit};
+ghost use Rattle.rules.specs.Close.{securityArrived, guaranteeArrived, takenOut, mayGo, applications};
+ghost use Rattle.core.specs.Types.{Vault};
+ghost use Rattle.core.specs.Flat.{vaultOf, securitiesOf, eveningAt};
+use crate::held;
+use money::units::Fen;
+use rules::book::Guarantee;
+use rules::book::Security;
+
+fn security_arrived(security: Security) -> Security
+    requires { ⌜ security .effective + security .arriving ≤ 1000000000000 ⌝ }
+    ensures { λ r. ⌜ r ≡ securityArrived security ⌝ }
+{
+    Security {
+        effective: security.effective + security.arriving,
+        arriving: 0,
+        frozen: security.frozen,
+        rate: security.rate,
+    }
+}
+
+pub fn guarantee_arrived(guarantee: Guarantee) -> Guarantee
+    requires { ⌜ guarantee .effective .0 + guarantee .arriving .0 ≤ 10000000000000000 ⌝ }
+    ensures { λ r. ⌜ r ≡ guaranteeArrived guarantee ⌝ }
+{
+    Guarantee {
+        effective: Fen(guarantee.effective.0 + guarantee.arriving.0),
+        arriving: Fen(0),
+        frozen: Fen(guarantee.frozen.0),
+    }
+}
+
+// What arrives becomes effective, of every security.
+pub fn all_arrived(held: &mut [u64], guarantee: Guarantee)
+    requires { ⌜ (length (now held) ≡ 128) × (securitiesFit (vaultOf guarantee (securitiesOf (now held))) ≡ true) ⌝ }
+    ensures { λ _. ⌜ securitiesOf (now (held .exit)) ≡ map securityArrived (securitiesOf (now (held .entry))) ⌝ }
+{
+    let mut kind = 0;
+    while kind < 32 {
+        let security = held::security_at(&*held, kind);
+        held::put_security(held, kind, security_arrived(security));
+        kind += 1;
+    }
+}
+
+// Guarantee cash as a security, and back; a security's rate is not looked at in cash.
+fn as_security(guarantee: Guarantee) -> Security
+    ensures { λ r. ⌜ (r .effective ≡ guarantee .effective .0) × (r .arriving ≡ guarantee .arriving .0) × (r .frozen ≡ guarantee .frozen .0) × (r .rate ≡ 0) ⌝ }
+{
+    Security {
+        effective: guarantee.effective.0,
+        arriving: guarantee.arriving.0,
+        frozen: guarantee.frozen.0,
+        rate: 0,
+    }
+}
+
+fn as_guarantee(security: Security) -> Guarantee
+    ensures { λ r. ⌜ (r .effective .0 ≡ security .effective) × (r .arriving .0 ≡ security .arriving) × (r .frozen .0 ≡ security .frozen) ⌝ }
+{
+    Guarantee {
+        effective: Fen(security.effective),
+        arriving: Fen(security.arriving),
+        frozen: Fen(security.frozen),
+    }
+}
+
+// Whether an application is done, and V afterwards.
+struct Verdict {
+    pub goes: bool,
+    pub value: u64,
+}
+
+// By what is had of the kind alone: V changes by that kind's value, so the other kinds are not looked at.
+fn judged(
+    served: bool,
+    outstanding: u64,
+    kind: u8,
+    units: u64,
+    had: Security,
+    value: u64,
+) -> Verdict
+    requires { ⌜ (kind ≤ 32) × (had .frozen ≤ had .effective) × (had .effective ≤ unitLimitOf kind) × (rateOf kind (had .rate) ≤ 20000) × (kindValue kind (had .effective) (had .frozen) (had .rate) .0 ≤ value) × (value ≤ 67000000000000) ⌝ }
+    ensures { λ r. ⌜ ((vault : Vault) → length (vault .securities) ≡ 32 → had .effective ≡ effectiveOf vault kind → had .frozen ≡ frozenOf vault kind → had .rate ≡ securityAt vault kind .rate → value ≡ valueOf vault → (r .goes ≡ mayGo served outstanding kind units vault) × (r .value ≡ cond (r .goes) (valueOf (takenOut kind units vault)) value)) ⌝ }
+{
+    if !served {
+        return Verdict { goes: false, value };
+    }
+    if had.effective - had.frozen < units {
+        return Verdict { goes: false, value };
+    }
+    let others = value - crate::vault::worth(kind, had.effective, had.frozen, had.rate);
+    let after = others + crate::vault::worth(kind, had.effective - units, had.frozen, had.rate);
+    if after < outstanding {
+        return Verdict { goes: false, value };
+    }
+    Verdict {
+        goes: true,
+        value: after,
+    }
+}
+
+// Own and guarantee cash as the evening goes on, and the applications done and dropped so far. The securities stand in their row.
+pub struct Evened {
+    pub own: Fen,
+    pub guarantee: Guarantee,
+    pub done: u32,
+    pub dropped: u32,
+}
+
+// The applications in order: of each one's kind a copy is looked at, and written back if it goes.
+pub fn applications(
+    served: bool,
+    outstanding: u64,
+    kinds: &[u8],
+    units: &[u64],
+    count: usize,
+    held: &mut [u64],
+    begun: Evened,
+) -> Evened
+    requires { ⌜ (length (now kinds) ≡ 128) × (length (now units) ≡ 128) × (length (now held) ≡ 128) × (withdrawalsFit (record { kinds = now kinds; units = now units; count = count }) ≡ true) ⌝ }
+    requires { ⌜ (securitiesFit (vaultOf (begun .guarantee) (securitiesOf (now held))) ≡ true) × (begun .guarantee .frozen .0 ≤ begun .guarantee .effective .0) × (begun .guarantee .effective .0 ≤ 10000000000000000) × (begun .own .0 + begun .guarantee .effective .0 ≤ 10000000000000000) × (begun .done ≡ 0) × (begun .dropped ≡ 0) ⌝ }
+    ensures { λ r. ⌜ eveningAt r (securitiesOf (now (held .exit))) ≡ applications served outstanding (record { kinds = now (kinds .entry); units = now (units .entry); count = count }) (eveningAt begun (securitiesOf (now (held .entry)))) ⌝ }
+{
+    let mut guarantee = begun.guarantee;
+    let mut own = begun.own.0;
+    let mut value = crate::vault::value_of(&*held, guarantee);
+    let mut done = begun.done;
+    let mut dropped = begun.dropped;
+    let mut i = 0;
+    while i < count {
+        let kind = kinds[i];
+        let amount = units[i];
+        let mut had = as_security(guarantee);
+        if kind < 32 {
+            had = held::security_at(&*held, kind as usize);
+        }
+        let verdict = judged(served, outstanding, kind, amount, had, value);
+        value = verdict.value;
+        if verdict.goes {
+            done += 1;
+            had.effective = had.effective - amount;
+            if kind < 32 {
+                held::put_security(held, kind as usize, had);
+            } else {
+                guarantee = as_guarantee(had);
+                own += amount;
+            }
+        } else {
+            dropped += 1;
+        }
+        i += 1;
+    }
+    Evened {
+        own: Fen(own),
+        guarantee,
+        done,
+        dropped,
+    }
+}
+
+// Headroom below 0.
+pub fn is_short(size: u64, value: u64, outstanding: u64) -> bool
+    ensures { λ r. ⌜ r ≡ ltZ (headroomOf size value outstanding) (pos 0) ⌝ }
+{
+    if size < value {
+        return size < outstanding;
+    }
+    value < outstanding
+}
+
+// Headroom below a count of sheets.
+pub fn above_headroom(size: u64, value: u64, outstanding: u64, count: u64) -> bool
+    requires { ⌜ (outstanding ≤ 10000000000) × (count ≤ 100000000) ⌝ }
+    ensures { λ r. ⌜ r ≡ ltZ (headroomOf size value outstanding) (pos count) ⌝ }
+{
+    if size < value {
+        return size < outstanding + count;
+    }
+    value < outstanding + count
+}

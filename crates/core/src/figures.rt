@@ -1,0 +1,99 @@
+// O and V of a book: counted over the table and the vault, or carried over an event that says how it moves them.
+ghost use mathlib.Core.Path.{_≡_};
+ghost use lib.ListN.{length};
+ghost use Rattle.rules.specs.Trades.{inUse, outstanding};
+ghost use Rattle.core.specs.Figures.{figuresAt, Moved, MovedBy};
+ghost use Rattle.core.specs.Flat.{FitsHeld, tradesOf};
+use crate::desk::Desk;
+use crate::trades;
+use crate::vault;
+use rules::event::Entry;
+use rules::event::Event;
+
+pub struct Figures {
+    pub outstanding: u64,
+    pub value: u64,
+}
+
+// Counted, over the trades in use and all kinds.
+pub fn figures_of(calendar: &[u32], desk: Desk, held: &[u64], table: &[u64]) -> Figures
+    requires { ⌜ (length (now held) ≡ 128) × (FitsHeld (now calendar) desk (now held) (tradesOf (now table))) ⌝ }
+    ensures { λ r. ⌜ r ≡ figuresAt desk (now (held .entry)) (tradesOf (now (table .entry))) ⌝ }
+{
+    let guarantee = desk.guarantee;
+    Figures {
+        outstanding: trades::outstanding_of(table, desk.trades),
+        value: vault::value_of(held, guarantee),
+    }
+}
+
+// The vault has changed, and the table has not.
+fn revalued(calendar: &[u32], before: Figures, desk: Desk, held: &[u64], table: &[u64]) -> Figures
+    requires { ⌜ (length (now held) ≡ 128) × (FitsHeld (now calendar) desk (now held) (tradesOf (now table))) × (outstanding (inUse (desk .trades) (tradesOf (now table))) ≡ before .outstanding) ⌝ }
+    ensures { λ r. ⌜ r ≡ figuresAt desk (now (held .entry)) (tradesOf (now (table .entry))) ⌝ }
+{
+    let guarantee = desk.guarantee;
+    Figures {
+        outstanding: before.outstanding,
+        value: vault::value_of(held, guarantee),
+    }
+}
+
+// After an event that is done: no trade is looked at where the event itself tells what it adds or takes.
+fn figures_moved(
+    calendar: &[u32],
+    before: Figures,
+    event: Event,
+    desk: Desk,
+    held: &[u64],
+    table: &[u64],
+) -> Figures
+    requires { ⌜ (length (now held) ≡ 128) × (FitsHeld (now calendar) desk (now held) (tradesOf (now table))) × (Moved event before (figuresAt desk (now held) (tradesOf (now table)))) ⌝ }
+    ensures { λ r. ⌜ r ≡ figuresAt desk (now (held .entry)) (tradesOf (now (table .entry))) ⌝ }
+{
+    match event {
+        Event::Open => Figures {
+            outstanding: trades::outstanding_of(table, desk.trades),
+            value: before.value,
+        },
+        Event::FundIn(_, _) => before,
+        Event::FundOut(_, _) => before,
+        Event::Size(_) => before,
+        Event::Rate(_, _) => revalued(calendar, before, desk, held, table),
+        Event::Pledge(_, _) => revalued(calendar, before, desk, held, table),
+        Event::Freeze(_, _) => revalued(calendar, before, desk, held, table),
+        Event::Withdraw(_, _) => before,
+        Event::Initial(terms) => Figures {
+            outstanding: before.outstanding + terms.sheets.0,
+            value: before.value,
+        },
+        Event::Early(_, count, _) => Figures {
+            outstanding: before.outstanding - count.0,
+            value: before.value,
+        },
+        Event::Pay => before,
+        Event::Close => figures_of(calendar, desk, held, table),
+    }
+}
+
+// After any entry: what is turned down, or fails to be paid, moves nothing.
+pub fn figures_after(
+    calendar: &[u32],
+    before: Figures,
+    entry: Entry,
+    number: u8,
+    desk: Desk,
+    held: &[u64],
+    table: &[u64],
+) -> Figures
+    requires { ⌜ (length (now held) ≡ 128) × (FitsHeld (now calendar) desk (now held) (tradesOf (now table))) × (MovedBy entry number before (figuresAt desk (now held) (tradesOf (now table)))) ⌝ }
+    ensures { λ r. ⌜ r ≡ figuresAt desk (now (held .entry)) (tradesOf (now (table .entry))) ⌝ }
+{
+    if number != 0 {
+        return before;
+    }
+    match entry {
+        Entry::Known(event) => figures_moved(calendar, before, event, desk, held, table),
+        Entry::Undecodable => before,
+    }
+}

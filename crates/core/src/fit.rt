@@ -1,0 +1,175 @@
+// When a book is fit: its tests in the order of document 01.
+ghost use mathlib.Core.Path.{_≡_};
+ghost use mathlib.Core.Bool.{true};
+ghost use mathlib.Core.List.{List, [], _∷_};
+ghost use Prim.Native.Nat.{_≤_};
+ghost use lib.ListN.{length};
+ghost use Rattle.rules.specs.Folds.{every};
+ghost use Rattle.rules.specs.Trades.{differ};
+ghost use Rattle.rules.specs.Fit.{capacityFit, sizeFit, netsFit, withdrawalsFit, unopenedFit, openedFit, dayFit, fit};
+ghost use Rattle.core.specs.Types.{Trade};
+ghost use Rattle.core.specs.Flat.{rowsOf, bookOf, tradesTo, tradesOf, Kept};
+ghost use Rattle.core.specs.Figures.{outstandingAt, latestFirst, gatheredOf};
+use crate::days;
+use crate::desk::Desk;
+use crate::nets;
+use crate::standing;
+use crate::trades;
+use crate::trades::Gathered;
+use crate::vault;
+use rules::book::Day;
+use rules::book::Nets;
+use rules::book::Standing;
+
+fn capacity_fit(count: usize, table: &[u64]) -> bool
+    ensures { λ r. ⌜ r ≡ capacityFit count (tradesOf (now (table .entry))) ⌝ }
+{
+    let slots = table.len() / 4;
+    if slots > 4_096 {
+        return false;
+    }
+    count <= slots
+}
+
+// S is within its limit, and the sheets left within S.
+fn size_fit(size: u64, outstanding: u64) -> bool
+    ensures { λ r. ⌜ r ≡ sizeFit size outstanding ⌝ }
+{
+    if size > 10_000_000_000 {
+        return false;
+    }
+    outstanding <= size
+}
+
+fn nets_fit(nets: Nets) -> bool
+    ensures { λ r. ⌜ r ≡ netsFit nets ⌝ }
+{
+    if !nets::today_fit(nets) {
+        return false;
+    }
+    nets::cleared_fit(nets)
+}
+
+// A book with no day is Closed with an empty table.
+fn unopened_fit(standing: Standing, count: usize) -> bool
+    ensures { λ r. ⌜ r ≡ unopenedFit (standing .phase) count ⌝ }
+{
+    if !standing::is_closed(standing) {
+        return false;
+    }
+    count == 0
+}
+
+// The day trades, another follows, and no first payment day is past today's payment day: the latest is not.
+fn opened_fit(calendar: &[u32], today: u32, latest: u32) -> bool
+    requires { ⌜ length (now calendar) ≤ 1200 ⌝ }
+    ensures { λ r. ⌜ ((trades : List Trade) → latest ≡ latestFirst trades → r ≡ openedFit (now (calendar .entry)) today trades) ⌝ }
+{
+    if !money::days::trades_on(calendar, today) {
+        return false;
+    }
+    if !days::has_next(calendar, today) {
+        return false;
+    }
+    latest <= days::payment_day(calendar, Day::On(today))
+}
+
+fn day_fit(calendar: &[u32], standing: Standing, count: usize, latest: u32) -> bool
+    requires { ⌜ length (now calendar) ≤ 1200 ⌝ }
+    ensures { λ r. ⌜ ((trades : List Trade) → latest ≡ latestFirst trades → r ≡ dayFit (now (calendar .entry)) (standing .day) (standing .phase) trades count) ⌝ }
+{
+    let day = standing.day;
+    match day {
+        Day::Never => unopened_fit(standing, count),
+        Day::On(today) => opened_fit(calendar, today, latest),
+    }
+}
+
+// The tests after those of the vault, the cash and the sheets.
+fn others_fit(
+    calendar: &[u32],
+    desk: Desk,
+    kinds: &[u8],
+    units: &[u64],
+    table: &[u64],
+    latest: u32,
+) -> bool
+    requires { ⌜ (length (now calendar) ≤ 1200) × (length (now kinds) ≡ 128) × (length (now units) ≡ 128) × (Kept (now table) (desk .trades)) × (latest ≡ latestFirst (tradesTo (now table) (desk .trades))) ⌝ }
+    ensures { λ r. ⌜ r ≡ every (netsFit (desk .nets) ∷ differ (tradesTo (now (table .entry)) (desk .trades)) ∷ withdrawalsFit (record { kinds = now (kinds .entry); units = now (units .entry); count = desk .applications }) ∷ dayFit (now (calendar .entry)) (desk .standing .day) (desk .standing .phase) (tradesTo (now (table .entry)) (desk .trades)) (desk .trades) ∷ []) ⌝ }
+{
+    let nets = desk.nets;
+    if !nets_fit(nets) {
+        return false;
+    }
+    let count = desk.trades;
+    if !trades::contracts_differ(table, count) {
+        return false;
+    }
+    if !vault::withdrawals_fit(kinds, units, desk.applications) {
+        return false;
+    }
+    let standing = desk.standing;
+    day_fit(calendar, standing, count, latest)
+}
+
+// The tests of a table with room for its trades, from what one walk over these gathered.
+fn is_fit(
+    calendar: &[u32],
+    desk: Desk,
+    held: &[u64],
+    kinds: &[u8],
+    units: &[u64],
+    table: &[u64],
+    gathered: Gathered,
+) -> bool
+    requires { ⌜ (length (now held) ≡ 128) × (length (now kinds) ≡ 128) × (length (now units) ≡ 128) × (length (now calendar) ≤ 1200) × (capacityFit (desk .trades) (tradesOf (now table)) ≡ true) × (gathered ≡ gatheredOf (tradesTo (now table) (desk .trades))) ⌝ }
+    ensures { λ r. ⌜ r ≡ fit (now (calendar .entry)) (bookOf desk (rowsOf (now (held .entry)) (now (kinds .entry)) (now (units .entry)))) (tradesOf (now (table .entry))) ⌝ }
+{
+    if !vault::securities_fit(held) {
+        return false;
+    }
+    let cash = desk.cash;
+    let guarantee = desk.guarantee;
+    if !vault::cash_fit(cash, guarantee) {
+        return false;
+    }
+    let within = gathered.fit;
+    if !within {
+        return false;
+    }
+    if !size_fit(desk.size.0, gathered.outstanding) {
+        return false;
+    }
+    others_fit(calendar, desk, kinds, units, table, gathered.latest)
+}
+
+// Whether a book is fit, and O of one that is, since the test counts it.
+pub struct Fitness {
+    pub fit: bool,
+    pub outstanding: u64,
+}
+
+pub fn fitness_of(
+    calendar: &[u32],
+    desk: Desk,
+    held: &[u64],
+    kinds: &[u8],
+    units: &[u64],
+    table: &[u64],
+) -> Fitness
+    requires { ⌜ (length (now held) ≡ 128) × (length (now kinds) ≡ 128) × (length (now units) ≡ 128) × (length (now calendar) ≤ 1200) ⌝ }
+    ensures { λ r. ⌜ (r .fit ≡ fit (now (calendar .entry)) (bookOf desk (rowsOf (now (held .entry)) (now (kinds .entry)) (now (units .entry)))) (tradesOf (now (table .entry)))) × (r .fit ≡ true → r .outstanding ≡ outstandingAt desk (tradesOf (now (table .entry)))) ⌝ }
+{
+    let count = desk.trades;
+    if !capacity_fit(count, table) {
+        return Fitness {
+            fit: false,
+            outstanding: 0,
+        };
+    }
+    let gathered = trades::gather(table, count);
+    Fitness {
+        fit: is_fit(calendar, desk, held, kinds, units, table, gathered),
+        outstanding: gathered.outstanding,
+    }
+}

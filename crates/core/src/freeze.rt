@@ -1,0 +1,67 @@
+// 7 Freeze: sets frozen units.
+ghost use mathlib.Core.Path.{_≡_};
+ghost use mathlib.Core.List.{List};
+ghost use Prim.Native.Nat.{ℕ, _<_};
+ghost use lib.ListN.{length, set};
+ghost use Rattle.money.specs.Causes.{firstOf, numberOf};
+ghost use Rattle.rules.specs.Freeze.{freezeCauses, frozen, withFrozen, cashFrozen};
+ghost use Rattle.core.specs.Flat.{securityIn, securitiesOf, rowsOf, bookOf, appliedBy, appliedAt};
+use crate::desk;
+use crate::desk::Desk;
+use crate::desk::Done;
+use crate::held;
+use crate::vault;
+use money::units::Fen;
+use rules::book::Guarantee;
+
+fn freeze_refusal(desk: Desk, held: &[u64], kind: u8, units: u64) -> u8
+    requires { ⌜ length (now held) ≡ 128 ⌝ }
+    ensures { λ r. ⌜ ((kinds amounts : List ℕ) → r ≡ numberOf (firstOf (freezeCauses (bookOf desk (rowsOf (now (held .entry)) kinds amounts)) kind units))) ⌝ }
+{
+    if kind > 32 {
+        return 3;
+    }
+    let guarantee = desk.guarantee;
+    if vault::effective_of(held, guarantee, kind) < units {
+        return 13;
+    }
+    0
+}
+
+fn put_frozen(held: &mut [u64], kind: u8, units: u64)
+    requires { ⌜ (kind < 32) × (length (now held) ≡ 128) ⌝ }
+    ensures { λ _. ⌜ securitiesOf (now (held .exit)) ≡ set (securitiesOf (now (held .entry))) kind (withFrozen units (securityIn (now (held .entry)) kind)) ⌝ }
+{
+    let at = kind as usize;
+    let mut security = held::security_at(&*held, at);
+    security.frozen = units;
+    held::put_security(held, at, security);
+}
+
+fn cash_frozen(guarantee: Guarantee, units: u64) -> Guarantee
+    ensures { λ r. ⌜ r ≡ cashFrozen units guarantee ⌝ }
+{
+    Guarantee {
+        effective: Fen(guarantee.effective.0),
+        arriving: Fen(guarantee.arriving.0),
+        frozen: Fen(units),
+    }
+}
+
+pub fn freeze(desk: Desk, held: &mut [u64], kind: u8, units: u64) -> Done
+    requires { ⌜ length (now held) ≡ 128 ⌝ }
+    ensures { λ r. ⌜ ((kinds amounts : List ℕ) → appliedAt r (rowsOf (now (held .exit)) kinds amounts) ≡ appliedBy (firstOf (freezeCauses (bookOf desk (rowsOf (now (held .entry)) kinds amounts)) kind units)) (bookOf desk (rowsOf (now (held .entry)) kinds amounts)) (frozen (bookOf desk (rowsOf (now (held .entry)) kinds amounts)) kind units)) ⌝ }
+{
+    let refusal = freeze_refusal(desk, &*held, kind, units);
+    if refusal != 0 {
+        return desk::answered(refusal, desk);
+    }
+    if kind == 32 {
+        let guarantee = desk.guarantee;
+        let mut next = desk;
+        next.guarantee = cash_frozen(guarantee, units);
+        return desk::answered(0, next);
+    }
+    put_frozen(held, kind, units);
+    desk::answered(0, desk)
+}

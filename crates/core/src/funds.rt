@@ -1,0 +1,94 @@
+// 2, 3 Fund in, fund out: fen from or to outside.
+ghost use mathlib.Core.Path.{_≡_};
+ghost use mathlib.Core.Bool.{true};
+ghost use Rattle.money.specs.Causes.{firstOf, numberOf};
+ghost use Rattle.rules.specs.Fit.{cashFit};
+ghost use Rattle.rules.specs.Funds.{holds, withAccount, fundInCauses, fundedIn, fundOutCauses, fundedOut};
+ghost use Rattle.core.specs.Flat.{Rows, bookOf, appliedBy, appliedAt};
+use crate::desk;
+use crate::desk::Desk;
+use crate::desk::Done;
+use money::units::Fen;
+use rules::book::Cash;
+use rules::event::Account;
+
+fn balance(account: Account, cash: Cash) -> u64
+    ensures { λ r. ⌜ r ≡ holds account cash ⌝ }
+{
+    match account {
+        Account::Own => cash.own.0,
+        Account::Client => cash.client.0,
+    }
+}
+
+fn with_account(account: Account, sum: u64, cash: Cash) -> Cash
+    ensures { λ r. ⌜ r ≡ withAccount account sum cash ⌝ }
+{
+    match account {
+        Account::Own => Cash {
+            own: Fen(sum),
+            client: Fen(cash.client.0),
+        },
+        Account::Client => Cash {
+            own: Fen(cash.own.0),
+            client: Fen(sum),
+        },
+    }
+}
+
+fn fund_in_refusal(desk: Desk, account: Account, amount: Fen) -> u8
+    requires { ⌜ cashFit (desk .cash) (desk .guarantee) ≡ true ⌝ }
+    ensures { λ r. ⌜ ((rows : Rows) → r ≡ numberOf (firstOf (fundInCauses (bookOf desk rows) account amount))) ⌝ }
+{
+    if amount.0 == 0 {
+        return 7;
+    }
+    let cash = desk.cash.own.0
+        + desk.cash.client.0
+        + desk.guarantee.effective.0
+        + desk.guarantee.arriving.0;
+    if 10_000_000_000_000_000 - cash < amount.0 {
+        return 14;
+    }
+    0
+}
+
+pub fn fund_in(desk: Desk, account: Account, amount: Fen) -> Done
+    requires { ⌜ cashFit (desk .cash) (desk .guarantee) ≡ true ⌝ }
+    ensures { λ r. ⌜ ((rows : Rows) → appliedAt r rows ≡ appliedBy (firstOf (fundInCauses (bookOf desk rows) account amount)) (bookOf desk rows) (fundedIn (bookOf desk rows) account amount)) ⌝ }
+{
+    let refusal = fund_in_refusal(desk, account, amount);
+    if refusal != 0 {
+        return desk::answered(refusal, desk);
+    }
+    let cash = desk.cash;
+    let mut next = desk;
+    next.cash = with_account(account, balance(account, cash) + amount.0, cash);
+    desk::answered(0, next)
+}
+
+fn fund_out_refusal(desk: Desk, account: Account, amount: Fen) -> u8
+    ensures { λ r. ⌜ ((rows : Rows) → r ≡ numberOf (firstOf (fundOutCauses (bookOf desk rows) account amount))) ⌝ }
+{
+    if amount.0 == 0 {
+        return 7;
+    }
+    let cash = desk.cash;
+    if balance(account, cash) < amount.0 {
+        return 13;
+    }
+    0
+}
+
+pub fn fund_out(desk: Desk, account: Account, amount: Fen) -> Done
+    ensures { λ r. ⌜ ((rows : Rows) → appliedAt r rows ≡ appliedBy (firstOf (fundOutCauses (bookOf desk rows) account amount)) (bookOf desk rows) (fundedOut (bookOf desk rows) account amount)) ⌝ }
+{
+    let refusal = fund_out_refusal(desk, account, amount);
+    if refusal != 0 {
+        return desk::answered(refusal, desk);
+    }
+    let cash = desk.cash;
+    let mut next = desk;
+    next.cash = with_account(account, balance(account, cash) - amount.0, cash);
+    desk::answered(0, next)
+}

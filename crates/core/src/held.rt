@@ -1,0 +1,28 @@
+// The securities in a lent row, four numbers each: effective, arriving and frozen units, and the rate.
+ghost use mathlib.Core.Path.{_≡_};
+ghost use Prim.Native.Nat.{_<_};
+ghost use lib.ListN.{length, set};
+ghost use Rattle.core.specs.Flat.{securityIn, securitiesOf};
+use rules::book::Security;
+
+pub fn security_at(held: &[u64], kind: usize) -> Security
+    requires { ⌜ (kind < 32) × (length (now held) ≡ 128) ⌝ }
+    ensures { λ r. ⌜ r ≡ securityIn (now (held .entry)) kind ⌝ }
+{
+    Security {
+        effective: held[kind * 4],
+        arriving: held[kind * 4 + 1],
+        frozen: held[kind * 4 + 2],
+        rate: held[kind * 4 + 3],
+    }
+}
+
+pub fn put_security(held: &mut [u64], kind: usize, security: Security)
+    requires { ⌜ (kind < 32) × (length (now held) ≡ 128) ⌝ }
+    ensures { λ _. ⌜ securitiesOf (now (held .exit)) ≡ set (securitiesOf (now (held .entry))) kind security ⌝ }
+{
+    held[kind * 4] = security.effective;
+    held[kind * 4 + 1] = security.arriving;
+    held[kind * 4 + 2] = security.frozen;
+    held[kind * 4 + 3] = security.rate;
+}

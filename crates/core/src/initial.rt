@@ -1,0 +1,191 @@
+// 9 Initial: a new last trade; its amount is taken from today's net.
+ghost use mathlib.Core.Path.{_≡_};
+ghost use mathlib.Core.List.{List};
+ghost use Prim.Native.Nat.{ℕ, _≤_, _<_, _*_};
+ghost use lib.IntN.{pos};
+ghost use lib.ListN.{length};
+ghost use lib.Signed.{ltZ};
+ghost use Rattle.money.specs.Causes.{firstOf, numberOf};
+ghost use Rattle.rules.specs.Trades.{onTable};
+ghost use Rattle.rules.specs.Vault.{headroom};
+ghost use Rattle.rules.specs.Initial.{badCount, badPrices, badDue, begun, roomCauses, initialCauses, initialBook, initialTable};
+ghost use Rattle.core.specs.Flat.{Rows, rowsOf, bookOf, FitsHeld, appliedAt, tradesTo, tradesOf, appliedBy, tableBy};
+ghost use Rattle.core.specs.Figures.{outstandingAt};
+use crate::days;
+use crate::desk;
+use crate::desk::Desk;
+use crate::desk::Done;
+use crate::evening;
+use crate::flat;
+use crate::nets;
+use crate::standing;
+use crate::trades;
+use crate::vault;
+use money::units::Sheets;
+use money::units::Ticks;
+use rules::trade::Contract;
+use rules::trade::Terms;
+use rules::trade::Trade;
+
+fn bad_count(count: u64) -> bool
+    ensures { λ r. ⌜ r ≡ badCount count ⌝ }
+{
+    if count == 0 {
+        return true;
+    }
+    if count % 10 != 0 {
+        return true;
+    }
+    count > 100_000_000
+}
+
+fn bad_prices(price: Ticks, fallback: Ticks) -> bool
+    ensures { λ r. ⌜ r ≡ badPrices price fallback ⌝ }
+{
+    if price.0 > 100_000 {
+        return true;
+    }
+    fallback.0 > 100_000
+}
+
+fn bad_due(calendar: &[u32], today: u32, due: u32) -> bool
+    requires { ⌜ (length (now calendar) ≤ 1200) × (today < 38400) ⌝ }
+    ensures { λ r. ⌜ r ≡ badDue (now (calendar .entry)) today due ⌝ }
+{
+    if due <= today {
+        return true;
+    }
+    if due > today + 365 {
+        return true;
+    }
+    !days::matures(calendar, due)
+}
+
+fn is_taken(table: &[u64], count: usize, contract: Contract) -> bool
+    requires { ⌜ count * 4 ≤ length (now table) ⌝ }
+    ensures { λ r. ⌜ r ≡ onTable contract (tradesTo (now (table .entry)) count) ⌝ }
+{
+    trades::place_of(table, count, contract) < count
+}
+
+// Whether sheets are above headroom.
+fn lacks_headroom(
+    calendar: &[u32],
+    desk: Desk,
+    held: &[u64],
+    table: &[u64],
+    outstanding: u64,
+    count: u64,
+) -> bool
+    requires { ⌜ (length (now held) ≡ 128) × (FitsHeld (now calendar) desk (now held) (tradesOf (now table))) × (outstanding ≡ outstandingAt desk (tradesOf (now table))) × (count ≤ 100000000) ⌝ }
+    ensures { λ r. ⌜ ((kinds units : List ℕ) → r ≡ ltZ (headroom (bookOf desk (rowsOf (now (held .entry)) kinds units)) (tradesOf (now (table .entry)))) (pos count)) ⌝ }
+{
+    let guarantee = desk.guarantee;
+    let value = vault::value_of(held, guarantee);
+    evening::above_headroom(desk.size.0, value, outstanding, count)
+}
+
+fn room_refusal(
+    calendar: &[u32],
+    desk: Desk,
+    held: &[u64],
+    table: &[u64],
+    outstanding: u64,
+    terms: Terms,
+) -> u8
+    requires { ⌜ (length (now held) ≡ 128) × (FitsHeld (now calendar) desk (now held) (tradesOf (now table))) × (outstanding ≡ outstandingAt desk (tradesOf (now table))) × (terms .sheets .0 ≤ 100000000) ⌝ }
+    ensures { λ r. ⌜ ((kinds units : List ℕ) → r ≡ numberOf (firstOf (roomCauses (bookOf desk (rowsOf (now (held .entry)) kinds units)) (tradesOf (now (table .entry))) terms))) ⌝ }
+{
+    let contract = terms.contract;
+    if is_taken(table, desk.trades, contract) {
+        return 10;
+    }
+    if table.len() / 4 <= desk.trades {
+        return 11;
+    }
+    if lacks_headroom(calendar, desk, held, table, outstanding, terms.sheets.0) {
+        return 12;
+    }
+    let nets = desk.nets;
+    if !nets::today_fit(nets::today_less(nets, 10_000 * terms.sheets.0)) {
+        return 14;
+    }
+    0
+}
+
+fn initial_refusal(
+    calendar: &[u32],
+    desk: Desk,
+    held: &[u64],
+    table: &[u64],
+    outstanding: u64,
+    terms: Terms,
+) -> u8
+    requires { ⌜ (length (now held) ≡ 128) × (FitsHeld (now calendar) desk (now held) (tradesOf (now table))) × (length (now calendar) ≤ 1200) × (outstanding ≡ outstandingAt desk (tradesOf (now table))) ⌝ }
+    ensures { λ r. ⌜ ((kinds units : List ℕ) → r ≡ numberOf (firstOf (initialCauses (now (calendar .entry)) (bookOf desk (rowsOf (now (held .entry)) kinds units)) (tradesOf (now (table .entry))) terms))) ⌝ }
+{
+    let standing = desk.standing;
+    if !standing::is_trading(standing) {
+        return 4;
+    }
+    if standing::is_terminated(standing) {
+        return 5;
+    }
+    if standing::is_suspended(standing) {
+        return 6;
+    }
+    if bad_count(terms.sheets.0) {
+        return 7;
+    }
+    let price = terms.price;
+    let fallback = terms.fallback;
+    if bad_prices(price, fallback) {
+        return 8;
+    }
+    let day = standing.day;
+    if bad_due(calendar, days::day_number(day), terms.due) {
+        return 9;
+    }
+    room_refusal(calendar, desk, held, table, outstanding, terms)
+}
+
+// The record of a trade that begins today.
+fn begun_trade(calendar: &[u32], desk: Desk, terms: Terms) -> Trade
+    requires { ⌜ length (now calendar) ≤ 1200 ⌝ }
+    ensures { λ r. ⌜ ((rows : Rows) → r ≡ begun (now (calendar .entry)) (bookOf desk rows) terms) ⌝ }
+{
+    let standing = desk.standing;
+    let day = standing.day;
+    Trade {
+        contract: Contract(terms.contract.0),
+        sheets: Sheets(terms.sheets.0),
+        price: Ticks(terms.price.0),
+        fallback: Ticks(terms.fallback.0),
+        first: days::payment_day(calendar, day),
+        due: terms.due,
+    }
+}
+
+pub fn initial(
+    calendar: &[u32],
+    desk: Desk,
+    held: &[u64],
+    table: &mut [u64],
+    outstanding: u64,
+    terms: Terms,
+) -> Done
+    requires { ⌜ (length (now held) ≡ 128) × (FitsHeld (now calendar) desk (now held) (tradesOf (now table))) × (length (now calendar) ≤ 1200) × (outstanding ≡ outstandingAt desk (tradesOf (now table))) ⌝ }
+    ensures { λ r. ⌜ ((kinds units : List ℕ) → (appliedAt r (rowsOf (now (held .entry)) kinds units) ≡ appliedBy (firstOf (initialCauses (now (calendar .entry)) (bookOf desk (rowsOf (now (held .entry)) kinds units)) (tradesOf (now (table .entry))) terms)) (bookOf desk (rowsOf (now (held .entry)) kinds units)) (initialBook (bookOf desk (rowsOf (now (held .entry)) kinds units)) terms)) × (tradesOf (now (table .exit)) ≡ tableBy (firstOf (initialCauses (now (calendar .entry)) (bookOf desk (rowsOf (now (held .entry)) kinds units)) (tradesOf (now (table .entry))) terms)) (tradesOf (now (table .entry))) (initialTable (now (calendar .entry)) (bookOf desk (rowsOf (now (held .entry)) kinds units)) (tradesOf (now (table .entry))) terms))) ⌝ }
+{
+    let refusal = initial_refusal(calendar, desk, held, &*table, outstanding, terms);
+    if refusal != 0 {
+        return desk::answered(refusal, desk);
+    }
+    let place = desk.trades;
+    flat::put_trade(table, place, begun_trade(calendar, desk, terms));
+    let nets = desk.nets;
+    let mut next = desk;
+    next.nets = nets::today_less(nets, 10_000 * terms.sheets.0);
+    next.trades = place + 1;
+    desk::answered(0, next)
+}

@@ -1,0 +1,192 @@
+// The calls on a book and its table in lent numbers, changed in place: nothing is copied. Numbers that are no whole rows hold no book
+// that is fit, and are answered 1.
+ghost use mathlib.Core.Path.{_≡_};
+ghost use mathlib.Core.Bool.{true, false};
+ghost use Prim.Native.Nat.{ℕ, _*_, _≤_};
+ghost use lib.ListN.{getD, set};
+ghost use Rattle.money.specs.Causes.{firstOf, numberOf};
+ghost use Rattle.rules.specs.Trades.{noTrade};
+ghost use Rattle.rules.specs.Step.{outcome};
+ghost use Rattle.rules.specs.Listing.{lengthCauses};
+ghost use Rattle.core.specs.Flat.{capacity, tradesOf};
+ghost use Rattle.core.specs.Figures.{outstandingAt};
+ghost use Rattle.core.specs.Lent.{lent, bookIn, tableIn, isWhole, fitIn, stepIn, coverIn, runIn};
+use crate::cover;
+use crate::desk;
+use crate::desk::Desk;
+use crate::desk::Done;
+use crate::dispatch;
+use crate::figures;
+use crate::fit;
+use crate::fit::Fitness;
+use crate::flat;
+use crate::run;
+use rules::answer::Cover;
+use rules::event::Entry;
+use rules::trade::Trade;
+
+fn is_whole(desk: Desk, held: &[u64], kinds: &[u8], units: &[u64], table: &[u64]) -> bool
+    ensures { λ r. ⌜ r ≡ isWhole (lent desk (now (held .entry)) (now (kinds .entry)) (now (units .entry)) (now (table .entry))) ⌝ }
+{
+    if held.len() != 128 {
+        return false;
+    }
+    if kinds.len() != 128 {
+        return false;
+    }
+    if units.len() != 128 {
+        return false;
+    }
+    table.len() % 4 == 0
+}
+
+// For numbers that hold no fit book.
+fn not_fit() -> Fitness
+    ensures { λ r. ⌜ r ≡ record { fit = false; outstanding = 0 } ⌝ }
+{
+    Fitness {
+        fit: false,
+        outstanding: 0,
+    }
+}
+
+// Whether the numbers hold a fit book, and O of one that is.
+fn fitness_in(
+    calendar: &[u32],
+    desk: Desk,
+    held: &[u64],
+    kinds: &[u8],
+    units: &[u64],
+    table: &[u64],
+) -> Fitness
+    ensures { λ r. ⌜ (r .fit ≡ fitIn (now (calendar .entry)) (lent desk (now (held .entry)) (now (kinds .entry)) (now (units .entry)) (now (table .entry)))) × (r .fit ≡ true → r .outstanding ≡ outstandingAt desk (tradesOf (now (table .entry)))) ⌝ }
+{
+    if !is_whole(desk, held, kinds, units, table) {
+        return not_fit();
+    }
+    if calendar.len() > 1_200 {
+        return not_fit();
+    }
+    fit::fitness_of(calendar, desk, held, kinds, units, table)
+}
+
+// One entry.
+pub fn apply(
+    calendar: &[u32],
+    desk: Desk,
+    held: &mut [u64],
+    kinds: &mut [u8],
+    units: &mut [u64],
+    table: &mut [u64],
+    entry: Entry,
+) -> Done
+    ensures { λ r. ⌜ (outcome (r .answer) (bookIn (lent (r .desk) (now (held .exit)) (now (kinds .exit)) (now (units .exit)) (now (table .exit)))) (tableIn (lent (r .desk) (now (held .exit)) (now (kinds .exit)) (now (units .exit)) (now (table .exit)))) ≡ stepIn (now (calendar .entry)) (lent desk (now (held .entry)) (now (kinds .entry)) (now (units .entry)) (now (table .entry))) entry) × (isWhole (lent desk (now (held .entry)) (now (kinds .entry)) (now (units .entry)) (now (table .entry))) ≡ false → lent (r .desk) (now (held .exit)) (now (kinds .exit)) (now (units .exit)) (now (table .exit)) ≡ lent desk (now (held .entry)) (now (kinds .entry)) (now (units .entry)) (now (table .entry))) ⌝ }
+{
+    let tested = fitness_in(calendar, desk, &*held, &*kinds, &*units, &*table);
+    let fits = tested.fit;
+    if !fits {
+        return desk::answered(1, desk);
+    }
+    dispatch::entry_on(
+        calendar,
+        desk,
+        held,
+        kinds,
+        units,
+        table,
+        tested.outstanding,
+        entry,
+    )
+}
+
+// Headroom and O.
+pub fn cover(
+    calendar: &[u32],
+    desk: Desk,
+    held: &[u64],
+    kinds: &[u8],
+    units: &[u64],
+    table: &[u64],
+) -> Cover
+    ensures { λ r. ⌜ r ≡ coverIn (now (calendar .entry)) (lent desk (now (held .entry)) (now (kinds .entry)) (now (units .entry)) (now (table .entry))) ⌝ }
+{
+    let tested = fitness_in(calendar, desk, held, kinds, units, table);
+    let fits = tested.fit;
+    if !fits {
+        return cover::refused();
+    }
+    let figures = figures::figures_of(calendar, desk, held, table);
+    cover::cover_from(desk.size.0, figures)
+}
+
+// The lent lengths: whole events, no more than a journal's, and room for their lines.
+pub fn lengths_refusal(bytes: usize, room: usize) -> u8
+    ensures { λ r. ⌜ r ≡ numberOf (firstOf (lengthCauses bytes room)) ⌝ }
+{
+    if bytes % 40 != 0 {
+        return 18;
+    }
+    if bytes / 40 > 1_500 {
+        return 18;
+    }
+    if room < 7 * (bytes / 40) {
+        return 18;
+    }
+    0
+}
+
+// What a run leaves beside the rows, the table and its lines.
+pub struct Ended {
+    pub number: u8,
+    pub desk: Desk,
+}
+
+// Encoded events, 40 bytes each, and a line of seven numbers for each. Fitness is tested once.
+pub fn run(
+    calendar: &[u32],
+    desk: Desk,
+    held: &mut [u64],
+    kinds: &mut [u8],
+    units: &mut [u64],
+    table: &mut [u64],
+    events: &[u8],
+    lines: &mut [u64],
+) -> Ended
+    ensures { λ r. ⌜ (record { ran = record { number = r .number; book = bookIn (lent (r .desk) (now (held .exit)) (now (kinds .exit)) (now (units .exit)) (now (table .exit))) }; table = tableIn (lent (r .desk) (now (held .exit)) (now (kinds .exit)) (now (units .exit)) (now (table .exit))); lines = now (lines .exit) } ≡ runIn (now (calendar .entry)) (lent desk (now (held .entry)) (now (kinds .entry)) (now (units .entry)) (now (table .entry))) (now (events .entry)) (now (lines .entry))) × (isWhole (lent desk (now (held .entry)) (now (kinds .entry)) (now (units .entry)) (now (table .entry))) ≡ false → lent (r .desk) (now (held .exit)) (now (kinds .exit)) (now (units .exit)) (now (table .exit)) ≡ lent desk (now (held .entry)) (now (kinds .entry)) (now (units .entry)) (now (table .entry))) ⌝ }
+{
+    let tested = fitness_in(calendar, desk, &*held, &*kinds, &*units, &*table);
+    let fits = tested.fit;
+    if !fits {
+        return Ended { number: 1, desk };
+    }
+    let refusal = lengths_refusal(events.len(), lines.len());
+    if refusal != 0 {
+        return Ended {
+            number: refusal,
+            desk,
+        };
+    }
+    Ended {
+        number: 0,
+        desk: run::run_events(calendar, desk, held, kinds, units, table, events, lines),
+    }
+}
+
+// The trade at a place, or an empty one past the last.
+pub fn trade_at(table: &[u64], place: usize) -> Trade
+    ensures { λ r. ⌜ r ≡ getD (tradesOf (now (table .entry))) place noTrade ⌝ }
+{
+    if place >= table.len() / 4 {
+        return flat::no_trade();
+    }
+    flat::trade_at(table, place)
+}
+
+// A trade put at a place; nothing is written past the last.
+pub fn put_trade(table: &mut [u64], place: usize, trade: Trade)
+    ensures { λ _. ⌜ (tradesOf (now (table .exit)) ≡ set (tradesOf (now (table .entry))) place trade) × ((k : ℕ) → capacity (now (table .entry)) * 4 ≤ k → getD (now (table .exit)) k 0 ≡ getD (now (table .entry)) k 0) ⌝ }
+{
+    if place < table.len() / 4 {
+        flat::put_trade(table, place, trade);
+    }
+}

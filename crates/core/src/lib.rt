@@ -1,0 +1,40 @@
+// The core: the twelve events on a book and its table in lent numbers.
+
+// The book in numbers: what is small, by value; its rows; and a whole book taken apart and put together.
+pub mod desk;
+pub mod split;
+
+// The calls: one event, headroom and O, a run of encoded events.
+pub mod lent;
+
+// The table, the vault, and what the events share.
+mod chains;
+mod cover;
+mod days;
+mod dispatch;
+mod evening;
+mod figures;
+mod fit;
+mod flat;
+mod held;
+mod line;
+mod nets;
+mod packing;
+mod redemption;
+mod run;
+mod standing;
+mod trades;
+mod vault;
+
+// The events, a file each.
+mod close;
+mod early;
+mod freeze;
+mod funds;
+mod initial;
+mod open;
+mod pay;
+mod pledge;
+mod rate;
+mod size;
+mod withdraw;

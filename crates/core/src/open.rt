@@ -1,0 +1,153 @@
+// 1 Open: goes to the next trading day; on turning terminated every trade is redeemed at its fallback price.
+ghost use mathlib.Core.Path.{_≡_};
+ghost use mathlib.Core.Bool.{true};
+ghost use Prim.Native.Nat.{_≤_};
+ghost use lib.ListN.{length};
+ghost use Rattle.money.specs.Causes.{firstOf};
+ghost use Rattle.rules.specs.Book.{isClosed};
+ghost use Rattle.rules.specs.Days.{following, followed};
+ghost use Rattle.rules.specs.Open.{statusAtOpen, turnsTerminated, openedStanding, netWithFallbacks, openCauses, openedBook, openedTable};
+ghost use Rattle.core.specs.Types.{Normal, NotFailed, FailedOnce};
+ghost use Rattle.core.specs.Flat.{Rows, bookOf, Fits, appliedAt, tradesOf, appliedBy, tableBy};
+use crate::days;
+use crate::desk;
+use crate::desk::Desk;
+use crate::desk::Done;
+use crate::nets;
+use crate::redemption;
+use crate::standing;
+use rules::book::FailedRun;
+use rules::book::Nets;
+use rules::book::Phase;
+use rules::book::ShortRun;
+use rules::book::Standing;
+use rules::book::Status;
+
+// Art. 69: short of collateral, initial trades are not taken from the next day on, and are again once headroom is not below
+// zero; still short two days later, the permission ends.
+fn status_by_short(short: ShortRun) -> Status
+    ensures { λ r. ⌜ r ≡ statusAtOpen Normal NotFailed short ⌝ }
+{
+    match short {
+        ShortRun::NotShort => Status::Normal,
+        ShortRun::ShortOnce => Status::Suspended,
+        ShortRun::ShortTwice => Status::Suspended,
+        ShortRun::ShortThrice => Status::Terminated,
+    }
+}
+
+// Art. 70: a payment failed, initial trades are not taken, whatever else holds them up.
+fn status_after_failure(short: ShortRun) -> Status
+    ensures { λ r. ⌜ r ≡ statusAtOpen Normal FailedOnce short ⌝ }
+{
+    match short {
+        ShortRun::NotShort => Status::Suspended,
+        ShortRun::ShortOnce => Status::Suspended,
+        ShortRun::ShortTwice => Status::Suspended,
+        ShortRun::ShortThrice => Status::Terminated,
+    }
+}
+
+// Art. 70: a payment failed two days in a row ends the permission.
+fn status_by_runs(failed: FailedRun, short: ShortRun) -> Status
+    ensures { λ r. ⌜ r ≡ statusAtOpen Normal failed short ⌝ }
+{
+    match failed {
+        FailedRun::NotFailed => status_by_short(short),
+        FailedRun::FailedOnce => status_after_failure(short),
+        FailedRun::FailedTwice => Status::Terminated,
+    }
+}
+
+// A permission that has ended stays so.
+fn status_at_open(status: Status, failed: FailedRun, short: ShortRun) -> Status
+    ensures { λ r. ⌜ r ≡ statusAtOpen status failed short ⌝ }
+{
+    match status {
+        Status::Normal => status_by_runs(failed, short),
+        Status::Suspended => status_by_runs(failed, short),
+        Status::Terminated => Status::Terminated,
+    }
+}
+
+fn opened_standing(calendar: &[u32], standing: Standing) -> Standing
+    requires { ⌜ length (now calendar) ≤ 1200 ⌝ }
+    ensures { λ r. ⌜ r ≡ openedStanding (now (calendar .entry)) standing ⌝ }
+{
+    let day = standing.day;
+    let status = standing.status;
+    let failed = standing.failed;
+    let short = standing.short;
+    Standing {
+        day: days::next_day(calendar, day),
+        phase: Phase::Trading,
+        status: status_at_open(status, failed, short),
+        failed,
+        short,
+    }
+}
+
+// Whether the firm turns terminated between two standings.
+fn turns_terminated(before: Standing, after: Standing) -> bool
+    requires { ⌜ after .status ≡ statusAtOpen (before .status) (before .failed) (before .short) ⌝ }
+    ensures { λ r. ⌜ r ≡ turnsTerminated before ⌝ }
+{
+    if standing::is_terminated(before) {
+        return false;
+    }
+    standing::is_terminated(after)
+}
+
+// Art. 72: every trade is redeemed whole at its fallback price on the day opened, into the cleared net.
+fn with_fallbacks(calendar: &[u32], desk: Desk, table: &[u64], after: Standing) -> Nets
+    requires { ⌜ (Fits (now calendar) desk (tradesOf (now table))) × (length (now calendar) ≤ 1200) ⌝ }
+    requires { ⌜ (followed (now calendar) (following (now calendar) (desk .standing .day)) ≡ true) × (after ≡ openedStanding (now calendar) (desk .standing)) ⌝ }
+    ensures { λ r. ⌜ ((rows : Rows) → r ≡ record { today = desk .nets .today; cleared = netWithFallbacks (now (calendar .entry)) (bookOf desk rows) (tradesOf (now (table .entry))) }) ⌝ }
+{
+    let nets = desk.nets;
+    let day = after.day;
+    let payment = days::payment_day(calendar, day);
+    let amount = redemption::fallback_total(table, desk.trades, payment);
+    nets::cleared_plus(nets, amount)
+}
+
+// On turning terminated the table is emptied, unless the net would leave its limit.
+fn terminated(calendar: &[u32], desk: Desk, table: &mut [u64], after: Standing) -> Done
+    requires { ⌜ (Fits (now calendar) desk (tradesOf (now table))) × (length (now calendar) ≤ 1200) ⌝ }
+    requires { ⌜ (followed (now calendar) (following (now calendar) (desk .standing .day)) ≡ true) × (after ≡ openedStanding (now calendar) (desk .standing)) ⌝ }
+    requires { ⌜ (isClosed (desk .standing .phase) ≡ true) × (turnsTerminated (desk .standing) ≡ true) ⌝ }
+    ensures { λ r. ⌜ ((rows : Rows) → (appliedAt r rows ≡ appliedBy (firstOf (openCauses (now (calendar .entry)) (bookOf desk rows) (tradesOf (now (table .entry))))) (bookOf desk rows) (openedBook (now (calendar .entry)) (bookOf desk rows) (tradesOf (now (table .entry))))) × (tradesOf (now (table .exit)) ≡ tableBy (firstOf (openCauses (now (calendar .entry)) (bookOf desk rows) (tradesOf (now (table .entry))))) (tradesOf (now (table .entry))) (openedTable (bookOf desk rows) (tradesOf (now (table .entry)))))) ⌝ }
+{
+    let nets = with_fallbacks(calendar, desk, &*table, after);
+    if !nets::cleared_fit(nets) {
+        return desk::answered(14, desk);
+    }
+    // every due day has 32 bits, so every trade is due by the last of them
+    redemption::redeem_due(table, desk.trades, 4_294_967_295);
+    let mut next = desk;
+    next.nets = nets;
+    next.standing = after;
+    desk::answered(0, next)
+}
+
+pub fn open(calendar: &[u32], desk: Desk, table: &mut [u64]) -> Done
+    requires { ⌜ (Fits (now calendar) desk (tradesOf (now table))) × (length (now calendar) ≤ 1200) ⌝ }
+    ensures { λ r. ⌜ ((rows : Rows) → (appliedAt r rows ≡ appliedBy (firstOf (openCauses (now (calendar .entry)) (bookOf desk rows) (tradesOf (now (table .entry))))) (bookOf desk rows) (openedBook (now (calendar .entry)) (bookOf desk rows) (tradesOf (now (table .entry))))) × (tradesOf (now (table .exit)) ≡ tableBy (firstOf (openCauses (now (calendar .entry)) (bookOf desk rows) (tradesOf (now (table .entry))))) (tradesOf (now (table .entry))) (openedTable (bookOf desk rows) (tradesOf (now (table .entry)))))) ⌝ }
+{
+    let standing = desk.standing;
+    if !standing::is_closed(standing) {
+        return desk::answered(4, desk);
+    }
+    let day = standing.day;
+    // before 14: that one does not apply where this one does
+    if !days::opens(calendar, day) {
+        return desk::answered(16, desk);
+    }
+    let after = opened_standing(calendar, standing);
+    if turns_terminated(standing, after) {
+        return terminated(calendar, desk, table, after);
+    }
+    let mut next = desk;
+    next.standing = after;
+    desk::answered(0, next)
+}

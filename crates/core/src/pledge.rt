@@ -1,0 +1,94 @@
+// 4 Pledge: units arrive, and count from the next close.
+ghost use mathlib.Core.Path.{_≡_};
+ghost use mathlib.Core.Bool.{true};
+ghost use mathlib.Core.List.{List};
+ghost use Prim.Native.Nat.{ℕ, _+_, _<_, _≤_};
+ghost use lib.ListN.{length, set};
+ghost use Rattle.money.specs.Causes.{firstOf, numberOf};
+ghost use Rattle.rules.specs.Fit.{cashFit, securitiesFit};
+ghost use Rattle.rules.specs.Pledge.{pledgeCauses, pledged, arrived, cashArrived};
+ghost use Rattle.core.specs.Flat.{securityIn, securitiesOf, vaultOf, rowsOf, bookOf, appliedBy, appliedAt};
+use crate::desk;
+use crate::desk::Desk;
+use crate::desk::Done;
+use crate::held;
+use crate::standing;
+use money::units::Fen;
+use rules::book::Guarantee;
+
+// The units of a security, effective and arriving together.
+fn units_of(held: &[u64], guarantee: Guarantee, kind: u8) -> u64
+    requires { ⌜ (kind < 32) × (length (now held) ≡ 128) × (securitiesFit (vaultOf guarantee (securitiesOf (now held))) ≡ true) ⌝ }
+    ensures { λ r. ⌜ r ≡ securityIn (now (held .entry)) kind .effective + securityIn (now (held .entry)) kind .arriving ⌝ }
+{
+    let security = held::security_at(held, kind as usize);
+    security.effective + security.arriving
+}
+
+fn pledge_refusal(desk: Desk, held: &[u64], kind: u8, units: u64) -> u8
+    requires { ⌜ (length (now held) ≡ 128) × (securitiesFit (vaultOf (desk .guarantee) (securitiesOf (now held))) ≡ true) ⌝ }
+    ensures { λ r. ⌜ ((kinds amounts : List ℕ) → r ≡ numberOf (firstOf (pledgeCauses (bookOf desk (rowsOf (now (held .entry)) kinds amounts)) kind units))) ⌝ }
+{
+    if kind > 32 {
+        return 3;
+    }
+    let standing = desk.standing;
+    if !standing::is_trading(standing) {
+        return 4;
+    }
+    if units == 0 {
+        return 7;
+    }
+    if kind == 32 {
+        if desk.cash.own.0 < units {
+            return 13;
+        }
+        return 0;
+    }
+    let guarantee = desk.guarantee;
+    if 1_000_000_000_000 - units_of(held, guarantee, kind) < units {
+        return 14;
+    }
+    0
+}
+
+fn put_arrived(held: &mut [u64], kind: u8, units: u64)
+    requires { ⌜ (kind < 32) × (length (now held) ≡ 128) × (securityIn (now held) kind .arriving + units ≤ 1000000000000) ⌝ }
+    ensures { λ _. ⌜ securitiesOf (now (held .exit)) ≡ set (securitiesOf (now (held .entry))) kind (arrived units (securityIn (now (held .entry)) kind)) ⌝ }
+{
+    let at = kind as usize;
+    let mut security = held::security_at(&*held, at);
+    security.arriving = security.arriving + units;
+    held::put_security(held, at, security);
+}
+
+fn cash_arrived(guarantee: Guarantee, units: u64) -> Guarantee
+    requires { ⌜ guarantee .arriving .0 + units ≤ 10000000000000000 ⌝ }
+    ensures { λ r. ⌜ r ≡ cashArrived units guarantee ⌝ }
+{
+    Guarantee {
+        effective: Fen(guarantee.effective.0),
+        arriving: Fen(guarantee.arriving.0 + units),
+        frozen: Fen(guarantee.frozen.0),
+    }
+}
+
+pub fn pledge(desk: Desk, held: &mut [u64], kind: u8, units: u64) -> Done
+    requires { ⌜ (length (now held) ≡ 128) × (securitiesFit (vaultOf (desk .guarantee) (securitiesOf (now held))) ≡ true) × (cashFit (desk .cash) (desk .guarantee) ≡ true) ⌝ }
+    ensures { λ r. ⌜ ((kinds amounts : List ℕ) → appliedAt r (rowsOf (now (held .exit)) kinds amounts) ≡ appliedBy (firstOf (pledgeCauses (bookOf desk (rowsOf (now (held .entry)) kinds amounts)) kind units)) (bookOf desk (rowsOf (now (held .entry)) kinds amounts)) (pledged (bookOf desk (rowsOf (now (held .entry)) kinds amounts)) kind units)) ⌝ }
+{
+    let refusal = pledge_refusal(desk, &*held, kind, units);
+    if refusal != 0 {
+        return desk::answered(refusal, desk);
+    }
+    if kind == 32 {
+        let own = desk.cash.own.0 - units;
+        let guarantee = desk.guarantee;
+        let mut next = desk;
+        next.cash.own.0 = own;
+        next.guarantee = cash_arrived(guarantee, units);
+        return desk::answered(0, next);
+    }
+    put_arrived(held, kind, units);
+    desk::answered(0, desk)
+}

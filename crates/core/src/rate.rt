@@ -1,0 +1,39 @@
+// 5 Rate: sets a security's rate.
+ghost use mathlib.Core.Path.{_≡_};
+ghost use mathlib.Core.List.{List};
+ghost use Prim.Native.Nat.{ℕ};
+ghost use lib.ListN.{length};
+ghost use Rattle.money.specs.Causes.{firstOf, numberOf};
+ghost use Rattle.rules.specs.Rate.{rateCauses, rated};
+ghost use Rattle.core.specs.Flat.{rowsOf, bookOf, appliedBy, appliedAt};
+use crate::desk;
+use crate::desk::Desk;
+use crate::desk::Done;
+use crate::held;
+
+fn rate_refusal(kind: u8, rate: u64) -> u8
+    ensures { λ r. ⌜ r ≡ numberOf (firstOf (rateCauses kind rate)) ⌝ }
+{
+    if kind >= 32 {
+        return 3;
+    }
+    if rate > 20_000 {
+        return 14;
+    }
+    0
+}
+
+pub fn set_rate(desk: Desk, held: &mut [u64], kind: u8, rate: u64) -> Done
+    requires { ⌜ length (now held) ≡ 128 ⌝ }
+    ensures { λ r. ⌜ ((kinds units : List ℕ) → appliedAt r (rowsOf (now (held .exit)) kinds units) ≡ appliedBy (firstOf (rateCauses kind rate)) (bookOf desk (rowsOf (now (held .entry)) kinds units)) (rated (bookOf desk (rowsOf (now (held .entry)) kinds units)) kind rate)) ⌝ }
+{
+    let refusal = rate_refusal(kind, rate);
+    if refusal != 0 {
+        return desk::answered(refusal, desk);
+    }
+    let at = kind as usize;
+    let mut security = held::security_at(&*held, at);
+    security.rate = rate;
+    held::put_security(held, at, security);
+    desk::answered(0, desk)
+}

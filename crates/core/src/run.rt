@@ -1,0 +1,107 @@
+// Encoded events put to a book, one after the other, over the core's table.
+ghost use mathlib.Core.Path.{_≡_};
+ghost use mathlib.Core.Bool.{true};
+ghost use Prim.Native.Nat.{_+_, _*_, _/_, _≤_};
+ghost use lib.ListN.{length};
+ghost use lib.Seq.{sets};
+ghost use Rattle.rules.specs.Fit.{fit};
+ghost use Rattle.rules.specs.Entry.{decoded};
+ghost use Rattle.rules.specs.Step.{step};
+ghost use Rattle.rules.specs.Listing.{lineOf, runDone};
+ghost use Rattle.core.specs.Flat.{rowsOf, bookOf, tradesOf};
+ghost use Rattle.core.specs.Figures.{figuresAt};
+use crate::cover;
+use crate::desk::Desk;
+use crate::dispatch;
+use crate::figures;
+use crate::figures::Figures;
+use crate::line;
+
+// What an event of a run leaves: the desk, and O and V for the next.
+struct Turn {
+    desk: Desk,
+    figures: Figures,
+}
+
+// One event's bytes on a book, and the line of what it leaves.
+fn run_event(
+    calendar: &[u32],
+    bytes: &[u8],
+    desk: Desk,
+    held: &mut [u64],
+    kinds: &mut [u8],
+    units: &mut [u64],
+    table: &mut [u64],
+    figures: Figures,
+    lines: &mut [u64],
+    at: usize,
+) -> Turn
+    requires { ⌜ (length (now held) ≡ 128) × (length (now kinds) ≡ 128) × (length (now units) ≡ 128) × (length (now calendar) ≤ 1200) × (fit (now calendar) (bookOf desk (rowsOf (now held) (now kinds) (now units))) (tradesOf (now table)) ≡ true) × (figures ≡ figuresAt desk (now held) (tradesOf (now table))) × (at + 7 ≤ length (now lines)) ⌝ }
+    ensures { λ r. ⌜ (bookOf (r .desk) (rowsOf (now (held .exit)) (now (kinds .exit)) (now (units .exit))) ≡ step (now (calendar .entry)) (bookOf desk (rowsOf (now (held .entry)) (now (kinds .entry)) (now (units .entry)))) (tradesOf (now (table .entry))) (decoded (now (bytes .entry))) .book) × (tradesOf (now (table .exit)) ≡ step (now (calendar .entry)) (bookOf desk (rowsOf (now (held .entry)) (now (kinds .entry)) (now (units .entry)))) (tradesOf (now (table .entry))) (decoded (now (bytes .entry))) .table) × (now (lines .exit) ≡ sets (now (lines .entry)) at (lineOf (step (now (calendar .entry)) (bookOf desk (rowsOf (now (held .entry)) (now (kinds .entry)) (now (units .entry)))) (tradesOf (now (table .entry))) (decoded (now (bytes .entry)))))) × (r .figures ≡ figuresAt (r .desk) (now (held .exit)) (tradesOf (now (table .exit)))) ⌝ }
+{
+    let entry = decoder::entry::decode(bytes);
+    let done = dispatch::entry_on(
+        calendar,
+        desk,
+        held,
+        kinds,
+        units,
+        table,
+        figures.outstanding,
+        entry,
+    );
+    let answer = done.answer;
+    let after = done.desk;
+    let next = figures::figures_after(
+        calendar,
+        figures,
+        entry,
+        answer.number,
+        after,
+        &*held,
+        &*table,
+    );
+    let cover = cover::cover_from(after.size.0, next);
+    line::write_line(lines, at, answer.number, cover, after.cash, after.guarantee);
+    Turn {
+        desk: after,
+        figures: next,
+    }
+}
+
+// The events in order on a fit book.
+pub fn run_events(
+    calendar: &[u32],
+    desk: Desk,
+    held: &mut [u64],
+    kinds: &mut [u8],
+    units: &mut [u64],
+    table: &mut [u64],
+    events: &[u8],
+    lines: &mut [u64],
+) -> Desk
+    requires { ⌜ (length (now held) ≡ 128) × (length (now kinds) ≡ 128) × (length (now units) ≡ 128) × (length (now calendar) ≤ 1200) × (fit (now calendar) (bookOf desk (rowsOf (now held) (now kinds) (now units))) (tradesOf (now table)) ≡ true) × (7 * (length (now events) / 40) ≤ length (now lines)) ⌝ }
+    ensures { λ r. ⌜ (bookOf r (rowsOf (now (held .exit)) (now (kinds .exit)) (now (units .exit))) ≡ runDone (now (calendar .entry)) (bookOf desk (rowsOf (now (held .entry)) (now (kinds .entry)) (now (units .entry)))) (tradesOf (now (table .entry))) (now (events .entry)) (now (lines .entry)) .ran .book) × (tradesOf (now (table .exit)) ≡ runDone (now (calendar .entry)) (bookOf desk (rowsOf (now (held .entry)) (now (kinds .entry)) (now (units .entry)))) (tradesOf (now (table .entry))) (now (events .entry)) (now (lines .entry)) .table) × (now (lines .exit) ≡ runDone (now (calendar .entry)) (bookOf desk (rowsOf (now (held .entry)) (now (kinds .entry)) (now (units .entry)))) (tradesOf (now (table .entry))) (now (events .entry)) (now (lines .entry)) .lines) ⌝ }
+{
+    let count = events.len() / 40;
+    let figures = figures::figures_of(calendar, desk, &*held, &*table);
+    let mut turn = Turn { desk, figures };
+    let mut k = 0;
+    while k < count {
+        let bytes = &events[k * 40..k * 40 + 40];
+        turn = run_event(
+            calendar,
+            bytes,
+            turn.desk,
+            held,
+            kinds,
+            units,
+            table,
+            turn.figures,
+            lines,
+            k * 7,
+        );
+        k += 1;
+    }
+    turn.desk
+}

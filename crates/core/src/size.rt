@@ -1,0 +1,37 @@
+// 4 Size: sets S.
+ghost use mathlib.Core.Path.{_≡_};
+ghost use mathlib.Core.List.{List};
+ghost use Rattle.money.specs.Causes.{firstOf, numberOf};
+ghost use Rattle.rules.specs.Vault.{outstandingOf};
+ghost use Rattle.rules.specs.Size.{sizeCauses, sized};
+ghost use Rattle.core.specs.Types.{Book, Trade};
+ghost use Rattle.core.specs.Flat.{Rows, bookOf, appliedBy, appliedAt};
+ghost use Rattle.core.specs.Figures.{outstandingAt};
+use crate::desk;
+use crate::desk::Desk;
+use crate::desk::Done;
+use money::units::Sheets;
+
+fn size_refusal(outstanding: u64, size: Sheets) -> u8
+    ensures { λ r. ⌜ ((book : Book) (table : List Trade) → outstanding ≡ outstandingOf book table → r ≡ numberOf (firstOf (sizeCauses book table size))) ⌝ }
+{
+    if size.0 > 10_000_000_000 {
+        return 14;
+    }
+    if size.0 < outstanding {
+        return 15;
+    }
+    0
+}
+
+pub fn set_size(desk: Desk, outstanding: u64, size: Sheets) -> Done
+    ensures { λ r. ⌜ ((rows : Rows) (table : List Trade) → outstanding ≡ outstandingAt desk table → appliedAt r rows ≡ appliedBy (firstOf (sizeCauses (bookOf desk rows) table size)) (bookOf desk rows) (sized (bookOf desk rows) size)) ⌝ }
+{
+    let refusal = size_refusal(outstanding, size);
+    if refusal != 0 {
+        return desk::answered(refusal, desk);
+    }
+    let mut next = desk;
+    next.size = size;
+    desk::answered(0, next)
+}

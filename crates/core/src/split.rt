@@ -1,0 +1,103 @@
+// A book taken apart into a desk and rows, and put together again: once a call, not once an event.
+ghost use mathlib.Core.Path.{_≡_};
+ghost use lib.ListN.{length};
+ghost use Rattle.core.specs.Flat.{securitiesOf, deskOf, rowsOf, bookOf};
+use crate::desk::Desk;
+use crate::held;
+use rules::book::Book;
+use rules::book::Security;
+use rules::book::Vault;
+use rules::book::Withdrawals;
+
+pub fn desk_of(book: Book) -> Desk
+    ensures { λ r. ⌜ r ≡ deskOf book ⌝ }
+{
+    let nets = book.nets;
+    let cash = book.cash;
+    let guarantee = book.vault.guarantee;
+    let size = book.size;
+    let standing = book.standing;
+    Desk {
+        nets,
+        cash,
+        guarantee,
+        size,
+        standing,
+        applications: book.withdrawals.count,
+        trades: book.trades,
+    }
+}
+
+fn fill_held(vault: Vault, held: &mut [u64])
+    requires { ⌜ length (now held) ≡ 128 ⌝ }
+    ensures { λ _. ⌜ securitiesOf (now (held .exit)) ≡ vault .securities ⌝ }
+{
+    let mut kind = 0;
+    while kind < 32 {
+        held::put_security(held, kind, vault.securities[kind]);
+        kind += 1;
+    }
+}
+
+pub fn held_of(vault: Vault) -> [u64; 128]
+    ensures { λ r. ⌜ securitiesOf r ≡ vault .securities ⌝ }
+{
+    let mut held = [0; 128];
+    fill_held(vault, &mut held);
+    held
+}
+
+pub fn kinds_of(withdrawals: Withdrawals) -> [u8; 128]
+    ensures { λ r. ⌜ r ≡ withdrawals .kinds ⌝ }
+{
+    withdrawals.kinds
+}
+
+pub fn units_of(withdrawals: Withdrawals) -> [u64; 128]
+    ensures { λ r. ⌜ r ≡ withdrawals .units ⌝ }
+{
+    withdrawals.units
+}
+
+fn securities_from(held: &[u64; 128]) -> [Security; 32]
+    ensures { λ r. ⌜ r ≡ securitiesOf (now (held .entry)) ⌝ }
+{
+    let mut securities = [Security {
+        effective: 0,
+        arriving: 0,
+        frozen: 0,
+        rate: 0,
+    }; 32];
+    let mut kind = 0;
+    while kind < 32 {
+        securities[kind] = held::security_at(held, kind);
+        kind += 1;
+    }
+    securities
+}
+
+pub fn book_of(desk: Desk, held: &[u64; 128], kinds: [u8; 128], units: [u64; 128]) -> Book
+    ensures { λ r. ⌜ r ≡ bookOf desk (rowsOf (now (held .entry)) kinds units) ⌝ }
+{
+    let nets = desk.nets;
+    let cash = desk.cash;
+    let guarantee = desk.guarantee;
+    let size = desk.size;
+    let standing = desk.standing;
+    Book {
+        nets,
+        cash,
+        vault: Vault {
+            guarantee,
+            securities: securities_from(held),
+        },
+        size,
+        standing,
+        withdrawals: Withdrawals {
+            kinds,
+            units,
+            count: desk.applications,
+        },
+        trades: desk.trades,
+    }
+}

@@ -1,0 +1,169 @@
+// What is counted and tested over the trades in use.
+ghost use mathlib.Core.Path.{_≡_};
+ghost use Prim.Native.Nat.{_+_, _*_, _≤_, _<_, max};
+ghost use lib.ListN.{length};
+ghost use Rattle.rules.specs.Trades.{outstanding, differ};
+ghost use Rattle.rules.specs.Fit.{tradeFit};
+ghost use Rattle.core.specs.Flat.{tradeAt, tradesTo, placeOf, contractNumbers, Kept};
+ghost use Rattle.core.specs.Figures.{gatheredOf};
+use crate::chains;
+use crate::chains::Told;
+use crate::flat;
+use rules::trade::Contract;
+use sort::order;
+
+// O, the sheets left on the table.
+pub fn outstanding_of(table: &[u64], count: usize) -> u64
+    requires { ⌜ Kept (now table) count ⌝ }
+    ensures { λ r. ⌜ r ≡ outstanding (tradesTo (now (table .entry)) count) ⌝ }
+{
+    let mut sum = 0;
+    let mut place = 0;
+    while place < count {
+        sum += flat::sheets_at(table, place);
+        place += 1;
+    }
+    sum
+}
+
+// Where a contract's trade stands, or the count where it is not on the table.
+pub fn place_of(table: &[u64], count: usize, contract: Contract) -> usize
+    requires { ⌜ count * 4 ≤ length (now table) ⌝ }
+    ensures { λ r. ⌜ r ≡ placeOf contract (tradesTo (now (table .entry)) count) ⌝ }
+{
+    let mut i = 0;
+    while i < count {
+        if flat::same_contract(flat::contract_at(table, i), contract) {
+            return i;
+        }
+        i += 1;
+    }
+    count
+}
+
+// No contract stands before its own place: each is searched, which for few trades is as fast as to sort.
+fn few_differ(table: &[u64], count: usize) -> bool
+    requires { ⌜ count * 4 ≤ length (now table) ⌝ }
+    ensures { λ r. ⌜ r ≡ differ (tradesTo (now (table .entry)) count) ⌝ }
+{
+    let mut i = 0;
+    while i < count {
+        if place_of(table, i, flat::contract_at(table, i)) < i {
+            return false;
+        }
+        i += 1;
+    }
+    true
+}
+
+fn contract_numbers(table: &[u64], count: usize, numbers: &mut [u64])
+    requires { ⌜ (count * 4 ≤ length (now table)) × (length (now numbers) ≡ count) ⌝ }
+    ensures { λ _. ⌜ now (numbers .exit) ≡ contractNumbers (tradesTo (now (table .entry)) count) ⌝ }
+{
+    let mut i = 0;
+    while i < count {
+        let contract = flat::contract_at(table, i);
+        numbers[i] = contract.0;
+        i += 1;
+    }
+}
+
+// Sorted, numbers that stand twice are neighbours.
+fn numbers_differ(table: &[u64], count: usize, numbers: &mut [u64]) -> bool
+    requires { ⌜ (count * 4 ≤ length (now table)) × (count ≤ 4096) × (length (now numbers) ≡ count) ⌝ }
+    ensures { λ r. ⌜ r ≡ differ (tradesTo (now (table .entry)) count) ⌝ }
+{
+    contract_numbers(table, count, numbers);
+    order::sort(numbers);
+    order::neighbours_differ(numbers)
+}
+
+fn sorted_differ(table: &[u64], count: usize) -> bool
+    requires { ⌜ (count * 4 ≤ length (now table)) × (count ≤ 4096) ⌝ }
+    ensures { λ r. ⌜ r ≡ differ (tradesTo (now (table .entry)) count) ⌝ }
+{
+    let mut numbers = [0; 4096];
+    numbers_differ(table, count, &mut numbers[..count])
+}
+
+// By chains, which most contracts keep short; where they do not, sorted.
+fn many_differ(table: &[u64], count: usize) -> bool
+    requires { ⌜ (count * 4 ≤ length (now table)) × (count ≤ 4096) ⌝ }
+    ensures { λ r. ⌜ r ≡ differ (tradesTo (now (table .entry)) count) ⌝ }
+{
+    let mut heads: [u16; 8191] = [0; 8191];
+    let mut next: [u16; 4096] = [0; 4096];
+    match chains::linked_differ(table, count, &mut heads, &mut next) {
+        Told::Differs => true,
+        Told::Repeats => false,
+        Told::Nothing => sorted_differ(table, count),
+    }
+}
+
+// No contract stands twice.
+pub fn contracts_differ(table: &[u64], count: usize) -> bool
+    requires { ⌜ (count * 4 ≤ length (now table)) × (count ≤ 4096) ⌝ }
+    ensures { λ r. ⌜ r ≡ differ (tradesTo (now (table .entry)) count) ⌝ }
+{
+    if count <= 32 {
+        return few_differ(table, count);
+    }
+    many_differ(table, count)
+}
+
+fn trade_fits(table: &[u64], place: usize) -> bool
+    requires { ⌜ place * 4 + 3 < length (now table) ⌝ }
+    ensures { λ r. ⌜ r ≡ tradeFit (tradeAt (now (table .entry)) place) ⌝ }
+{
+    if flat::sheets_at(table, place) > 100_000_000 {
+        return false;
+    }
+    let price = flat::price_at(table, place);
+    if price.0 > 100_000 {
+        return false;
+    }
+    let fallback = flat::fallback_at(table, place);
+    fallback.0 <= 100_000
+}
+
+fn later(a: u32, b: u32) -> u32
+    ensures { λ r. ⌜ r ≡ max a b ⌝ }
+{
+    if a < b {
+        return b;
+    }
+    a
+}
+
+// What one walk tells: whether each trade is within its limits, and if so O and the latest first payment day.
+pub struct Gathered {
+    pub fit: bool,
+    pub outstanding: u64,
+    pub latest: u32,
+}
+
+pub fn gather(table: &[u64], count: usize) -> Gathered
+    requires { ⌜ (count * 4 ≤ length (now table)) × (count ≤ 4096) ⌝ }
+    ensures { λ r. ⌜ r ≡ gatheredOf (tradesTo (now (table .entry)) count) ⌝ }
+{
+    let mut outstanding = 0;
+    let mut latest = 0;
+    let mut i = 0;
+    while i < count {
+        if !trade_fits(table, i) {
+            return Gathered {
+                fit: false,
+                outstanding: 0,
+                latest: 0,
+            };
+        }
+        outstanding += flat::sheets_at(table, i);
+        latest = later(latest, flat::first_at(table, i));
+        i += 1;
+    }
+    Gathered {
+        fit: true,
+        outstanding,
+        latest,
+    }
+}

@@ -1,0 +1,89 @@
+// 8 Withdraw: puts an application down for the evening.
+ghost use mathlib.Core.Path.{_≡_};
+ghost use mathlib.Core.Bool.{true};
+ghost use Prim.Native.Nat.{_+_, _≤_};
+ghost use lib.Dec.{ltb};
+ghost use lib.ListN.{length};
+ghost use Rattle.money.specs.Causes.{firstOf, numberOf};
+ghost use Rattle.rules.specs.Fit.{withdrawalsFit, securitiesFit, cashFit};
+ghost use Rattle.rules.specs.Vault.{effectiveOf, frozenOf};
+ghost use Rattle.rules.specs.Withdraw.{applied, withdrawCauses, withdrawn};
+ghost use Rattle.core.specs.Flat.{rowsOf, bookOf, appliedBy, appliedAt};
+use crate::desk;
+use crate::desk::Desk;
+use crate::desk::Done;
+use crate::standing;
+use crate::vault;
+
+// Whether the units, with those frozen and applied for, are above the effective. The units are tested first: any number may be applied for, and the sum of the three is then below 2^64.
+fn lacks(desk: Desk, held: &[u64], kinds: &[u8], units: &[u64], kind: u8, amount: u64) -> bool
+    requires { ⌜ (length (now held) ≡ 128) × (length (now kinds) ≡ 128) × (length (now units) ≡ 128) × (kind ≤ 32) ⌝ }
+    requires { ⌜ (withdrawalsFit (bookOf desk (rowsOf (now held) (now kinds) (now units)) .withdrawals) ≡ true) × (securitiesFit (bookOf desk (rowsOf (now held) (now kinds) (now units)) .vault) ≡ true) × (cashFit (desk .cash) (desk .guarantee) ≡ true) ⌝ }
+    ensures { λ r. ⌜ r ≡ ltb (effectiveOf (bookOf desk (rowsOf (now (held .entry)) (now (kinds .entry)) (now (units .entry))) .vault) kind) (amount + frozenOf (bookOf desk (rowsOf (now (held .entry)) (now (kinds .entry)) (now (units .entry))) .vault) kind + applied (bookOf desk (rowsOf (now (held .entry)) (now (kinds .entry)) (now (units .entry))) .withdrawals) kind) ⌝ }
+{
+    let guarantee = desk.guarantee;
+    let effective = vault::effective_of(held, guarantee, kind);
+    if effective < amount {
+        return true;
+    }
+    let frozen = vault::frozen_of(held, guarantee, kind);
+    effective < amount + frozen + vault::applied_of(kinds, units, desk.applications, kind)
+}
+
+fn withdraw_refusal(
+    desk: Desk,
+    held: &[u64],
+    kinds: &[u8],
+    units: &[u64],
+    kind: u8,
+    amount: u64,
+) -> u8
+    requires { ⌜ (length (now held) ≡ 128) × (length (now kinds) ≡ 128) × (length (now units) ≡ 128) ⌝ }
+    requires { ⌜ (withdrawalsFit (bookOf desk (rowsOf (now held) (now kinds) (now units)) .withdrawals) ≡ true) × (securitiesFit (bookOf desk (rowsOf (now held) (now kinds) (now units)) .vault) ≡ true) × (cashFit (desk .cash) (desk .guarantee) ≡ true) ⌝ }
+    ensures { λ r. ⌜ r ≡ numberOf (firstOf (withdrawCauses (bookOf desk (rowsOf (now (held .entry)) (now (kinds .entry)) (now (units .entry)))) kind amount)) ⌝ }
+{
+    if kind > 32 {
+        return 3;
+    }
+    let standing = desk.standing;
+    if !standing::is_trading(standing) {
+        return 4;
+    }
+    if standing::is_terminated(standing) {
+        return 5;
+    }
+    if amount == 0 {
+        return 7;
+    }
+    if lacks(desk, held, kinds, units, kind, amount) {
+        return 13;
+    }
+    if desk.applications >= 128 {
+        return 17;
+    }
+    0
+}
+
+pub fn withdraw(
+    desk: Desk,
+    held: &[u64],
+    kinds: &mut [u8],
+    units: &mut [u64],
+    kind: u8,
+    amount: u64,
+) -> Done
+    requires { ⌜ (length (now held) ≡ 128) × (length (now kinds) ≡ 128) × (length (now units) ≡ 128) ⌝ }
+    requires { ⌜ (withdrawalsFit (bookOf desk (rowsOf (now held) (now kinds) (now units)) .withdrawals) ≡ true) × (securitiesFit (bookOf desk (rowsOf (now held) (now kinds) (now units)) .vault) ≡ true) × (cashFit (desk .cash) (desk .guarantee) ≡ true) ⌝ }
+    ensures { λ r. ⌜ appliedAt r (rowsOf (now (held .entry)) (now (kinds .exit)) (now (units .exit))) ≡ appliedBy (firstOf (withdrawCauses (bookOf desk (rowsOf (now (held .entry)) (now (kinds .entry)) (now (units .entry)))) kind amount)) (bookOf desk (rowsOf (now (held .entry)) (now (kinds .entry)) (now (units .entry)))) (withdrawn (bookOf desk (rowsOf (now (held .entry)) (now (kinds .entry)) (now (units .entry)))) kind amount) ⌝ }
+{
+    let refusal = withdraw_refusal(desk, held, &*kinds, &*units, kind, amount);
+    if refusal != 0 {
+        return desk::answered(refusal, desk);
+    }
+    let at = desk.applications;
+    kinds[at] = kind;
+    units[at] = amount;
+    let mut next = desk;
+    next.applications = at + 1;
+    desk::answered(0, next)
+}

@@ -1,0 +1,12 @@
+use borrow.Author.Needs.{needs}
+use Rattle.exports.proofs.slate.left_by.Statement.{statement}
+use Rattle.exports.proofs.slate.left_by.Tie as tie
+
+slate-of-requires : tie.Need-slate-of-requires
+slate-of-requires c κs = search needs
+
+returns : tie.Need-returns
+returns c = rw (c .slate-of .ensures)
+
+pub left-by-spec : {M : Type 1} → statement M
+left-by-spec = tie.close (tie.spec slate-of-requires returns)

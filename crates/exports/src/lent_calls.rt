@@ -1,0 +1,65 @@
+// A book in lent numbers, changed in place: nothing of it is copied but what is small.
+ghost use mathlib.Core.Path.{_≡_};
+ghost use mathlib.Core.Bool.{false};
+ghost use Rattle.rules.specs.Entry.{decoded};
+ghost use Rattle.rules.specs.Step.{outcome};
+ghost use Rattle.core.specs.Lent.{lent, bookIn, tableIn, isWhole, stepIn, coverIn, runIn};
+ghost use Rattle.exports.specs.Slate.{deskOn, slateOf};
+use crate::slate;
+use crate::slate::Left;
+use crate::slate::RunLeft;
+use crate::slate::Slate;
+use rules::answer::Cover;
+
+// One event, as its 40 bytes.
+#[no_mangle]
+pub extern "C" fn lent_apply(
+    calendar: &[u32],
+    slate: Slate,
+    held: &mut [u64],
+    kinds: &mut [u8],
+    units: &mut [u64],
+    table: &mut [u64],
+    event: &[u8],
+) -> Left
+    ensures { λ r. ⌜ (outcome (r .answer) (bookIn (lent (deskOn (r .slate)) (now (held .exit)) (now (kinds .exit)) (now (units .exit)) (now (table .exit)))) (tableIn (lent (deskOn (r .slate)) (now (held .exit)) (now (kinds .exit)) (now (units .exit)) (now (table .exit)))) ≡ stepIn (now (calendar .entry)) (lent (deskOn slate) (now (held .entry)) (now (kinds .entry)) (now (units .entry)) (now (table .entry))) (decoded (now (event .entry)))) × (r .slate ≡ slateOf (deskOn (r .slate))) × (isWhole (lent (deskOn slate) (now (held .entry)) (now (kinds .entry)) (now (units .entry)) (now (table .entry))) ≡ false → lent (deskOn (r .slate)) (now (held .exit)) (now (kinds .exit)) (now (units .exit)) (now (table .exit)) ≡ lent (deskOn slate) (now (held .entry)) (now (kinds .entry)) (now (units .entry)) (now (table .entry))) ⌝ }
+{
+    let desk = slate::desk_on(slate);
+    let entry = decoder::entry::decode(event);
+    let done = core::lent::apply(calendar, desk, held, kinds, units, table, entry);
+    slate::left_by(done)
+}
+
+// Headroom and O.
+#[no_mangle]
+pub extern "C" fn lent_cover(
+    calendar: &[u32],
+    slate: Slate,
+    held: &[u64],
+    kinds: &[u8],
+    units: &[u64],
+    table: &[u64],
+) -> Cover
+    ensures { λ r. ⌜ r ≡ coverIn (now (calendar .entry)) (lent (deskOn slate) (now (held .entry)) (now (kinds .entry)) (now (units .entry)) (now (table .entry))) ⌝ }
+{
+    core::lent::cover(calendar, slate::desk_on(slate), held, kinds, units, table)
+}
+
+// Encoded events, 40 bytes each, and a line of seven numbers for each.
+#[no_mangle]
+pub extern "C" fn lent_run(
+    calendar: &[u32],
+    slate: Slate,
+    held: &mut [u64],
+    kinds: &mut [u8],
+    units: &mut [u64],
+    table: &mut [u64],
+    events: &[u8],
+    lines: &mut [u64],
+) -> RunLeft
+    ensures { λ r. ⌜ (record { ran = record { number = r .number; book = bookIn (lent (deskOn (r .slate)) (now (held .exit)) (now (kinds .exit)) (now (units .exit)) (now (table .exit))) }; table = tableIn (lent (deskOn (r .slate)) (now (held .exit)) (now (kinds .exit)) (now (units .exit)) (now (table .exit))); lines = now (lines .exit) } ≡ runIn (now (calendar .entry)) (lent (deskOn slate) (now (held .entry)) (now (kinds .entry)) (now (units .entry)) (now (table .entry))) (now (events .entry)) (now (lines .entry))) × (r .slate ≡ slateOf (deskOn (r .slate))) × (isWhole (lent (deskOn slate) (now (held .entry)) (now (kinds .entry)) (now (units .entry)) (now (table .entry))) ≡ false → lent (deskOn (r .slate)) (now (held .exit)) (now (kinds .exit)) (now (units .exit)) (now (table .exit)) ≡ lent (deskOn slate) (now (held .entry)) (now (kinds .entry)) (now (units .entry)) (now (table .entry))) ⌝ }
+{
+    let desk = slate::desk_on(slate);
+    let ended = core::lent::run(calendar, desk, held, kinds, units, table, events, lines);
+    slate::left_by_run(ended)
+}
