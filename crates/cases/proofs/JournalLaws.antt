@@ -1,15 +1,16 @@
--- Rows written as bytes one by one, lines compared number by number, and a listing that is not refused.
+-- Numbers written as bytes one by one, lines compared number by number, and a listing that is not refused.
 -- For the proofs of journal.rt. Assumes nothing.
 use mathlib.Core.Path.{_≡_, refl, sym, ap, _∙_}
-use mathlib.Core.Bool.{Bool, true, false, cond, not}
-use mathlib.Core.List.{List, [], _∷_, _++_, append-assoc, append-nil}
+use mathlib.Core.Bool.{Bool, true, false, not}
+use mathlib.Core.List.{List, [], _∷_, _++_, append-assoc}
 use mathlib.Core.Option.{Option, none}
 use Prim.Native.Nat.{ℕ, zero, suc, _+_, _-_, _*_, _/_, _%_, _≤_, _<_}
 use native.Mathlib.Numerals.{add-one}
 use native.Mathlib.Omega.{arith}
-use borrow.Author.Tests.{le-ltb, lt-ltb, eq-eqb, ne-eqb}
-use lib.ListN.{length, getD, take, drop, set, length-append}
-use lib.Seq.{sets, length-sets, sets-eq, take-at, take-all, take-suc, length-take-le}
+use borrow.Author.Tests.{le-ltb, eq-eqb, ltb-true, ltb-false}
+use lib.Dec.{ltb}
+use lib.ListN.{length, getD, take, drop, set, length-append, List·getD-append}
+use lib.Seq.{sets, length-sets, sets-eq, take-at, take-all, getD-append-add}
 use Rattle.money.specs.Causes.{firstOf}
 use Rattle.money.specs.Days.{Calendar}
 use Rattle.money.proofs.Refusals.{skip, clear}
@@ -22,17 +23,7 @@ use Rattle.rules.specs.Step.{step}
 use Rattle.rules.specs.Run.{run}
 use Rattle.rules.specs.Listing.{journalTable, entriesOf, lineOf, linesOf, listingOf, lengthCauses, listingCauses, writtenBy}
 use Rattle.rules.proofs.FoldLaws.{by-test, both-of, all-at}
-use Rattle.cases.specs.Journal.{byteOf, bytesFrom, eventBytes, bytesOf, sameLines, endsWith}
-
--- ---- a column of early returns
-
-pub here : {test : Bool} {n x : ℕ} (y : ℕ) → test ≡ true → n ≡ x → n ≡ cond test x y
-here y e f = rw e f
-
-pub further : {test : Bool} {n y : ℕ} (x : ℕ) → test ≡ false → n ≡ y → n ≡ cond test x y
-further x e f = rw e f
-
-pub ruleset column = (here, further, refl, le-ltb, lt-ltb, eq-eqb, ne-eqb)
+use Rattle.cases.specs.Journal.{digitOf, digitsFrom, digits, bytesOf, sameNumbers, endsWith}
 
 -- ---- stores in a row
 
@@ -59,20 +50,54 @@ pub record Written (bytes₀ : List ℕ) (at : ℕ) (new bytes : List ℕ) : Typ
 pub written : (bytes₀ : List ℕ) (at : ℕ) (new : List ℕ) {bytes : List ℕ} → bytes ≡ sets bytes₀ at new → Written bytes₀ at new bytes
 written bytes₀ at new e = record { long = ap length e ∙ length-sets bytes₀ at new; told = e }
 
--- ---- an event's bytes
+-- ---- numbers as bytes
 
-pub length-from : (event : List ℕ) (place count : ℕ) → length (bytesFrom event place count) ≡ count
-unfolding bytesFrom
-length-from event place zero = refl
-length-from event place (suc count) = ap suc (length-from event (suc place) count)
+length-digits : (number place count : ℕ) → length (digitsFrom number place count) ≡ count
+unfolding digitsFrom
+length-digits number place zero = refl
+length-digits number place (suc count) = ap suc (length-digits number (suc place) count)
 
-pub byte-at : (event : List ℕ) (place count k : ℕ) → k < count → getD (bytesFrom event place count) k 0 ≡ byteOf event (place + k)
-unfolding bytesFrom
-byte-at event place zero k h = absurd (omega arith)
-byte-at event place (suc count) zero h = let e : place + 0 ≡ place = omega arith in rw e refl
-byte-at event place (suc count) (suc k) h =
+digit-at : (number place count k : ℕ) → k < count → getD (digitsFrom number place count) k 0 ≡ digitOf number (place + k)
+unfolding digitsFrom
+digit-at number place zero k h = absurd (omega arith)
+digit-at number place (suc count) zero h = let e : place + 0 ≡ place = omega arith in rw e refl
+digit-at number place (suc count) (suc k) h =
     let e : place + suc k ≡ suc place + k = omega arith in
-    rw e (byte-at event (suc place) count k (omega arith))
+    rw e (digit-at number (suc place) count k (omega arith))
+
+pub length-bytes : (numbers : List ℕ) → length (bytesOf numbers) ≡ length numbers * 8
+unfolding bytesOf
+length-bytes [] = refl
+length-bytes (number ∷ numbers) =
+    let l : length (digits number ++ bytesOf numbers) ≡ length (digits number) + length (bytesOf numbers) = length-append (digits number) (bytesOf numbers) in
+    omega (arith, length-digits number 0 8, length-bytes numbers)
+
+pub bytes-joined : (earlier numbers : List ℕ) → bytesOf (earlier ++ numbers) ≡ bytesOf earlier ++ bytesOf numbers
+unfolding bytesOf
+bytes-joined [] numbers = refl
+bytes-joined (number ∷ earlier) numbers = rw (bytes-joined earlier numbers) (sym (append-assoc (digits number) (bytesOf earlier) (bytesOf numbers)))
+
+byte-at : (numbers : List ℕ) (k : ℕ) → k < length numbers * 8 → getD (bytesOf numbers) k 0 ≡ digitOf (getD numbers (k / 8) 0) (k % 8)
+unfolding bytesOf
+byte-at [] k h = absurd (omega arith)
+byte-at (number ∷ numbers) k h = by-test
+    (λ _. getD (digits number ++ bytesOf numbers) k 0 ≡ digitOf (getD (number ∷ numbers) (k / 8) 0) (k % 8))
+    (ltb k 8)
+    (λ t.
+    let small : k < 8 = ltb-true k 8 t in
+    let first : k / 8 ≡ 0 = omega arith in
+    let place : k % 8 ≡ 0 + k = omega arith in
+    let short : k < length (digits number) = omega (arith, length-digits number 0 8) in
+    rw (first, place, List·getD-append (digits number) (bytesOf numbers) 0 k short) (digit-at number 0 8 k small))
+    (λ f.
+    let large : 8 ≤ k = ltb-false k 8 f in
+    let after : k ≡ length (digits number) + (k - 8) = omega (arith, length-digits number 0 8) in
+    let next : k / 8 ≡ suc ((k - 8) / 8) = omega arith in
+    let place : k % 8 ≡ (k - 8) % 8 = omega arith in
+    ap (λ n. getD (digits number ++ bytesOf numbers) n 0) after
+    ∙ getD-append-add (digits number) (bytesOf numbers) (k - 8) 0
+    ∙ byte-at numbers (k - 8) (omega arith)
+    ∙ rw (next, place) refl)
 
 -- ---- tests in a row
 
@@ -87,81 +112,40 @@ one-agrees p k h e = rw add-one (both-of (allBelow k p) (p k) h e)
 pub one-differs : (p : ℕ → Bool) (n k : ℕ) → k < n → p k ≡ false → allBelow n p ≡ false
 one-differs p n k h e = by-test (λ x. x ≡ false) (allBelow n p) (λ t. sym (all-at n p t k h) ∙ e) (λ f. refl)
 
--- ---- an event written byte by byte
+-- ---- numbers written byte by byte
 
-pub byte-written : (bytes₀ : List ℕ) (at : ℕ) (event : List ℕ) (place : ℕ) {bytes : List ℕ} {byte : ℕ} → place < 40
-    → Written bytes₀ at (take place (eventBytes event)) bytes → byte ≡ byteOf event place → Written bytes₀ at (take (place + 1) (eventBytes event)) (set bytes (at + place) byte)
-byte-written bytes₀ at event place h w f =
-    let long : length (eventBytes event) ≡ 40 = length-from event 0 40 in
-    let zeroth : 0 + place ≡ place = omega arith in
-    let g : getD (eventBytes event) place 0 ≡ byteOf event place = rw zeroth at (byte-at event 0 40 place h) in
-    written _ _ _ (rw (w .told, f, ← g, add-one) (one-more bytes₀ (eventBytes event) at place (omega arith)))
+pub byte-written : (bytes₀ : List ℕ) (at : ℕ) (numbers : List ℕ) (k : ℕ) {bytes : List ℕ} {byte : ℕ} → k < length numbers * 8
+    → Written bytes₀ at (take k (bytesOf numbers)) bytes → byte ≡ digitOf (getD numbers (k / 8) 0) (k % 8) → Written bytes₀ at (take (k + 1) (bytesOf numbers)) (set bytes (at + k) byte)
+byte-written bytes₀ at numbers k h w f =
+    written _ _ _ (rw (w .told, f, ← byte-at numbers k h, add-one) (one-more bytes₀ (bytesOf numbers) at k (omega (arith, length-bytes numbers))))
 
-pub event-written : (bytes₀ : List ℕ) (at : ℕ) (event : List ℕ) (place : ℕ) {bytes : List ℕ} → 40 ≤ place
-    → Written bytes₀ at (take place (eventBytes event)) bytes → bytes ≡ sets bytes₀ at (eventBytes event)
-event-written bytes₀ at event place h w =
-    let long : length (eventBytes event) ≤ place = omega (arith, length-from event 0 40) in
-    w .told ∙ ap (sets bytes₀ at) (take-all place (eventBytes event) long)
-
--- ---- events written one by one
-
-pub length-bytes : (events : List (List ℕ)) → length (bytesOf events) ≡ length events * 40
-unfolding bytesOf
-length-bytes [] = refl
-length-bytes (event ∷ events) =
-    let l : length (eventBytes event ++ bytesOf events) ≡ length (eventBytes event) + length (bytesOf events) = length-append (eventBytes event) (bytesOf events) in
-    omega (arith, length-from event 0 40, length-bytes events)
-
-pub bytes-joined : (earlier events : List (List ℕ)) → bytesOf (earlier ++ events) ≡ bytesOf earlier ++ bytesOf events
-unfolding bytesOf
-bytes-joined [] events = refl
-bytes-joined (event ∷ earlier) events = rw (bytes-joined earlier events) (sym (append-assoc (eventBytes event) (bytesOf earlier) (bytesOf events)))
-
-bytes-of-one : (event : List ℕ) → bytesOf (event ∷ []) ≡ eventBytes event
-unfolding bytesOf
-bytes-of-one event = append-nil (eventBytes event)
-
-no-bytes : bytesOf [] ≡ []
-unfolding bytesOf
-no-bytes = refl
-
-pub none-written : (bytes : List ℕ) (at : ℕ) (events : List (List ℕ)) → Written bytes at (bytesOf (take 0 events)) bytes
-none-written bytes at events = written _ _ _ (rw no-bytes refl)
-
-pub one-event-more : (bytes₀ : List ℕ) (at : ℕ) (events : List (List ℕ)) (k : ℕ) {bytes bytes′ : List ℕ} → k < length events
-    → Written bytes₀ at (bytesOf (take k events)) bytes → bytes′ ≡ sets bytes (at + k * 40) (eventBytes (getD events k [])) → Written bytes₀ at (bytesOf (take (k + 1) events)) bytes′
-one-event-more bytes₀ at events k h w e =
-    let short : length (take k events) ≡ k = length-take-le k events (omega arith) in
-    let long : length (bytesOf (take k events)) ≡ k * 40 = length-bytes (take k events) ∙ ap (λ n. n * 40) short in
-    let grown : bytesOf (take (k + 1) events) ≡ bytesOf (take k events) ++ eventBytes (getD events k []) =
-    rw (add-one, take-suc events k [] h, bytes-joined, bytes-of-one) refl in
-    written _ _ _ (rw (e, w .told, ← long, grown) (then-more bytes₀ (bytesOf (take k events)) (eventBytes (getD events k [])) at))
-
-pub events-written : (bytes₀ : List ℕ) (at : ℕ) (events : List (List ℕ)) (k : ℕ) {bytes : List ℕ} → length events ≤ k
-    → Written bytes₀ at (bytesOf (take k events)) bytes → bytes ≡ sets bytes₀ at (bytesOf events)
-events-written bytes₀ at events k h w = w .told ∙ ap (λ l. sets bytes₀ at (bytesOf l)) (take-all k events h)
+pub bytes-written : (bytes₀ : List ℕ) (at : ℕ) (numbers : List ℕ) (k : ℕ) {bytes : List ℕ} → length numbers * 8 ≤ k
+    → Written bytes₀ at (take k (bytesOf numbers)) bytes → bytes ≡ sets bytes₀ at (bytesOf numbers)
+bytes-written bytes₀ at numbers k h w =
+    let long : length (bytesOf numbers) ≤ k = omega (arith, length-bytes numbers) in
+    w .told ∙ ap (sets bytes₀ at) (take-all k (bytesOf numbers) long)
 
 -- a part after another
-pub joined : (room : List ℕ) (done more : List (List ℕ)) (at : ℕ) {bytes bytes′ : List ℕ} → length done * 40 ≡ at
+pub joined : (room : List ℕ) (done more : List ℕ) (at : ℕ) {bytes bytes′ : List ℕ} → length done * 8 ≡ at
     → bytes ≡ sets room 0 (bytesOf done) → bytes′ ≡ sets bytes at (bytesOf more) → bytes′ ≡ sets room 0 (bytesOf (done ++ more))
 joined room done more at long e f =
     let here : 0 + length (bytesOf done) ≡ at = omega (arith, length-bytes done) in
     rw (f, e, ← here, bytes-joined done more) (then-more room (bytesOf done) (bytesOf more) 0)
 
 -- the bytes at the front of their buffer
-pub in-front : (room : List ℕ) (events : List (List ℕ)) (count : ℕ) {bytes : List ℕ} → length events ≡ count → count * 40 ≤ length room
-    → bytes ≡ sets room 0 (bytesOf events) → take (count * 40) bytes ≡ bytesOf events
-in-front room events count long within e =
-    let whole : length (bytesOf events) ≡ count * 40 = omega (arith, length-bytes events) in
-    let front : sets room 0 (bytesOf events) ≡ bytesOf events ++ drop (0 + length (bytesOf events)) room = sets-eq (bytesOf events) room 0 (omega arith) in
-    rw (e, front) (take-at (bytesOf events) (drop (0 + length (bytesOf events)) room) (count * 40) whole)
+pub in-front : (room numbers : List ℕ) (count : ℕ) {bytes : List ℕ} → length numbers ≡ count → count * 8 ≤ length room
+    → bytes ≡ sets room 0 (bytesOf numbers) → take (count * 8) bytes ≡ bytesOf numbers
+in-front room numbers count long within e =
+    let whole : length (bytesOf numbers) ≡ count * 8 = omega (arith, length-bytes numbers) in
+    let front : sets room 0 (bytesOf numbers) ≡ bytesOf numbers ++ drop (0 + length (bytesOf numbers)) room = sets-eq (bytesOf numbers) room 0 (omega arith) in
+    rw (e, front) (take-at (bytesOf numbers) (drop (0 + length (bytesOf numbers)) room) (count * 8) whole)
 
 -- ---- a listing that is not refused
 
-pub not-refused : (calendar bytes listing : List ℕ) (count : ℕ) → length calendar ≤ 1200 → length bytes ≡ count * 40 → count ≤ 48 → length listing ≡ 336
+pub not-refused : (calendar bytes listing : List ℕ) (count : ℕ) → length calendar ≤ 1200 → length bytes ≡ count * 8 → count ≤ 240 → count % 5 ≡ 0 → length listing ≡ 336
     → firstOf (listingCauses (length calendar) (length bytes) (length listing)) ≡ none
 unfolding listingCauses lengthCauses
-not-refused calendar bytes listing count hw hb hn hr =
+not-refused calendar bytes listing count hw hb hn hm hr =
     skip 1 _ (le-ltb 1200 (length calendar) hw)
     (skip 18 _ (ap not (eq-eqb (length bytes % 40) 0 (omega arith)))
     (skip 18 _ (le-ltb 1500 (length bytes / 40) (omega arith))
@@ -186,17 +170,17 @@ length-listing calendar bytes =
     ∙ ap (λ n. n * 7) (length-entries (length bytes / 40) bytes)
 
 -- the lines in front of the buffer
-pub lines-in-front : (calendar : Calendar) (bytes listing listing′ : List ℕ) (count : ℕ) (o : Option ℕ) → length bytes ≡ count * 40 → o ≡ none
-    → listing′ ≡ writtenBy o (listingOf calendar bytes) listing → take (count * 7) listing′ ≡ listingOf calendar bytes
-lines-in-front calendar bytes listing listing′ count o h n e =
+pub lines-in-front : (calendar : Calendar) (bytes listing listing′ : List ℕ) (count : ℕ) (o : Option ℕ) → length bytes ≡ count * 8 → count % 5 ≡ 0 → o ≡ none
+    → listing′ ≡ writtenBy o (listingOf calendar bytes) listing → take (count / 5 * 7) listing′ ≡ listingOf calendar bytes
+lines-in-front calendar bytes listing listing′ count o h m n e =
     let front : listing′ ≡ listingOf calendar bytes ++ drop (length (listingOf calendar bytes)) listing = e ∙ ap (λ o. writtenBy o (listingOf calendar bytes) listing) n in
-    let long : length (listingOf calendar bytes) ≡ count * 7 = omega (arith, length-listing calendar bytes) in
-    rw front (take-at (listingOf calendar bytes) (drop (length (listingOf calendar bytes)) listing) (count * 7) long)
+    let long : length (listingOf calendar bytes) ≡ count / 5 * 7 = omega (arith, length-listing calendar bytes) in
+    rw front (take-at (listingOf calendar bytes) (drop (length (listingOf calendar bytes)) listing) (count / 5 * 7) long)
 
 -- ---- the lines that a journal ends with
 
-pub ending : (calendar : Calendar) (start earlier events lines : List (List ℕ))
-    → sameLines (listingOf calendar (bytesOf ((start ++ earlier) ++ events))) ((length start + length earlier + length events - length lines) * 7) lines
+pub ending : (calendar : Calendar) (start earlier events lines : List ℕ)
+    → sameNumbers (listingOf calendar (bytesOf ((start ++ earlier) ++ events))) ((length start + length earlier + length events) / 5 * 7 - length lines) lines
     ≡ endsWith calendar start earlier events lines
 unfolding endsWith
 ending calendar start earlier events lines = refl

@@ -1,9 +1,9 @@
--- A journal as rows of numbers: the bytes that they stand for, and the lines that its events end with.
+-- A journal as numbers: the bytes that they stand for, and the lines that its events end with.
 -- Assumes nothing.
 use Prim.Native.Nat.{ℕ, zero, suc, _+_, _-_, _*_, _/_, _%_, _^_}
-use mathlib.Core.Bool.{Bool, cond}
+use mathlib.Core.Bool.{Bool}
 use mathlib.Core.List.{List, [], _∷_, _++_}
-use lib.Dec.{eqb, ltb}
+use lib.Dec.{eqb}
 use lib.ListN.{length, getD}
 use Rattle.money.specs.Causes.{firstOf}
 use Rattle.money.specs.Days.{Calendar, trades, firstTrading, atOrAfter, nextAfter, earliest}
@@ -35,40 +35,28 @@ use Rattle.rules.specs.Listing.{entriesOf, lineOf, linesOf, listingOf}
 abbrev pub digitOf : (number place : ℕ) → ℕ
 digitOf number place = number / 2 ^ (place * 8) % 256
 
--- an event's byte at a place: code, kind or account, amount, contract, price, fallback price and due day where document 01 puts them
-unfoldable pub byteOf : List ℕ → ℕ → ℕ
-byteOf event place =
-    cond (eqb place 0) (digitOf (getD event 0 0) 0)
-    (cond (eqb place 1) (digitOf (getD event 1 0) 0)
-    (cond (ltb place 8) 0
-    (cond (ltb place 16) (digitOf (getD event 2 0) (place - 8))
-    (cond (ltb place 24) (digitOf (getD event 3 0) (place - 16))
-    (cond (ltb place 28) (digitOf (getD event 4 0) (place - 24))
-    (cond (ltb place 32) (digitOf (getD event 5 0) (place - 28))
-    (cond (ltb place 36) (digitOf (getD event 6 0) (place - 32))
-    0)))))))
+-- some of a number's bytes, from a place on
+unfoldable pub digitsFrom : (number place count : ℕ) → List ℕ
+digitsFrom number place zero = []
+digitsFrom number place (suc count) = digitOf number place ∷ digitsFrom number (suc place) count
 
--- some of an event's bytes, from a place on
-unfoldable pub bytesFrom : List ℕ → (place count : ℕ) → List ℕ
-bytesFrom event place zero = []
-bytesFrom event place (suc count) = byteOf event place ∷ bytesFrom event (suc place) count
+abbrev pub digits : ℕ → List ℕ
+digits number = digitsFrom number 0 8
 
-abbrev pub eventBytes : List ℕ → List ℕ
-eventBytes event = bytesFrom event 0 40
-
-unfoldable pub bytesOf : List (List ℕ) → List ℕ
+-- numbers as bytes, eight a number: five numbers are an event
+unfoldable pub bytesOf : List ℕ → List ℕ
 bytesOf [] = []
-bytesOf (event ∷ events) = eventBytes event ++ bytesOf events
+bytesOf (number ∷ numbers) = digits number ++ bytesOf numbers
 
--- the seven numbers from a place on are those of a line
-unfoldable pub sameLine : List ℕ → ℕ → List ℕ → Bool
-sameLine numbers at line = allBelow 7 (λ k. eqb (getD numbers (at + k) 0) (getD line k 0))
-
-unfoldable pub sameLines : List ℕ → ℕ → List (List ℕ) → Bool
-sameLines numbers at lines = allBelow (length lines) (λ k. sameLine numbers (at + k * 7) (getD lines k []))
+-- the numbers from a place on are those of the lines
+unfoldable pub sameNumbers : List ℕ → ℕ → List ℕ → Bool
+sameNumbers numbers at lines = allBelow (length lines) (λ k. eqb (getD numbers (at + k) 0) (getD lines k 0))
 
 -- the listing of a journal in three parts ends with these lines; who opens this opens every rule, so that it computes
-unfoldable pub endsWith : Calendar → (start earlier events lines : List (List ℕ)) → Bool
-unfolding freshBook step causes eventCauses act firstOf fit every capacityFit securitiesFit allBelow cashFit allTrades sizeFit netsFit differ withdrawalsFit followed following paymentDay trades firstTrading atOrAfter nextAfter earliest sizeCauses sized fundInCauses fundedIn fundOutCauses fundedOut rateCauses rated openCauses openedBook openedTable statusAtOpen turnsTerminated pledgeCauses pledged payCauses paidBook closeCauses closedBook closedTable closeAnswer maturedTrades maturedSheets maturedAmount evening applications inTurn allArrived isShortClose total outstanding remaining value sumBelow kindValue headroom initialCauses initialBook initialTable onTable principal redemption income freezeCauses frozen withdrawCauses withdrawn applied earlyCauses earlyBook earlyTable tradeOf takeOff takenOut covered mayGo run decoded entryOf unless littleEndian entriesOf lineOf linesOf listingOf byteOf bytesFrom bytesOf sameLine sameLines
+unfoldable pub endsWith : Calendar → (start earlier events lines : List ℕ) → Bool
+unfolding freshBook step causes eventCauses act firstOf fit every capacityFit securitiesFit allBelow cashFit allTrades sizeFit netsFit differ withdrawalsFit followed following paymentDay trades firstTrading atOrAfter nextAfter earliest sizeCauses sized fundInCauses fundedIn fundOutCauses fundedOut rateCauses rated openCauses openedBook openedTable statusAtOpen turnsTerminated pledgeCauses pledged payCauses paidBook closeCauses closedBook closedTable closeAnswer maturedTrades maturedSheets maturedAmount evening applications inTurn allArrived isShortClose total outstanding remaining value sumBelow kindValue headroom initialCauses initialBook initialTable onTable principal redemption income freezeCauses frozen withdrawCauses withdrawn applied earlyCauses earlyBook earlyTable tradeOf takeOff takenOut covered mayGo run decoded entryOf unless littleEndian entriesOf lineOf linesOf listingOf digitsFrom bytesOf sameNumbers
 endsWith calendar start earlier events lines =
-    sameLines (listingOf calendar (bytesOf ((start ++ earlier) ++ events))) ((length start + length earlier + length events - length lines) * 7) lines
+    sameNumbers
+    (listingOf calendar (bytesOf ((start ++ earlier) ++ events)))
+    ((length start + length earlier + length events) / 5 * 7 - length lines)
+    lines

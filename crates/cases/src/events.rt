@@ -1,19 +1,9 @@
-// Events and lines as rows of numbers.
+// An event's 40 bytes as five numbers of eight, the least byte first: its code with the kind or account, the amount (or rate, or
+// size), the contract, the price with the fallback price, and the due day.
 
-// Code, kind or account, amount (or rate, or size), contract, price, fallback price, due day.
-pub type Event = [u64; 7];
+// The codes.
+pub const OPEN: u64 = 1;
 
-// Answer, headroom's sign (1 for a minus) and size, O, own, client, guarantee cash.
-pub type Line = [u64; 7];
-
-// The events that are their code.
-pub const OPEN: Event = [1, 0, 0, 0, 0, 0, 0];
-
-pub const PAY: Event = [11, 0, 0, 0, 0, 0, 0];
-
-pub const CLOSE: Event = [12, 0, 0, 0, 0, 0, 0];
-
-// The codes of the others.
 pub const FUND_IN: u64 = 2;
 
 pub const FUND_OUT: u64 = 3;
@@ -30,10 +20,18 @@ pub const INITIAL: u64 = 9;
 
 pub const EARLY: u64 = 10;
 
-// The accounts.
+pub const PAY: u64 = 11;
+
+pub const CLOSE: u64 = 12;
+
+// The byte beside the code: an account, or as often a kind as its number says. Kind 32 is guarantee cash.
 pub const OWN: u64 = 0;
 
-pub const CLIENT: u64 = 1;
+pub const CLIENT: u64 = 256;
 
-// The kind of guarantee cash.
-pub const CASH: u64 = 32;
+pub const KIND: u64 = 256;
+
+pub const CASH: u64 = 32 * KIND;
+
+// A tick of the fallback price, four bytes above the price.
+pub const FALLBACK: u64 = 4_294_967_296;

@@ -1,8 +1,9 @@
 // The cases that document 01 has run, sheets in tens and due days up to a year ahead, and two about the lines themselves.
-use crate::events::Event;
+use crate::events::CLIENT;
+use crate::events::FALLBACK;
 use crate::events::FUND_IN;
 use crate::events::INITIAL;
-use crate::events::Line;
+use crate::events::PAY;
 use crate::events::RATE;
 use crate::journal;
 use crate::worked::ACCOUNTS;
@@ -10,14 +11,16 @@ use crate::worked::COVER;
 use crate::worked::WEEK;
 
 // 15 sheets are no multiple of 10.
-const TENS: [Event; 2] = [
-    [INITIAL, 0, 15, 7, 3_650, 1_000, 4],
-    [INITIAL, 0, 10, 7, 3_650, 1_000, 4],
+#[rattlefmt::skip]
+const TENS: [u64; 2 * 5] = [
+    INITIAL, 15, 7, 3_650 + 1_000 * FALLBACK, 4,
+    INITIAL, 10, 7, 3_650 + 1_000 * FALLBACK, 4,
 ];
 
-const TENS_LINES: [Line; 2] = [
-    [7, 0, 180, 0, 5_000_000, 3_000_000, 0],
-    [0, 0, 170, 10, 5_000_000, 3_000_000, 0],
+#[rattlefmt::skip]
+const TENS_LINES: [u64; 2 * 7] = [
+    7, 0, 180, 0, 5_000_000, 3_000_000, 0,
+    0, 0, 170, 10, 5_000_000, 3_000_000, 0,
 ];
 
 pub fn sheets_in_tens() {
@@ -28,16 +31,18 @@ pub fn sheets_in_tens() {
 const YEAR: [u32; 13] = [4_294_967_295; 13];
 
 // Due on the day itself, 366 and 365 days ahead.
-const TERMS: [Event; 3] = [
-    [INITIAL, 0, 10, 7, 3_650, 1_000, 1],
-    [INITIAL, 0, 10, 7, 3_650, 1_000, 367],
-    [INITIAL, 0, 10, 7, 3_650, 1_000, 366],
+#[rattlefmt::skip]
+const TERMS: [u64; 3 * 5] = [
+    INITIAL, 10, 7, 3_650 + 1_000 * FALLBACK, 1,
+    INITIAL, 10, 7, 3_650 + 1_000 * FALLBACK, 367,
+    INITIAL, 10, 7, 3_650 + 1_000 * FALLBACK, 366,
 ];
 
-const TERMS_LINES: [Line; 3] = [
-    [9, 0, 180, 0, 5_000_000, 3_000_000, 0],
-    [9, 0, 180, 0, 5_000_000, 3_000_000, 0],
-    [0, 0, 170, 10, 5_000_000, 3_000_000, 0],
+#[rattlefmt::skip]
+const TERMS_LINES: [u64; 3 * 7] = [
+    9, 0, 180, 0, 5_000_000, 3_000_000, 0,
+    9, 0, 180, 0, 5_000_000, 3_000_000, 0,
+    0, 0, 170, 10, 5_000_000, 3_000_000, 0,
 ];
 
 pub fn due_within_a_year() {
@@ -45,16 +50,18 @@ pub fn due_within_a_year() {
 }
 
 // Pay with an amount, a third account and a thirteenth code: the decoder's 2, and the run goes on.
-const UNDECODABLE: [Event; 3] = [
-    [11, 0, 1, 0, 0, 0, 0],
-    [FUND_IN, 2, 1, 0, 0, 0, 0],
-    [13, 0, 0, 0, 0, 0, 0],
+#[rattlefmt::skip]
+const UNDECODABLE: [u64; 3 * 5] = [
+    PAY, 1, 0, 0, 0,
+    FUND_IN + 2 * CLIENT, 1, 0, 0, 0,
+    13, 0, 0, 0, 0,
 ];
 
-const UNDECODABLE_LINES: [Line; 3] = [
-    [2, 0, 180, 0, 5_000_000, 3_000_000, 0],
-    [2, 0, 180, 0, 5_000_000, 3_000_000, 0],
-    [2, 0, 180, 0, 5_000_000, 3_000_000, 0],
+#[rattlefmt::skip]
+const UNDECODABLE_LINES: [u64; 3 * 7] = [
+    2, 0, 180, 0, 5_000_000, 3_000_000, 0,
+    2, 0, 180, 0, 5_000_000, 3_000_000, 0,
+    2, 0, 180, 0, 5_000_000, 3_000_000, 0,
 ];
 
 pub fn undecodable() {
@@ -62,14 +69,16 @@ pub fn undecodable() {
 }
 
 // A rate set to 0 under a trade: 1 stands for the minus sign before 100.
-const CUT: [Event; 2] = [
-    [INITIAL, 0, 100, 7, 3_650, 1_000, 4],
-    [RATE, 0, 0, 0, 0, 0, 0],
+#[rattlefmt::skip]
+const CUT: [u64; 2 * 5] = [
+    INITIAL, 100, 7, 3_650 + 1_000 * FALLBACK, 4,
+    RATE, 0, 0, 0, 0,
 ];
 
-const CUT_LINES: [Line; 2] = [
-    [0, 0, 80, 100, 5_000_000, 3_000_000, 0],
-    [0, 1, 100, 100, 5_000_000, 3_000_000, 0],
+#[rattlefmt::skip]
+const CUT_LINES: [u64; 2 * 7] = [
+    0, 0, 80, 100, 5_000_000, 3_000_000, 0,
+    0, 1, 100, 100, 5_000_000, 3_000_000, 0,
 ];
 
 pub fn headroom_below_zero() {

@@ -1,11 +1,11 @@
 // Where the pencil slips: each journal tells the rules from the slip, and its comment says what the slip would print.
 use crate::events::CLIENT;
 use crate::events::CLOSE;
-use crate::events::Event;
+use crate::events::FALLBACK;
 use crate::events::FUND_IN;
 use crate::events::FUND_OUT;
 use crate::events::INITIAL;
-use crate::events::Line;
+use crate::events::KIND;
 use crate::events::OPEN;
 use crate::events::PAY;
 use crate::events::PLEDGE;
@@ -20,76 +20,89 @@ use crate::worked::WEEK;
 const LONGER_WEEK: [u32; 1] = [462];
 
 // A trade of day 3, paid on day 6, and its redemption of day 6, paid on day 7.
-const FROM_DAY_3: [Event; 11] = [
-    PAY,
-    CLOSE,
-    OPEN,
-    [INITIAL, 0, 100, 9, 3_650, 1_000, 6],
-    PAY,
-    CLOSE,
-    OPEN,
-    PAY,
-    CLOSE,
-    OPEN,
-    PAY,
+#[rattlefmt::skip]
+const FROM_DAY_3: [u64; 11 * 5] = [
+    PAY, 0, 0, 0, 0,
+    CLOSE, 0, 0, 0, 0,
+    OPEN, 0, 0, 0, 0,
+    INITIAL, 100, 9, 3_650 + 1_000 * FALLBACK, 6,
+    PAY, 0, 0, 0, 0,
+    CLOSE, 0, 0, 0, 0,
+    OPEN, 0, 0, 0, 0,
+    PAY, 0, 0, 0, 0,
+    CLOSE, 0, 0, 0, 0,
+    OPEN, 0, 0, 0, 0,
+    PAY, 0, 0, 0, 0,
 ];
 
 // Payment days 7 - 6 = 1, so 1,000,100 fen. Counted from trading days, 6 - 3 = 3, the last line has 4,999,700 and 3,000,300.
-const ONE_DAY: [Line; 4] = [
-    [0, 0, 80, 100, 6_000_000, 2_000_000, 0],
-    [0, 0, 180, 0, 6_000_000, 2_000_000, 0],
-    [0, 0, 180, 0, 6_000_000, 2_000_000, 0],
-    [0, 0, 180, 0, 4_999_900, 3_000_100, 0],
+#[rattlefmt::skip]
+const ONE_DAY: [u64; 4 * 7] = [
+    0, 0, 80, 100, 6_000_000, 2_000_000, 0,
+    0, 0, 180, 0, 6_000_000, 2_000_000, 0,
+    0, 0, 180, 0, 6_000_000, 2_000_000, 0,
+    0, 0, 180, 0, 4_999_900, 3_000_100, 0,
 ];
 
 pub fn days_from_trading_days() {
     check::expect(journal::ends_with(&LONGER_WEEK, &ACCOUNTS, &COVER, &FROM_DAY_3, &ONE_DAY));
 }
 
-const THREE_RATES: [Event; 4] = [
-    [SIZE, 0, 1_000, 0, 0, 0, 0],
-    [RATE, 0, 9_000, 0, 0, 0, 0],
-    [RATE, 1, 9_000, 0, 0, 0, 0],
-    [RATE, 2, 10_000, 0, 0, 0, 0],
+#[rattlefmt::skip]
+const THREE_RATES: [u64; 4 * 5] = [
+    SIZE, 1_000, 0, 0, 0,
+    RATE, 9_000, 0, 0, 0,
+    RATE + KIND, 9_000, 0, 0, 0,
+    RATE + 2 * KIND, 10_000, 0, 0, 0,
 ];
 
-const THREE_KINDS: [Event; 7] = [
-    OPEN,
-    [PLEDGE, 0, 5, 0, 0, 0, 0],
-    [PLEDGE, 1, 5, 0, 0, 0, 0],
-    [PLEDGE, 2, 1, 0, 0, 0, 0],
-    PAY,
-    CLOSE,
-    OPEN,
+#[rattlefmt::skip]
+const THREE_KINDS: [u64; 7 * 5] = [
+    OPEN, 0, 0, 0, 0,
+    PLEDGE, 5, 0, 0, 0,
+    PLEDGE + KIND, 5, 0, 0, 0,
+    PLEDGE + 2 * KIND, 1, 0, 0, 0,
+    PAY, 0, 0, 0, 0,
+    CLOSE, 0, 0, 0, 0,
+    OPEN, 0, 0, 0, 0,
 ];
 
-const TEN_SHEETS: [Event; 1] = [[INITIAL, 0, 10, 7, 3_650, 1_000, 4]];
+#[rattlefmt::skip]
+const TEN_SHEETS: [u64; 1 * 5] = [
+    INITIAL, 10, 7, 3_650 + 1_000 * FALLBACK, 4,
+];
 
 // 4.5, 4.5 and 1 are worth 4 + 4 + 1 = 9. Summed and then rounded they are 10, and the trade is 0 with headroom 0 and 10 outstanding.
-const NINE: [Line; 2] = [[0, 0, 9, 0, 0, 0, 0], [12, 0, 9, 0, 0, 0, 0]];
+#[rattlefmt::skip]
+const NINE: [u64; 2 * 7] = [
+    0, 0, 9, 0, 0, 0, 0,
+    12, 0, 9, 0, 0, 0, 0,
+];
 
 pub fn values_summed_then_rounded() {
     check::expect(journal::ends_with(&WEEK, &THREE_RATES, &THREE_KINDS, &TEN_SHEETS, &NINE));
 }
 
 // Cover of 180 more is pledged, and the trade tried on that day and on the next.
-const PLEDGED_TODAY: [Event; 6] = [
-    [PLEDGE, 0, 200, 0, 0, 0, 0],
-    [INITIAL, 0, 190, 7, 3_650, 1_000, 4],
-    PAY,
-    CLOSE,
-    OPEN,
-    [INITIAL, 0, 190, 7, 3_650, 1_000, 4],
+#[rattlefmt::skip]
+const PLEDGED_TODAY: [u64; 6 * 5] = [
+    PLEDGE, 200, 0, 0, 0,
+    INITIAL, 190, 7, 3_650 + 1_000 * FALLBACK, 4,
+    PAY, 0, 0, 0, 0,
+    CLOSE, 0, 0, 0, 0,
+    OPEN, 0, 0, 0, 0,
+    INITIAL, 190, 7, 3_650 + 1_000 * FALLBACK, 4,
 ];
 
 // Counted at once, the pledge's line has headroom 360, and the first trade is 0.
-const AFTER_ITS_CLOSE: [Line; 6] = [
-    [0, 0, 180, 0, 5_000_000, 3_000_000, 0],
-    [12, 0, 180, 0, 5_000_000, 3_000_000, 0],
-    [0, 0, 180, 0, 5_000_000, 3_000_000, 0],
-    [0, 0, 360, 0, 5_000_000, 3_000_000, 0],
-    [0, 0, 360, 0, 5_000_000, 3_000_000, 0],
-    [0, 0, 170, 190, 5_000_000, 3_000_000, 0],
+#[rattlefmt::skip]
+const AFTER_ITS_CLOSE: [u64; 6 * 7] = [
+    0, 0, 180, 0, 5_000_000, 3_000_000, 0,
+    12, 0, 180, 0, 5_000_000, 3_000_000, 0,
+    0, 0, 180, 0, 5_000_000, 3_000_000, 0,
+    0, 0, 360, 0, 5_000_000, 3_000_000, 0,
+    0, 0, 360, 0, 5_000_000, 3_000_000, 0,
+    0, 0, 170, 190, 5_000_000, 3_000_000, 0,
 ];
 
 pub fn pledge_before_its_close() {
@@ -100,39 +113,50 @@ pub fn pledge_before_its_close() {
 const DAILY: [u32; 1] = [4_294_967_295];
 
 // Trades of 1,000,000 and 500,000 fen on two days, and clients who hold nothing: the first payment fails.
-const TWO_UNPAID_DAYS: [Event; 14] = [
-    OPEN,
-    [PLEDGE, 0, 200, 0, 0, 0, 0],
-    PAY,
-    CLOSE,
-    OPEN,
-    [FUND_OUT, CLIENT, 3_000_000, 0, 0, 0, 0],
-    [INITIAL, 0, 100, 7, 3_650, 1_000, 20],
-    PAY,
-    CLOSE,
-    OPEN,
-    [INITIAL, 0, 50, 8, 3_650, 1_000, 20],
-    PAY,
-    CLOSE,
-    OPEN,
+#[rattlefmt::skip]
+const TWO_UNPAID_DAYS: [u64; 14 * 5] = [
+    OPEN, 0, 0, 0, 0,
+    PLEDGE, 200, 0, 0, 0,
+    PAY, 0, 0, 0, 0,
+    CLOSE, 0, 0, 0, 0,
+    OPEN, 0, 0, 0, 0,
+    FUND_OUT + CLIENT, 3_000_000, 0, 0, 0,
+    INITIAL, 100, 7, 3_650 + 1_000 * FALLBACK, 20,
+    PAY, 0, 0, 0, 0,
+    CLOSE, 0, 0, 0, 0,
+    OPEN, 0, 0, 0, 0,
+    INITIAL, 50, 8, 3_650 + 1_000 * FALLBACK, 20,
+    PAY, 0, 0, 0, 0,
+    CLOSE, 0, 0, 0, 0,
+    OPEN, 0, 0, 0, 0,
 ];
 
-const ONE_FEN_SHORT: [Event; 2] = [[FUND_IN, CLIENT, 1_499_999, 0, 0, 0, 0], PAY];
+#[rattlefmt::skip]
+const ONE_FEN_SHORT: [u64; 2 * 5] = [
+    FUND_IN + CLIENT, 1_499_999, 0, 0, 0,
+    PAY, 0, 0, 0, 0,
+];
 
 // The net due is 1,500,000. With the smaller day paid alone the last line is 0 with 5,500,000 and 999,999.
-const NOTHING_MOVES: [Line; 5] = [
-    [99, 0, 30, 150, 5_000_000, 0, 0],
-    [0, 0, 30, 150, 5_000_000, 0, 0],
-    [0, 0, 30, 150, 5_000_000, 0, 0],
-    [0, 0, 30, 150, 5_000_000, 1_499_999, 0],
-    [99, 0, 30, 150, 5_000_000, 1_499_999, 0],
+#[rattlefmt::skip]
+const NOTHING_MOVES: [u64; 5 * 7] = [
+    99, 0, 30, 150, 5_000_000, 0, 0,
+    0, 0, 30, 150, 5_000_000, 0, 0,
+    0, 0, 30, 150, 5_000_000, 0, 0,
+    0, 0, 30, 150, 5_000_000, 1_499_999, 0,
+    99, 0, 30, 150, 5_000_000, 1_499_999, 0,
 ];
 
-const ENOUGH: [Event; 2] = [[FUND_IN, CLIENT, 1_500_000, 0, 0, 0, 0], PAY];
+#[rattlefmt::skip]
+const ENOUGH: [u64; 2 * 5] = [
+    FUND_IN + CLIENT, 1_500_000, 0, 0, 0,
+    PAY, 0, 0, 0, 0,
+];
 
-const ALL_MOVES: [Line; 2] = [
-    [0, 0, 30, 150, 5_000_000, 1_500_000, 0],
-    [0, 0, 30, 150, 6_500_000, 0, 0],
+#[rattlefmt::skip]
+const ALL_MOVES: [u64; 2 * 7] = [
+    0, 0, 30, 150, 5_000_000, 1_500_000, 0,
+    0, 0, 30, 150, 6_500_000, 0, 0,
 ];
 
 pub fn smaller_day_paid_alone() {
@@ -147,29 +171,31 @@ pub fn smaller_day_paid_alone() {
 }
 
 // Contract 7 of document 01, due on day 4, which does not trade.
-const DUE_ON_A_HOLIDAY: [Event; 11] = [
-    [INITIAL, 0, 100, 7, 3_650, 1_000, 4],
-    PAY,
-    CLOSE,
-    OPEN,
-    PAY,
-    CLOSE,
-    OPEN,
-    PAY,
-    CLOSE,
-    OPEN,
-    PAY,
+#[rattlefmt::skip]
+const DUE_ON_A_HOLIDAY: [u64; 11 * 5] = [
+    INITIAL, 100, 7, 3_650 + 1_000 * FALLBACK, 4,
+    PAY, 0, 0, 0, 0,
+    CLOSE, 0, 0, 0, 0,
+    OPEN, 0, 0, 0, 0,
+    PAY, 0, 0, 0, 0,
+    CLOSE, 0, 0, 0, 0,
+    OPEN, 0, 0, 0, 0,
+    PAY, 0, 0, 0, 0,
+    CLOSE, 0, 0, 0, 0,
+    OPEN, 0, 0, 0, 0,
+    PAY, 0, 0, 0, 0,
 ];
 
 // It stands at the Close of day 3 and matures at that of day 6, over 7 - 3 = 4 days. Brought forward, the Close of day 3 leaves
 // headroom 180 and 0 outstanding, and the Pay of day 6 4,999,700 and 3,000,300.
-const MATURED_LATER: [Line; 6] = [
-    [0, 0, 80, 100, 6_000_000, 2_000_000, 0],
-    [0, 0, 80, 100, 6_000_000, 2_000_000, 0],
-    [0, 0, 80, 100, 6_000_000, 2_000_000, 0],
-    [0, 0, 180, 0, 6_000_000, 2_000_000, 0],
-    [0, 0, 180, 0, 6_000_000, 2_000_000, 0],
-    [0, 0, 180, 0, 4_999_600, 3_000_400, 0],
+#[rattlefmt::skip]
+const MATURED_LATER: [u64; 6 * 7] = [
+    0, 0, 80, 100, 6_000_000, 2_000_000, 0,
+    0, 0, 80, 100, 6_000_000, 2_000_000, 0,
+    0, 0, 80, 100, 6_000_000, 2_000_000, 0,
+    0, 0, 180, 0, 6_000_000, 2_000_000, 0,
+    0, 0, 180, 0, 6_000_000, 2_000_000, 0,
+    0, 0, 180, 0, 4_999_600, 3_000_400, 0,
 ];
 
 pub fn due_brought_forward() {

@@ -1,10 +1,9 @@
 // The journal that document 01 works through, all its lines.
 use crate::events::CLIENT;
 use crate::events::CLOSE;
-use crate::events::Event;
+use crate::events::FALLBACK;
 use crate::events::FUND_IN;
 use crate::events::INITIAL;
-use crate::events::Line;
 use crate::events::OPEN;
 use crate::events::OWN;
 use crate::events::PAY;
@@ -17,44 +16,54 @@ use crate::journal;
 pub const WEEK: [u32; 1] = [206];
 
 // What the firm begins with.
-pub const ACCOUNTS: [Event; 4] = [
-    [SIZE, 0, 1_000, 0, 0, 0, 0],
-    [FUND_IN, OWN, 5_000_000, 0, 0, 0, 0],
-    [FUND_IN, CLIENT, 3_000_000, 0, 0, 0, 0],
-    [RATE, 0, 9_000, 0, 0, 0, 0],
+#[rattlefmt::skip]
+pub const ACCOUNTS: [u64; 4 * 5] = [
+    SIZE, 1_000, 0, 0, 0,
+    FUND_IN + OWN, 5_000_000, 0, 0, 0,
+    FUND_IN + CLIENT, 3_000_000, 0, 0, 0,
+    RATE, 9_000, 0, 0, 0,
 ];
 
 // The first day and the next Open: cover of 180 sheets, and no trade yet.
-pub const COVER: [Event; 5] = [OPEN, [PLEDGE, 0, 200, 0, 0, 0, 0], PAY, CLOSE, OPEN];
+#[rattlefmt::skip]
+pub const COVER: [u64; 5 * 5] = [
+    OPEN, 0, 0, 0, 0,
+    PLEDGE, 200, 0, 0, 0,
+    PAY, 0, 0, 0, 0,
+    CLOSE, 0, 0, 0, 0,
+    OPEN, 0, 0, 0, 0,
+];
 
-const TRADES: [Event; 7] = [
-    [INITIAL, 0, 100, 7, 3_650, 1_000, 4],
-    PAY,
-    CLOSE,
-    OPEN,
-    [INITIAL, 0, 90, 8, 3_650, 1_000, 6],
-    PAY,
-    CLOSE,
+#[rattlefmt::skip]
+const TRADES: [u64; 7 * 5] = [
+    INITIAL, 100, 7, 3_650 + 1_000 * FALLBACK, 4,
+    PAY, 0, 0, 0, 0,
+    CLOSE, 0, 0, 0, 0,
+    OPEN, 0, 0, 0, 0,
+    INITIAL, 90, 8, 3_650 + 1_000 * FALLBACK, 6,
+    PAY, 0, 0, 0, 0,
+    CLOSE, 0, 0, 0, 0,
 ];
 
 // Document 01's lines, with headroom's sign before its size.
-const LINES: [Line; 16] = [
-    [0, 0, 0, 0, 0, 0, 0],
-    [0, 0, 0, 0, 5_000_000, 0, 0],
-    [0, 0, 0, 0, 5_000_000, 3_000_000, 0],
-    [0, 0, 0, 0, 5_000_000, 3_000_000, 0],
-    [0, 0, 0, 0, 5_000_000, 3_000_000, 0],
-    [0, 0, 0, 0, 5_000_000, 3_000_000, 0],
-    [0, 0, 0, 0, 5_000_000, 3_000_000, 0],
-    [0, 0, 180, 0, 5_000_000, 3_000_000, 0],
-    [0, 0, 180, 0, 5_000_000, 3_000_000, 0],
-    [0, 0, 80, 100, 5_000_000, 3_000_000, 0],
-    [0, 0, 80, 100, 5_000_000, 3_000_000, 0],
-    [0, 0, 80, 100, 5_000_000, 3_000_000, 0],
-    [0, 0, 80, 100, 5_000_000, 3_000_000, 0],
-    [12, 0, 80, 100, 5_000_000, 3_000_000, 0],
-    [0, 0, 80, 100, 6_000_000, 2_000_000, 0],
-    [0, 0, 80, 100, 6_000_000, 2_000_000, 0],
+#[rattlefmt::skip]
+const LINES: [u64; 16 * 7] = [
+    0, 0, 0, 0, 0, 0, 0,
+    0, 0, 0, 0, 5_000_000, 0, 0,
+    0, 0, 0, 0, 5_000_000, 3_000_000, 0,
+    0, 0, 0, 0, 5_000_000, 3_000_000, 0,
+    0, 0, 0, 0, 5_000_000, 3_000_000, 0,
+    0, 0, 0, 0, 5_000_000, 3_000_000, 0,
+    0, 0, 0, 0, 5_000_000, 3_000_000, 0,
+    0, 0, 180, 0, 5_000_000, 3_000_000, 0,
+    0, 0, 180, 0, 5_000_000, 3_000_000, 0,
+    0, 0, 80, 100, 5_000_000, 3_000_000, 0,
+    0, 0, 80, 100, 5_000_000, 3_000_000, 0,
+    0, 0, 80, 100, 5_000_000, 3_000_000, 0,
+    0, 0, 80, 100, 5_000_000, 3_000_000, 0,
+    12, 0, 80, 100, 5_000_000, 3_000_000, 0,
+    0, 0, 80, 100, 6_000_000, 2_000_000, 0,
+    0, 0, 80, 100, 6_000_000, 2_000_000, 0,
 ];
 
 pub fn journal() {

@@ -13,11 +13,11 @@ use borrow.Author.Needs.{needs}
 use Rattle.cases.proofs.journal.ends_with.Statement.{statement}
 use Rattle.cases.proofs.journal.ends_with.Tie as tie
 
-add-count : tie.Need-add-count
-add-count c = search needs
+add-length : tie.Need-add-length
+add-length c = search needs
 
-add-count-2 : tie.Need-add-count-2
-add-count-2 c = search needs
+add-length-2 : tie.Need-add-length-2
+add-length-2 c = search needs
 
 encoded-requires : tie.Need-encoded-requires
 encoded-requires c κs = search needs
@@ -38,54 +38,51 @@ run-listing-requires : tie.Need-run-listing-requires
 run-listing-requires c κs = search needs
 
 abbrev start : tie.After-run-listing → tie.Start
-start c = c .before .before .before .before .before
+start c = c .before .before .before .before .before .before .before .before .before
 
 abbrev count : tie.After-run-listing → ℕ
 count c = length (start c .args .start .now) + length (start c .args .earlier .now) + length (start c .args .events .now)
 
 abbrev bytes : tie.After-run-listing → List ℕ
-bytes c = take (count c * 40) (c .before .before .before .encoded .result)
+bytes c = take (count c * 8) (c .before .before .before .encoded .result)
 
-length-bytes : (c : tie.After-run-listing) → length (bytes c) ≡ count c * 40
+length-bytes : (c : tie.After-run-listing) → length (bytes c) ≡ count c * 8
 length-bytes c = length-take-le _ _ (array-share-prefix-bytes (c .before .before .before))
 
 clear : (c : tie.After-run-listing) → firstOf (listingCauses (length (start c .args .calendar .now)) (length (bytes c)) (length (replicate {A = ℕ} 336 0))) ≡ none
-clear c = not-refused (start c .args .calendar .now) (bytes c) (replicate 336 0) (count c) (start c .pre .0) (length-bytes c) (start c .pre .1) refl
+clear c = not-refused (start c .args .calendar .now) (bytes c) (replicate 336 0) (count c) (start c .pre .0) (length-bytes c) (start c .pre .1) (start c .pre .2) refl
 
 expect-requires : tie.Need-expect-requires
 expect-requires c κs = eq-eqb (c .before .run-listing .result) 0 (c .before .run-listing .ensures .0 ∙ ap numberOf (clear (c .before)))
 
-mul-listing : tie.Need-mul-listing
-mul-listing c = search needs
+mul-end : tie.Need-mul-end
+mul-end c = search needs
 
 array-share-prefix-listing : tie.Need-array-share-prefix-listing
 array-share-prefix-listing c = search needs
 
-slice-aggregate-same-lines : tie.Need-slice-aggregate-same-lines
-slice-aggregate-same-lines c = sym (length-take-le _ _ (array-share-prefix-listing (c .before)))
+slice-aggregate-same-numbers : tie.Need-slice-aggregate-same-numbers
+slice-aggregate-same-numbers c = sym (length-take-le _ _ (array-share-prefix-listing (c .before)))
 
-sub-same-lines : tie.Need-sub-same-lines
-sub-same-lines c = search needs
+sub-same-numbers : tie.Need-sub-same-numbers
+sub-same-numbers c = search needs
 
-mul-same-lines : tie.Need-mul-same-lines
-mul-same-lines c = search needs
-
-same-lines-requires : tie.Need-same-lines-requires
-same-lines-requires c κs = omega (arith, slice-aggregate-same-lines c)
+same-numbers-requires : tie.Need-same-numbers-requires
+same-numbers-requires c κs = omega (arith, slice-aggregate-same-numbers c)
 
 returns : tie.Need-returns
 returns c =
     let ran = c .before .before .before .before in
     let s = start ran .args in
-    rw (c .same-lines .ensures, lines-in-front _ _ _ _ (count ran) _ (length-bytes ran) (clear ran) (ran .run-listing .ensures .1), ran .before .before .before .encoded .ensures)
+    rw (c .same-numbers .ensures, lines-in-front _ _ _ _ (count ran) _ (length-bytes ran) (start ran .pre .2) (clear ran) (ran .run-listing .ensures .1), ran .before .before .before .encoded .ensures)
     (ending (s .calendar .now) (s .start .now) (s .earlier .now) (s .events .now) (s .lines .now))
 
 pub ends-with-spec : {M : Type 1} → statement M
 ends-with-spec =
     tie.close
     (tie.spec
-    add-count
-    add-count-2
+    add-length
+    add-length-2
     encoded-requires
     mul-bytes
     array-share-prefix-bytes
@@ -93,10 +90,9 @@ ends-with-spec =
     slice-aggregate-run-listing-2
     run-listing-requires
     expect-requires
-    mul-listing
+    mul-end
     array-share-prefix-listing
-    slice-aggregate-same-lines
-    sub-same-lines
-    mul-same-lines
-    same-lines-requires
+    slice-aggregate-same-numbers
+    sub-same-numbers
+    same-numbers-requires
     returns)

@@ -5,18 +5,18 @@ use native.Mathlib.Omega.{arith}
 use borrow.Author.Needs.{needs}
 use borrow.Author.Tests.{eq-eqb, ne-eqb}
 use lib.Dec.{eqb}
-use lib.ListN.{getD}
+use lib.ListN.{length, getD}
 use Rattle.rules.specs.Folds.{allBelow}
-use Rattle.cases.specs.Journal.{sameLine}
+use Rattle.cases.specs.Journal.{sameNumbers}
 use Rattle.cases.proofs.JournalLaws.{none-yet, one-agrees, one-differs}
-use Rattle.cases.proofs.journal.same_line.Statement.{statement}
-use Rattle.cases.proofs.journal.same_line.Tie as tie
+use Rattle.cases.proofs.journal.same_numbers.Statement.{statement}
+use Rattle.cases.proofs.journal.same_numbers.Tie as tie
 
 abbrev Inv-loop : tie.InvT-loop
-Inv-loop numbers at line k₀ k = (k ≤ 7) × (allBelow k (λ j. eqb (getD numbers (at + j) 0) (getD line j 0)) ≡ true)
+Inv-loop numbers at lines k₀ k = (k ≤ length lines) × (allBelow k (λ j. eqb (getD numbers (at + j) 0) (getD lines j 0)) ≡ true)
 
 abbrev μ-loop : tie.MeasureT-loop
-μ-loop numbers at line k₀ k = 7 - k
+μ-loop numbers at lines k₀ k = length lines - k
 
 loop-holds : tie.Need-loop-holds Inv-loop μ-loop
 loop-holds c = (search needs, none-yet _)
@@ -33,12 +33,12 @@ shared-slice-read-if1 c = search needs
 mul-if1-2 : tie.Need-mul-if1-2 Inv-loop μ-loop
 mul-if1-2 c = search needs
 
-array-read-if1 : tie.Need-array-read-if1 Inv-loop μ-loop
-array-read-if1 c = search needs
+shared-slice-read-if1-2 : tie.Need-shared-slice-read-if1-2 Inv-loop μ-loop
+shared-slice-read-if1-2 c = search needs
 
 returns : tie.Need-returns Inv-loop μ-loop
-unfolding sameLine
-returns c = sym (one-differs _ _ _ (c .before .before .loop-test .taken) (ne-eqb _ _ (c .if1 .taken)))
+unfolding sameNumbers
+returns c = sym (one-differs _ _ _ (c .before .before .before .loop-test .taken) (ne-eqb _ _ (c .if1 .taken)))
 
 add-k : tie.Need-add-k Inv-loop μ-loop
 add-k c = search needs
@@ -47,14 +47,16 @@ loop-less : tie.Need-loop-less Inv-loop μ-loop
 loop-less c = search needs
 
 loop-again : tie.Need-loop-again Inv-loop μ-loop
-loop-again c = (search needs, one-agrees _ _ (c .before .before .before .loop .inv .1) (eq-eqb _ _ (c .if1 .left)))
+loop-again c = (search needs, one-agrees _ _ (c .before .before .before .before .loop .inv .1) (eq-eqb _ _ (c .if1 .left)))
 
 returns-2 : tie.Need-returns-2 Inv-loop μ-loop
-unfolding sameLine
-returns-2 c = let e : c .before .loop .k ≡ 7 = omega arith in sym (rw e at (c .before .loop .inv .1))
+unfolding sameNumbers
+returns-2 c =
+    let e : c .before .loop .k ≡ length (c .before .before .args .lines .now) = omega arith in
+    sym (rw e at (c .before .loop .inv .1))
 
-pub same-line-spec : {M : Type 1} → statement M
-same-line-spec =
+pub same-numbers-spec : {M : Type 1} → statement M
+same-numbers-spec =
     tie.close
     (tie.spec
     Inv-loop
@@ -64,7 +66,7 @@ same-line-spec =
     mul-if1
     shared-slice-read-if1
     mul-if1-2
-    array-read-if1
+    shared-slice-read-if1-2
     returns
     add-k
     loop-less
