@@ -18,14 +18,19 @@ fn wide(byte: u8) -> u32
     byte as u32
 }
 
+fn number2(bytes: &[u8], at: usize) -> u32
+    requires { ⌜ at + 2 ≤ length (now bytes) ⌝ }
+    ensures { λ r. ⌜ (r ≡ numberAt at 2 (now (bytes .entry))) × (r < 65536) ⌝ }
+{
+    wide(bytes[at]) + wide(bytes[at + 1]) * 256
+}
+
 // The number of 4 bytes, the least byte first.
 pub(crate) fn number4(bytes: &[u8], at: usize) -> u32
     requires { ⌜ at + 4 ≤ length (now bytes) ⌝ }
     ensures { λ r. ⌜ r ≡ numberAt at 4 (now (bytes .entry)) ⌝ }
 {
-    let low = wide(bytes[at]) + wide(bytes[at + 1]) * 256;
-    let high = wide(bytes[at + 2]) + wide(bytes[at + 3]) * 256;
-    low + high * 65_536
+    number2(bytes, at) + number2(bytes, at + 2) * 65_536
 }
 
 // The section that starts at a place, its pieces `width` bytes each.
