@@ -1,6 +1,7 @@
-// A journal's numbers as bytes, and whether its listing ends with some lines. A line is seven numbers: answer, headroom's sign (1
+// A journal's numbers as bytes, and the lines that its listing is expected to end with. A line is seven numbers: answer, headroom's sign (1
 // for a minus) and size, O, own, client, guarantee cash.
 ghost use mathlib.Core.Path.{_≡_};
+ghost use mathlib.Core.Bool.{true};
 ghost use Prim.Native.Nat.{_+_, _*_, _/_, _%_, _≤_, _<_};
 ghost use mathlib.Core.List.{_++_};
 ghost use lib.ListN.{length, take};
@@ -53,16 +54,9 @@ fn encoded(start: &[u64], earlier: &[u64], events: &[u64]) -> [u8; 1_920]
     bytes
 }
 
-// Whether the listing of a journal in three parts ends with these lines.
-pub fn ends_with(
-    calendar: &[u32],
-    start: &[u64],
-    earlier: &[u64],
-    events: &[u64],
-    lines: &[u64],
-) -> bool
-    requires { ⌜ (length (now calendar) ≤ 1200) × (length (now start) + length (now earlier) + length (now events) ≤ 240) × ((length (now start) + length (now earlier) + length (now events)) % 5 ≡ 0) × (length (now lines) ≤ (length (now start) + length (now earlier) + length (now events)) / 5 * 7) ⌝ }
-    ensures { λ r. ⌜ r ≡ endsWith (now (calendar .entry)) (now (start .entry)) (now (earlier .entry)) (now (events .entry)) (now (lines .entry)) ⌝ }
+// The expectation that the listing of a journal in three parts ends with these lines.
+pub fn expect_lines(calendar: &[u32], start: &[u64], earlier: &[u64], events: &[u64], lines: &[u64])
+    requires { ⌜ (length (now calendar) ≤ 1200) × (length (now start) + length (now earlier) + length (now events) ≤ 240) × ((length (now start) + length (now earlier) + length (now events)) % 5 ≡ 0) × (length (now lines) ≤ (length (now start) + length (now earlier) + length (now events)) / 5 * 7) × (endsWith (now calendar) (now start) (now earlier) (now events) (now lines) ≡ true) ⌝ }
 {
     let length = start.len() + earlier.len() + events.len();
     let bytes = encoded(start, earlier, events);
@@ -70,5 +64,5 @@ pub fn ends_with(
     let number = book::listing::run_listing(calendar, &bytes[..length * 8], &mut listing);
     check::expect(number == 0);
     let end = length / 5 * 7;
-    same_numbers(&listing[..end], end - lines.len(), lines)
+    check::expect(same_numbers(&listing[..end], end - lines.len(), lines));
 }

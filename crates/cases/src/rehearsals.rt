@@ -150,7 +150,7 @@ const FIT: [u64; 26 * 7] = [
 ];
 
 pub fn first() {
-    check::expect(journal::ends_with(&WEEKS, &BEFORE, &PLEDGED_AND_PAID, &FROM_NOON, &FIT));
+    journal::expect_lines(&WEEKS, &BEFORE, &PLEDGED_AND_PAID, &FROM_NOON, &FIT);
 }
 
 // The failed payment opens day 5 suspended, so the trades are 6, the smallest number that applies; with headroom 20 they had no
@@ -192,7 +192,7 @@ const REFUSED: [u64; 26 * 7] = [
 ];
 
 pub fn second() {
-    check::expect(journal::ends_with(&WEEKS, &BEFORE, &UNPAID_AND_LATE, &FROM_NOON, &REFUSED));
+    journal::expect_lines(&WEEKS, &BEFORE, &UNPAID_AND_LATE, &FROM_NOON, &REFUSED);
 }
 
 // Without the failed payment the same trades are 12: cash counts from its own day's Close, and the bonds alone leave 20.
@@ -233,5 +233,5 @@ const NO_COVER: [u64; 26 * 7] = [
 ];
 
 pub fn pledge_alone_late() {
-    check::expect(journal::ends_with(&WEEKS, &BEFORE, &LATE, &FROM_NOON, &NO_COVER));
+    journal::expect_lines(&WEEKS, &BEFORE, &LATE, &FROM_NOON, &NO_COVER);
 }

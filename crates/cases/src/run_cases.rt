@@ -24,7 +24,7 @@ const TENS_LINES: [u64; 2 * 7] = [
 ];
 
 pub fn sheets_in_tens() {
-    check::expect(journal::ends_with(&WEEK, &ACCOUNTS, &COVER, &TENS, &TENS_LINES));
+    journal::expect_lines(&WEEK, &ACCOUNTS, &COVER, &TENS, &TENS_LINES);
 }
 
 // Thirteen words in which every day trades, so that the trades are of day 1.
@@ -46,7 +46,7 @@ const TERMS_LINES: [u64; 3 * 7] = [
 ];
 
 pub fn due_within_a_year() {
-    check::expect(journal::ends_with(&YEAR, &ACCOUNTS, &COVER, &TERMS, &TERMS_LINES));
+    journal::expect_lines(&YEAR, &ACCOUNTS, &COVER, &TERMS, &TERMS_LINES);
 }
 
 // Pay with an amount, a third account and a thirteenth code: the decoder's 2, and the run goes on.
@@ -65,7 +65,7 @@ const UNDECODABLE_LINES: [u64; 3 * 7] = [
 ];
 
 pub fn undecodable() {
-    check::expect(journal::ends_with(&WEEK, &ACCOUNTS, &COVER, &UNDECODABLE, &UNDECODABLE_LINES));
+    journal::expect_lines(&WEEK, &ACCOUNTS, &COVER, &UNDECODABLE, &UNDECODABLE_LINES);
 }
 
 // A rate set to 0 under a trade: 1 stands for the minus sign before 100.
@@ -82,5 +82,5 @@ const CUT_LINES: [u64; 2 * 7] = [
 ];
 
 pub fn headroom_below_zero() {
-    check::expect(journal::ends_with(&WEEK, &ACCOUNTS, &COVER, &CUT, &CUT_LINES));
+    journal::expect_lines(&WEEK, &ACCOUNTS, &COVER, &CUT, &CUT_LINES);
 }

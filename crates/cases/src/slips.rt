@@ -45,7 +45,7 @@ const ONE_DAY: [u64; 4 * 7] = [
 ];
 
 pub fn days_from_trading_days() {
-    check::expect(journal::ends_with(&LONGER_WEEK, &ACCOUNTS, &COVER, &FROM_DAY_3, &ONE_DAY));
+    journal::expect_lines(&LONGER_WEEK, &ACCOUNTS, &COVER, &FROM_DAY_3, &ONE_DAY);
 }
 
 #[rattlefmt::skip]
@@ -80,7 +80,7 @@ const NINE: [u64; 2 * 7] = [
 ];
 
 pub fn values_summed_then_rounded() {
-    check::expect(journal::ends_with(&WEEK, &THREE_RATES, &THREE_KINDS, &TEN_SHEETS, &NINE));
+    journal::expect_lines(&WEEK, &THREE_RATES, &THREE_KINDS, &TEN_SHEETS, &NINE);
 }
 
 // Cover of 180 more is pledged, and the trade tried on that day and on the next.
@@ -106,7 +106,7 @@ const AFTER_ITS_CLOSE: [u64; 6 * 7] = [
 ];
 
 pub fn pledge_before_its_close() {
-    check::expect(journal::ends_with(&WEEK, &ACCOUNTS, &COVER, &PLEDGED_TODAY, &AFTER_ITS_CLOSE));
+    journal::expect_lines(&WEEK, &ACCOUNTS, &COVER, &PLEDGED_TODAY, &AFTER_ITS_CLOSE);
 }
 
 // Every day of the word trades.
@@ -160,14 +160,14 @@ const ALL_MOVES: [u64; 2 * 7] = [
 ];
 
 pub fn smaller_day_paid_alone() {
-    check::expect(journal::ends_with(
+    journal::expect_lines(
         &DAILY,
         &ACCOUNTS,
         &TWO_UNPAID_DAYS,
         &ONE_FEN_SHORT,
         &NOTHING_MOVES,
-    ));
-    check::expect(journal::ends_with(&DAILY, &ACCOUNTS, &TWO_UNPAID_DAYS, &ENOUGH, &ALL_MOVES));
+    );
+    journal::expect_lines(&DAILY, &ACCOUNTS, &TWO_UNPAID_DAYS, &ENOUGH, &ALL_MOVES);
 }
 
 // Contract 7 of document 01, due on day 4, which does not trade.
@@ -199,11 +199,11 @@ const MATURED_LATER: [u64; 6 * 7] = [
 ];
 
 pub fn due_brought_forward() {
-    check::expect(journal::ends_with(
+    journal::expect_lines(
         &LONGER_WEEK,
         &ACCOUNTS,
         &COVER,
         &DUE_ON_A_HOLIDAY,
         &MATURED_LATER,
-    ));
+    );
 }

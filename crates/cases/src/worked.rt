@@ -67,5 +67,5 @@ const LINES: [u64; 16 * 7] = [
 ];
 
 pub fn journal() {
-    check::expect(journal::ends_with(&WEEK, &ACCOUNTS, &COVER, &TRADES, &LINES));
+    journal::expect_lines(&WEEK, &ACCOUNTS, &COVER, &TRADES, &LINES);
 }

@@ -1,29 +1,29 @@
+use mathlib.Core.Path.{refl}
+use mathlib.Core.Bool.{true}
+use native.Mathlib.Omega.{arith}
 use borrow.Author.Needs.{needs}
 use Rattle.cases.specs.Journal.{endsWith}
 use Rattle.cases.proofs.slips.pledge_before_its_close.Statement.{statement}
 use Rattle.cases.proofs.slips.pledge_before_its_close.Tie as tie
 
-slice-aggregate-ends-with : tie.Need-slice-aggregate-ends-with
-slice-aggregate-ends-with c = search needs
+slice-aggregate-expect-lines : tie.Need-slice-aggregate-expect-lines
+slice-aggregate-expect-lines c = refl
 
-slice-aggregate-ends-with-2 : tie.Need-slice-aggregate-ends-with-2
-slice-aggregate-ends-with-2 c = search needs
+slice-aggregate-expect-lines-2 : tie.Need-slice-aggregate-expect-lines-2
+slice-aggregate-expect-lines-2 c = refl
 
-slice-aggregate-ends-with-3 : tie.Need-slice-aggregate-ends-with-3
-slice-aggregate-ends-with-3 c = search needs
+slice-aggregate-expect-lines-3 : tie.Need-slice-aggregate-expect-lines-3
+slice-aggregate-expect-lines-3 c = refl
 
-slice-aggregate-ends-with-4 : tie.Need-slice-aggregate-ends-with-4
-slice-aggregate-ends-with-4 c = search needs
+slice-aggregate-expect-lines-4 : tie.Need-slice-aggregate-expect-lines-4
+slice-aggregate-expect-lines-4 c = refl
 
-slice-aggregate-ends-with-5 : tie.Need-slice-aggregate-ends-with-5
-slice-aggregate-ends-with-5 c = search needs
+slice-aggregate-expect-lines-5 : tie.Need-slice-aggregate-expect-lines-5
+slice-aggregate-expect-lines-5 c = refl
 
-ends-with-requires : tie.Need-ends-with-requires
-ends-with-requires c κs = search needs
-
-expect-requires : tie.Need-expect-requires
+expect-lines-requires : tie.Need-expect-lines-requires
 unfolding endsWith
-expect-requires c κs = c .ends-with .ensures
+expect-lines-requires c κs = (omega arith, omega arith, refl, omega arith, refl {a = true})
 
 returns : tie.Need-returns
 returns c = search needs
@@ -32,11 +32,10 @@ pub pledge-before-its-close-spec : {M : Type 1} → statement M
 pledge-before-its-close-spec =
     tie.close
     (tie.spec
-    slice-aggregate-ends-with
-    slice-aggregate-ends-with-2
-    slice-aggregate-ends-with-3
-    slice-aggregate-ends-with-4
-    slice-aggregate-ends-with-5
-    ends-with-requires
-    expect-requires
+    slice-aggregate-expect-lines
+    slice-aggregate-expect-lines-2
+    slice-aggregate-expect-lines-3
+    slice-aggregate-expect-lines-4
+    slice-aggregate-expect-lines-5
+    expect-lines-requires
     returns)

@@ -10,8 +10,8 @@ use Rattle.money.specs.Causes.{firstOf, numberOf}
 use Rattle.rules.specs.Listing.{listingCauses}
 use Rattle.cases.proofs.JournalLaws.{not-refused, lines-in-front, ending}
 use borrow.Author.Needs.{needs}
-use Rattle.cases.proofs.journal.ends_with.Statement.{statement}
-use Rattle.cases.proofs.journal.ends_with.Tie as tie
+use Rattle.cases.proofs.journal.expect_lines.Statement.{statement}
+use Rattle.cases.proofs.journal.expect_lines.Tie as tie
 
 add-length : tie.Need-add-length
 add-length c = search needs
@@ -70,15 +70,18 @@ sub-same-numbers c = search needs
 same-numbers-requires : tie.Need-same-numbers-requires
 same-numbers-requires c κs = omega (arith, slice-aggregate-same-numbers c)
 
-returns : tie.Need-returns
-returns c =
+expect-requires-2 : tie.Need-expect-requires-2
+expect-requires-2 c κs =
     let ran = c .before .before .before .before in
     let s = start ran .args in
     rw (c .same-numbers .ensures, lines-in-front _ _ _ _ (count ran) _ (length-bytes ran) (start ran .pre .2) (clear ran) (ran .run-listing .ensures .1), ran .before .before .before .encoded .ensures)
-    (ending (s .calendar .now) (s .start .now) (s .earlier .now) (s .events .now) (s .lines .now))
+    (ending (s .calendar .now) (s .start .now) (s .earlier .now) (s .events .now) (s .lines .now) ∙ start ran .pre .4)
 
-pub ends-with-spec : {M : Type 1} → statement M
-ends-with-spec =
+returns : tie.Need-returns
+returns c = search needs
+
+pub expect-lines-spec : {M : Type 1} → statement M
+expect-lines-spec =
     tie.close
     (tie.spec
     add-length
@@ -95,4 +98,5 @@ ends-with-spec =
     slice-aggregate-same-numbers
     sub-same-numbers
     same-numbers-requires
+    expect-requires-2
     returns)
