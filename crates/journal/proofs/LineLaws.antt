@@ -9,8 +9,8 @@ use native.Mathlib.Numerals.{add-one}
 use native.Mathlib.Omega.{arith}
 use borrow.Author.Tests.{lt-ltb, le-ltb, eq-eqb}
 use lib.Dec.{lit<}
-use lib.ListN.{length, getD, drop, length-append, List·getD-append}
-use lib.Seq.{getD-drop}
+use lib.ListN.{length, getD, take, drop, length-append, List·getD-append}
+use lib.Seq.{getD-drop, getD-take}
 use Rattle.money.specs.Causes.{firstOf}
 use Rattle.money.specs.Days.{Calendar}
 use Rattle.money.proofs.Refusals.{hit, skip, clear}
@@ -30,6 +30,13 @@ use Rattle.journal.specs.Listing.{Written, linesText, textCauses, answer
 pub line-read : (lines : List ℕ) (from : ℕ) → _≡_ {A = Line} (record { answer = getD lines from 0; negative = getD lines (from + 1) 0; size = getD lines (from + 2) 0; outstanding = getD lines (from + 3) 0; own = getD lines (from + 4) 0; client = getD lines (from + 5) 0; guarantee = getD lines (from + 6) 0 }) (lineFrom (drop from lines))
 unfolding lineFrom
 line-read lines from = simp (getD-drop, add-zero)
+
+-- the same of the line's own part
+pub row-read : (numbers : List ℕ) (n : ℕ) → 7 ≤ n → _≡_ {A = Line} (record { answer = getD (take n numbers) 0 0; negative = getD (take n numbers) 1 0; size = getD (take n numbers) 2 0; outstanding = getD (take n numbers) 3 0; own = getD (take n numbers) 4 0; client = getD (take n numbers) 5 0; guarantee = getD (take n numbers) 6 0 }) (lineFrom numbers)
+unfolding lineFrom
+row-read numbers n long =
+    let read : (i : ℕ) → i < 7 → getD (take n numbers) i 0 ≡ getD numbers i 0 = (λ i h. getD-take n numbers i 0 (omega arith)) in
+    rw (read 0 (lit< tt), read 1 (lit< tt), read 2 (lit< tt), read 3 (lit< tt), read 4 (lit< tt), read 5 (lit< tt), read 6 (lit< tt)) refl
 
 -- ---- one line more
 

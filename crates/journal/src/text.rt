@@ -79,14 +79,15 @@ pub fn line_at(lines: &[u64], from: usize) -> Line
     requires { ⌜ from + 7 ≤ length (now lines) ⌝ }
     ensures { λ r. ⌜ r ≡ lineFrom (drop from (now (lines .entry))) ⌝ }
 {
+    let row = &lines[from..from + 7];
     Line {
-        answer: lines[from],
-        negative: lines[from + 1],
-        size: lines[from + 2],
-        outstanding: lines[from + 3],
-        own: lines[from + 4],
-        client: lines[from + 5],
-        guarantee: lines[from + 6],
+        answer: row[0],
+        negative: row[1],
+        size: row[2],
+        outstanding: row[3],
+        own: row[4],
+        client: row[5],
+        guarantee: row[6],
     }
 }
 
