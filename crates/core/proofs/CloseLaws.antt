@@ -25,8 +25,8 @@ use Rattle.rules.proofs.FitParts.{securities-fit, cash-fits}
 use Rattle.rules.proofs.TableFit.{matured-lessens, fewer-fit}
 use Rattle.rules.proofs.EveningFit.{all-arrived-fit}
 use Rattle.core.specs.Types.{Security, Book, Trade}
-use Rattle.core.specs.declared.desk.Desk.{Desk}
-use Rattle.core.specs.declared.desk.Done.{Done}
+use Rattle.desk.specs.declared.state.Desk.{Desk}
+use Rattle.desk.specs.declared.done.Done.{Done}
 use Rattle.core.specs.declared.evening.Evened.{Evened}
 use Rattle.core.specs.declared.redemption.Plan.{Plan}
 use Rattle.core.specs.Flat.{Rows, tradesTo, tradesOf, bookOf, eveningAt, appliedAt, closedBy, tableBy, Kept}

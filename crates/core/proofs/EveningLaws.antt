@@ -213,24 +213,3 @@ module _ (served : Bool) (outstanding : ℕ) (withdrawals : Withdrawals) where
     pub applications-sound : Kept evening → Sound (applications served outstanding withdrawals evening .vault)
     unfolding applications
     applications-sound kept = sound-of (inTurn (withdrawals .count) turn evening) (turns-keep (withdrawals .count) kept)
-
--- ---- headroom
-
-same-test : (a b c d : ℕ) → (a < b → c < d) → (b ≤ a → d ≤ c) → ltb a b ≡ ltb c d
-same-test a b c d below above =
-    by-test (λ t. t ≡ ltb c d) (ltb a b) (λ t. sym (lt-ltb c d (below (ltb-true a b t)))) (λ t. sym (le-ltb c d (above (ltb-false a b t))))
-
--- less O, a number is below q if it is below O + q
-less-below : (m o q : ℕ) → ltZ (subℕ m o) (pos q) ≡ ltb m (o + q)
-less-below m o q =
-    by-test (λ t. ltZ (cond t (negsuc (o - suc m)) (pos (m - o))) (pos q) ≡ ltb m (o + q)) (ltb m o)
-    (λ t. sym (lt-ltb m (o + q) (omega (arith, ltb-true m o t))))
-    (λ t. let l = ltb-false m o t in same-test (m - o) q m (o + q) (λ h. omega arith) (λ h. omega arith))
-
--- headroom's test, by the smaller of S and V
-pub headroom-below : (size value outstanding count smaller : ℕ) → min size value ≡ smaller → ltb smaller (outstanding + count) ≡ ltZ (headroomOf size value outstanding) (pos count)
-headroom-below size value outstanding count smaller e = rw e (sym (less-below smaller outstanding count))
-
-pub headroom-below-0 : (size value outstanding smaller : ℕ) → min size value ≡ smaller → ltb smaller outstanding ≡ ltZ (headroomOf size value outstanding) (pos 0)
-headroom-below-0 size value outstanding smaller e =
-    let same : outstanding ≡ outstanding + 0 = omega arith in ap (λ o. ltb smaller o) same ∙ headroom-below size value outstanding 0 smaller e

@@ -12,8 +12,8 @@ use Rattle.rules.specs.Book.{answer}
 use Rattle.rules.specs.Step.{eventCauses}
 use Rattle.rules.proofs.Answers.{numbers, event-numbers, number-passes, unused}
 use Rattle.core.specs.Types.{Book, Trade, Event}
-use Rattle.core.specs.declared.desk.Desk.{Desk}
-use Rattle.core.specs.declared.desk.Done.{Done}
+use Rattle.desk.specs.declared.state.Desk.{Desk}
+use Rattle.desk.specs.declared.done.Done.{Done}
 use Rattle.core.specs.Flat.{Rows, bookOf, appliedBy, appliedAt}
 
 -- the rows of no book: where a fact is the desk's alone

@@ -4,7 +4,7 @@ use mathlib.Core.Path.{_≡_, ap, _∙_}
 use mathlib.Core.List.{List}
 use Prim.Native.Nat.{ℕ}
 use Rattle.core.specs.Types.{Security, Book}
-use Rattle.core.specs.declared.desk.Desk.{Desk}
+use Rattle.desk.specs.declared.state.Desk.{Desk}
 use Rattle.core.specs.Flat.{securitiesOf, rowsOf, bookOf, deskOf}
 
 pub whole : (book : Book) (held : List ℕ) {desk : Desk} {kinds units : List ℕ} → desk ≡ deskOf book → securitiesOf held ≡ book .vault .securities → kinds ≡ book .withdrawals .kinds → units ≡ book .withdrawals .units → bookOf desk (rowsOf held kinds units) ≡ book

@@ -9,7 +9,7 @@ use Rattle.rules.specs.Vault.{value, outstandingOf}
 use Rattle.rules.specs.Fit.{tradeFit, allTrades}
 use Rattle.core.specs.Types.{Trade, Book, Event, Open, FundIn, FundOut, Size, Rate, Pledge, Freeze, Withdraw, Initial, Early, Pay, Close, Entry, Known, Undecodable}
 use Rattle.core.specs.Flat.{vaultOf, securitiesOf}
-use Rattle.core.specs.declared.desk.Desk.{Desk}
+use Rattle.desk.specs.declared.state.Desk.{Desk}
 pub use Rattle.core.specs.declared.figures.Figures.{Figures}
 pub use Rattle.core.specs.declared.trades.Gathered.{Gathered}
 

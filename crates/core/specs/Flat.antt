@@ -18,8 +18,8 @@ use Rattle.rules.specs.Step.{Outcome}
 use Rattle.rules.specs.Trades.{same}
 use Rattle.rules.specs.Fit.{tradeFit, allTrades, fit}
 use Rattle.core.specs.Types.{Security, Guarantee, Vault, Book, Applied, Contract, Trade}
-use Rattle.core.specs.declared.desk.Desk.{Desk}
-use Rattle.core.specs.declared.desk.Done.{Done}
+use Rattle.desk.specs.declared.state.Desk.{Desk}
+use Rattle.desk.specs.declared.done.Done.{Done}
 use Rattle.core.specs.declared.evening.Evened.{Evened}
 
 -- a number of the trade at a place

@@ -13,7 +13,7 @@ use Rattle.rules.specs.Cover.{uncounted, coverOf}
 use Rattle.rules.specs.Listing.{RunOutcome, runOutcome}
 use Rattle.core.specs.Types.{Book, Trade, Entry, Cover}
 use Rattle.core.specs.Flat.{rowsOf, bookOf, tradesOf}
-use Rattle.core.specs.declared.desk.Desk.{Desk}
+use Rattle.desk.specs.declared.state.Desk.{Desk}
 
 -- what is small of the book, the rows of securities and of applications, and the table
 pub record Lent : Type 0 where

@@ -15,20 +15,19 @@ ghost use Rattle.rules.specs.Trades.{outstanding, remaining};
 ghost use Rattle.core.specs.Types.{Trade};
 ghost use Rattle.core.specs.Flat.{Rows, vaultOf, securitiesOf, rowsOf, bookOf, eveningAt, appliedAt, tradesOf, closedBy, tableBy, Kept};
 use crate::days;
-use crate::desk;
-use crate::desk::Desk;
-use crate::desk::Done;
 use crate::evening;
 use crate::evening::Evened;
 use crate::nets;
 use crate::packing;
 use crate::redemption;
-use crate::standing;
 use crate::trades;
 use crate::vault;
+use desk::done;
+use desk::done::Done;
+use desk::headroom;
+use desk::standing;
+use desk::state::Desk;
 use money::units::Fen;
-use money::units::Sheets;
-use rules::answer::Answer;
 use rules::book::Cash;
 use rules::book::Nets;
 use rules::book::Phase;
@@ -145,7 +144,7 @@ fn closed_desk(
     let standing = desk.standing;
     let short = standing.short;
     let guarantee = evened.guarantee;
-    let is_short = evening::is_short(desk.size.0, vault::value_of(held, guarantee), left);
+    let is_short = headroom::is_short(desk.size.0, vault::value_of(held, guarantee), left);
     let cash = Cash {
         own: Fen(evened.own.0),
         client: Fen(desk.cash.client.0),
@@ -183,15 +182,7 @@ fn closed(
     let evened = evening_end(desk, held, &*kinds, &*units, left);
     clear(kinds, units);
     let next = closed_desk(desk, &*held, cleared, evened, left, kept);
-    Done {
-        answer: Answer {
-            number: 0,
-            matured: Sheets(matured),
-            done: evened.done,
-            dropped: evened.dropped,
-        },
-        desk: next,
-    }
+    done::of_close(matured, evened.done, evened.dropped, next)
 }
 
 // All that can refuse it is decided on a plan, before anything is written.
@@ -208,7 +199,7 @@ pub fn close(
 {
     let standing = desk.standing;
     if !may_close(standing) {
-        return desk::answered(4, desk);
+        return done::answered(4, desk);
     }
     let day = standing.day;
     let count = desk.trades;
@@ -216,11 +207,11 @@ pub fn close(
     let plan = redemption::maturity_plan(&*table, count, days::day_number(day), payment);
     let with_matured = nets::today_plus(desk.nets, plan.amount);
     if !nets::today_fit(with_matured) {
-        return desk::answered(14, desk);
+        return done::answered(14, desk);
     }
     let cleared = nets::joined(with_matured);
     if !nets::cleared_fit(cleared) {
-        return desk::answered(14, desk);
+        return done::answered(14, desk);
     }
     closed(desk, held, kinds, units, table, plan.sheets, cleared)
 }

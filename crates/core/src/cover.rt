@@ -6,24 +6,16 @@ ghost use Rattle.rules.specs.Vault.{headroomOf};
 ghost use Rattle.rules.specs.Cover.{uncounted};
 use crate::figures::Figures;
 use crate::nets;
+use desk::headroom;
 use money::units::Sheets;
 use rules::answer::Cover;
-
-fn smaller(a: u64, b: u64) -> u64
-    ensures { λ r. ⌜ r ≡ min a b ⌝ }
-{
-    if a < b {
-        return a;
-    }
-    b
-}
 
 // The smaller of S and V, less O.
 fn headroom_from(size: u64, value: u64, outstanding: u64) -> i64
     requires { ⌜ (size ≤ 10000000000) × (outstanding ≤ 10000000000) ⌝ }
     ensures { λ r. ⌜ r ≡ headroomOf size value outstanding ⌝ }
 {
-    nets::difference(smaller(size, value), outstanding)
+    nets::difference(headroom::smaller(size, value), outstanding)
 }
 
 // From O and V.

@@ -9,9 +9,6 @@ ghost use Rattle.core.specs.Types.{Known};
 ghost use Rattle.core.specs.Flat.{rowsOf, bookOf, appliedAt, tradesOf, appliedOf};
 ghost use Rattle.core.specs.Figures.{outstandingAt};
 use crate::close;
-use crate::desk;
-use crate::desk::Desk;
-use crate::desk::Done;
 use crate::early;
 use crate::freeze;
 use crate::funds;
@@ -22,6 +19,9 @@ use crate::pledge;
 use crate::rate;
 use crate::size;
 use crate::withdraw;
+use desk::done;
+use desk::done::Done;
+use desk::state::Desk;
 use rules::event::Entry;
 use rules::event::Event;
 
@@ -101,6 +101,6 @@ pub fn entry_on(
             outstanding,
             event,
         ),
-        Entry::Undecodable => desk::answered(2, desk),
+        Entry::Undecodable => done::answered(2, desk),
     }
 }

@@ -6,14 +6,14 @@ ghost use Rattle.money.specs.Causes.{firstOf, numberOf};
 ghost use Rattle.rules.specs.Early.{earlyAmount, pastDue, earlyCauses, earlyBook, earlyTable};
 ghost use Rattle.core.specs.Flat.{Rows, bookOf, Fits, appliedAt, tradesTo, tradesOf, placeOf, appliedBy, tableBy};
 use crate::days;
-use crate::desk;
-use crate::desk::Desk;
-use crate::desk::Done;
 use crate::flat;
 use crate::nets;
 use crate::redemption;
-use crate::standing;
 use crate::trades;
+use desk::done;
+use desk::done::Done;
+use desk::standing;
+use desk::state::Desk;
 use money::units::Sheets;
 use money::units::Ticks;
 use rules::trade::Contract;
@@ -106,7 +106,7 @@ pub fn early(
     let place = trades::place_of(&*table, desk.trades, contract);
     let refusal = early_refusal(calendar, desk, &*table, place, contract, count, price);
     if refusal != 0 {
-        return desk::answered(refusal, desk);
+        return done::answered(refusal, desk);
     }
     let amount = amount_at(calendar, desk, &*table, place, contract, count, price);
     let left = flat::sheets_at(&*table, place) - count.0;
@@ -114,5 +114,5 @@ pub fn early(
     let nets = desk.nets;
     let mut next = desk;
     next.nets = nets::today_plus(nets, amount);
-    desk::answered(0, next)
+    done::answered(0, next)
 }

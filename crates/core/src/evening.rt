@@ -1,4 +1,4 @@
-// The evening: what arrives becomes effective, then the applications in order; and headroom's two tests.
+// The evening: what arrives becomes effective, then the applications in order.
 ghost use mathlib.Core.Path.{_≡_};
 ghost use mathlib.Core.Bool.{true, cond};
 ghost use Prim.Native.Nat.{_≤_, _+_};
@@ -167,25 +167,4 @@ pub fn applications(
         done,
         dropped,
     }
-}
-
-// Headroom below 0.
-pub fn is_short(size: u64, value: u64, outstanding: u64) -> bool
-    ensures { λ r. ⌜ r ≡ ltZ (headroomOf size value outstanding) (pos 0) ⌝ }
-{
-    if size < value {
-        return size < outstanding;
-    }
-    value < outstanding
-}
-
-// Headroom below a count of sheets.
-pub fn above_headroom(size: u64, value: u64, outstanding: u64, count: u64) -> bool
-    requires { ⌜ (outstanding ≤ 10000000000) × (count ≤ 100000000) ⌝ }
-    ensures { λ r. ⌜ r ≡ ltZ (headroomOf size value outstanding) (pos count) ⌝ }
-{
-    if size < value {
-        return size < outstanding + count;
-    }
-    value < outstanding + count
 }

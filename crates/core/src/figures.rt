@@ -4,9 +4,9 @@ ghost use lib.ListN.{length};
 ghost use Rattle.rules.specs.Trades.{inUse, outstanding};
 ghost use Rattle.core.specs.Figures.{figuresAt, Moved, MovedBy};
 ghost use Rattle.core.specs.Flat.{FitsHeld, tradesOf};
-use crate::desk::Desk;
 use crate::trades;
 use crate::vault;
+use desk::state::Desk;
 use rules::event::Entry;
 use rules::event::Event;
 

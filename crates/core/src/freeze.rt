@@ -6,11 +6,11 @@ ghost use lib.ListN.{length, set};
 ghost use Rattle.money.specs.Causes.{firstOf, numberOf};
 ghost use Rattle.rules.specs.Freeze.{freezeCauses, frozen, withFrozen, cashFrozen};
 ghost use Rattle.core.specs.Flat.{securityIn, securitiesOf, rowsOf, bookOf, appliedBy, appliedAt};
-use crate::desk;
-use crate::desk::Desk;
-use crate::desk::Done;
 use crate::held;
 use crate::vault;
+use desk::done;
+use desk::done::Done;
+use desk::state::Desk;
 use money::units::Fen;
 use rules::book::Guarantee;
 
@@ -54,14 +54,14 @@ pub fn freeze(desk: Desk, held: &mut [u64], kind: u8, units: u64) -> Done
 {
     let refusal = freeze_refusal(desk, &*held, kind, units);
     if refusal != 0 {
-        return desk::answered(refusal, desk);
+        return done::answered(refusal, desk);
     }
     if kind == 32 {
         let guarantee = desk.guarantee;
         let mut next = desk;
         next.guarantee = cash_frozen(guarantee, units);
-        return desk::answered(0, next);
+        return done::answered(0, next);
     }
     put_frozen(held, kind, units);
-    desk::answered(0, desk)
+    done::answered(0, desk)
 }

@@ -5,9 +5,9 @@ ghost use Rattle.money.specs.Causes.{firstOf, numberOf};
 ghost use Rattle.rules.specs.Fit.{cashFit};
 ghost use Rattle.rules.specs.Funds.{holds, withAccount, fundInCauses, fundedIn, fundOutCauses, fundedOut};
 ghost use Rattle.core.specs.Flat.{Rows, bookOf, appliedBy, appliedAt};
-use crate::desk;
-use crate::desk::Desk;
-use crate::desk::Done;
+use desk::done;
+use desk::done::Done;
+use desk::state::Desk;
 use money::units::Fen;
 use rules::book::Cash;
 use rules::event::Account;
@@ -59,12 +59,12 @@ pub fn fund_in(desk: Desk, account: Account, amount: Fen) -> Done
 {
     let refusal = fund_in_refusal(desk, account, amount);
     if refusal != 0 {
-        return desk::answered(refusal, desk);
+        return done::answered(refusal, desk);
     }
     let cash = desk.cash;
     let mut next = desk;
     next.cash = with_account(account, balance(account, cash) + amount.0, cash);
-    desk::answered(0, next)
+    done::answered(0, next)
 }
 
 fn fund_out_refusal(desk: Desk, account: Account, amount: Fen) -> u8
@@ -85,10 +85,10 @@ pub fn fund_out(desk: Desk, account: Account, amount: Fen) -> Done
 {
     let refusal = fund_out_refusal(desk, account, amount);
     if refusal != 0 {
-        return desk::answered(refusal, desk);
+        return done::answered(refusal, desk);
     }
     let cash = desk.cash;
     let mut next = desk;
     next.cash = with_account(account, balance(account, cash) - amount.0, cash);
-    desk::answered(0, next)
+    done::answered(0, next)
 }

@@ -12,15 +12,16 @@ ghost use Rattle.rules.specs.Initial.{badCount, badPrices, badDue, begun, roomC
 ghost use Rattle.core.specs.Flat.{Rows, rowsOf, bookOf, FitsHeld, appliedAt, tradesTo, tradesOf, appliedBy, tableBy};
 ghost use Rattle.core.specs.Figures.{outstandingAt};
 use crate::days;
-use crate::desk;
-use crate::desk::Desk;
-use crate::desk::Done;
-use crate::evening;
 use crate::flat;
 use crate::nets;
-use crate::standing;
 use crate::trades;
 use crate::vault;
+use desk::done;
+use desk::done::Done;
+use desk::headroom;
+use desk::standing;
+use desk::state;
+use desk::state::Desk;
 use money::units::Sheets;
 use money::units::Ticks;
 use rules::trade::Contract;
@@ -82,7 +83,7 @@ fn lacks_headroom(
 {
     let guarantee = desk.guarantee;
     let value = vault::value_of(held, guarantee);
-    evening::above_headroom(desk.size.0, value, outstanding, count)
+    headroom::above_headroom(desk.size.0, value, outstanding, count)
 }
 
 fn room_refusal(
@@ -100,7 +101,7 @@ fn room_refusal(
     if is_taken(table, desk.trades, contract) {
         return 10;
     }
-    if table.len() / 4 <= desk.trades {
+    if state::is_full(table.len(), desk.trades) {
         return 11;
     }
     if lacks_headroom(calendar, desk, held, table, outstanding, terms.sheets.0) {
@@ -179,13 +180,10 @@ pub fn initial(
 {
     let refusal = initial_refusal(calendar, desk, held, &*table, outstanding, terms);
     if refusal != 0 {
-        return desk::answered(refusal, desk);
+        return done::answered(refusal, desk);
     }
     let place = desk.trades;
     flat::put_trade(table, place, begun_trade(calendar, desk, terms));
-    let nets = desk.nets;
-    let mut next = desk;
-    next.nets = nets::today_less(nets, 10_000 * terms.sheets.0);
-    next.trades = place + 1;
-    desk::answered(0, next)
+    let nets = nets::today_less(desk.nets, 10_000 * terms.sheets.0);
+    done::answered(0, state::with_trades(desk, nets, place + 1))
 }

@@ -12,15 +12,16 @@ ghost use Rattle.core.specs.Flat.{capacity, tradesOf};
 ghost use Rattle.core.specs.Figures.{outstandingAt};
 ghost use Rattle.core.specs.Lent.{lent, bookIn, tableIn, isWhole, fitIn, stepIn, coverIn, runIn};
 use crate::cover;
-use crate::desk;
-use crate::desk::Desk;
-use crate::desk::Done;
 use crate::dispatch;
 use crate::figures;
 use crate::fit;
 use crate::fit::Fitness;
 use crate::flat;
 use crate::run;
+use desk::done;
+use desk::done::Done;
+use desk::state;
+use desk::state::Desk;
 use rules::answer::Cover;
 use rules::event::Entry;
 use rules::trade::Trade;
@@ -64,7 +65,7 @@ fn fitness_in(
     if !is_whole(desk, held, kinds, units, table) {
         return not_fit();
     }
-    if calendar.len() > 1_200 {
+    if state::is_too_long(calendar.len()) {
         return not_fit();
     }
     fit::fitness_of(calendar, desk, held, kinds, units, table)
@@ -85,7 +86,7 @@ pub fn apply(
     let tested = fitness_in(calendar, desk, &*held, &*kinds, &*units, &*table);
     let fits = tested.fit;
     if !fits {
-        return desk::answered(1, desk);
+        return done::answered(1, desk);
     }
     dispatch::entry_on(
         calendar,

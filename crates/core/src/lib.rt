@@ -1,7 +1,6 @@
 // The core: the twelve events on a book and its table in lent numbers.
 
-// The book in numbers: what is small, by value; its rows; and a whole book taken apart and put together.
-pub mod desk;
+// A whole book taken apart into a desk and rows, and put together.
 pub mod split;
 
 // The calls: one event, headroom and O, a run of encoded events.
@@ -22,7 +21,6 @@ mod nets;
 mod packing;
 mod redemption;
 mod run;
-mod standing;
 mod trades;
 mod vault;
 

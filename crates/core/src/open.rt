@@ -10,12 +10,12 @@ ghost use Rattle.rules.specs.Open.{statusAtOpen, turnsTerminated, openedStandin
 ghost use Rattle.core.specs.Types.{Normal, NotFailed, FailedOnce};
 ghost use Rattle.core.specs.Flat.{Rows, bookOf, Fits, appliedAt, tradesOf, appliedBy, tableBy};
 use crate::days;
-use crate::desk;
-use crate::desk::Desk;
-use crate::desk::Done;
 use crate::nets;
 use crate::redemption;
-use crate::standing;
+use desk::done;
+use desk::done::Done;
+use desk::standing;
+use desk::state::Desk;
 use rules::book::FailedRun;
 use rules::book::Nets;
 use rules::book::Phase;
@@ -120,14 +120,14 @@ fn terminated(calendar: &[u32], desk: Desk, table: &mut [u64], after: Standing) 
 {
     let nets = with_fallbacks(calendar, desk, &*table, after);
     if !nets::cleared_fit(nets) {
-        return desk::answered(14, desk);
+        return done::answered(14, desk);
     }
     // every due day has 32 bits, so every trade is due by the last of them
     redemption::redeem_due(table, desk.trades, 4_294_967_295);
     let mut next = desk;
     next.nets = nets;
     next.standing = after;
-    desk::answered(0, next)
+    done::answered(0, next)
 }
 
 pub fn open(calendar: &[u32], desk: Desk, table: &mut [u64]) -> Done
@@ -136,12 +136,12 @@ pub fn open(calendar: &[u32], desk: Desk, table: &mut [u64]) -> Done
 {
     let standing = desk.standing;
     if !standing::is_closed(standing) {
-        return desk::answered(4, desk);
+        return done::answered(4, desk);
     }
     let day = standing.day;
     // before 14: that one does not apply where this one does
     if !days::opens(calendar, day) {
-        return desk::answered(16, desk);
+        return done::answered(16, desk);
     }
     let after = opened_standing(calendar, standing);
     if turns_terminated(standing, after) {
@@ -149,5 +149,5 @@ pub fn open(calendar: &[u32], desk: Desk, table: &mut [u64]) -> Done
     }
     let mut next = desk;
     next.standing = after;
-    desk::answered(0, next)
+    done::answered(0, next)
 }

@@ -8,11 +8,11 @@ ghost use Rattle.money.specs.Causes.{firstOf, numberOf};
 ghost use Rattle.rules.specs.Fit.{netFit, netsFit, cashFit};
 ghost use Rattle.rules.specs.Pay.{payerHolds, moved, failedMore, payCauses, paidStanding, paidBook};
 ghost use Rattle.core.specs.Flat.{Rows, bookOf, paidBy, appliedAt};
-use crate::desk;
-use crate::desk::Desk;
-use crate::desk::Done;
 use crate::nets;
-use crate::standing;
+use desk::done;
+use desk::done::Done;
+use desk::standing;
+use desk::state::Desk;
 use money::units::Fen;
 use rules::book::Cash;
 use rules::book::FailedRun;
@@ -124,12 +124,12 @@ pub fn pay(desk: Desk) -> Done
 {
     let refusal = pay_refusal(desk);
     if refusal != 0 {
-        return desk::answered(refusal, desk);
+        return done::answered(refusal, desk);
     }
     let nets = desk.nets;
     let cash = desk.cash;
     if falls_short(nets, cash) {
-        return desk::answered(99, unpaid(desk));
+        return done::answered(99, unpaid(desk));
     }
-    desk::answered(0, paid(desk))
+    done::answered(0, paid(desk))
 }

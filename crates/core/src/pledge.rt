@@ -8,11 +8,11 @@ ghost use Rattle.money.specs.Causes.{firstOf, numberOf};
 ghost use Rattle.rules.specs.Fit.{cashFit, securitiesFit};
 ghost use Rattle.rules.specs.Pledge.{pledgeCauses, pledged, arrived, cashArrived};
 ghost use Rattle.core.specs.Flat.{securityIn, securitiesOf, vaultOf, rowsOf, bookOf, appliedBy, appliedAt};
-use crate::desk;
-use crate::desk::Desk;
-use crate::desk::Done;
 use crate::held;
-use crate::standing;
+use desk::done;
+use desk::done::Done;
+use desk::standing;
+use desk::state::Desk;
 use money::units::Fen;
 use rules::book::Guarantee;
 
@@ -79,7 +79,7 @@ pub fn pledge(desk: Desk, held: &mut [u64], kind: u8, units: u64) -> Done
 {
     let refusal = pledge_refusal(desk, &*held, kind, units);
     if refusal != 0 {
-        return desk::answered(refusal, desk);
+        return done::answered(refusal, desk);
     }
     if kind == 32 {
         let own = desk.cash.own.0 - units;
@@ -87,8 +87,8 @@ pub fn pledge(desk: Desk, held: &mut [u64], kind: u8, units: u64) -> Done
         let mut next = desk;
         next.cash.own.0 = own;
         next.guarantee = cash_arrived(guarantee, units);
-        return desk::answered(0, next);
+        return done::answered(0, next);
     }
     put_arrived(held, kind, units);
-    desk::answered(0, desk)
+    done::answered(0, desk)
 }

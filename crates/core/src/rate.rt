@@ -6,10 +6,10 @@ ghost use lib.ListN.{length};
 ghost use Rattle.money.specs.Causes.{firstOf, numberOf};
 ghost use Rattle.rules.specs.Rate.{rateCauses, rated};
 ghost use Rattle.core.specs.Flat.{rowsOf, bookOf, appliedBy, appliedAt};
-use crate::desk;
-use crate::desk::Desk;
-use crate::desk::Done;
 use crate::held;
+use desk::done;
+use desk::done::Done;
+use desk::state::Desk;
 
 fn rate_refusal(kind: u8, rate: u64) -> u8
     ensures { λ r. ⌜ r ≡ numberOf (firstOf (rateCauses kind rate)) ⌝ }
@@ -29,11 +29,11 @@ pub fn set_rate(desk: Desk, held: &mut [u64], kind: u8, rate: u64) -> Done
 {
     let refusal = rate_refusal(kind, rate);
     if refusal != 0 {
-        return desk::answered(refusal, desk);
+        return done::answered(refusal, desk);
     }
     let at = kind as usize;
     let mut security = held::security_at(&*held, at);
     security.rate = rate;
     held::put_security(held, at, security);
-    desk::answered(0, desk)
+    done::answered(0, desk)
 }

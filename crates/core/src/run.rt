@@ -11,11 +11,11 @@ ghost use Rattle.rules.specs.Listing.{lineOf, runDone};
 ghost use Rattle.core.specs.Flat.{rowsOf, bookOf, tradesOf};
 ghost use Rattle.core.specs.Figures.{figuresAt};
 use crate::cover;
-use crate::desk::Desk;
 use crate::dispatch;
 use crate::figures;
 use crate::figures::Figures;
 use crate::line;
+use desk::state::Desk;
 
 // What an event of a run leaves: the desk, and O and V for the next.
 struct Turn {

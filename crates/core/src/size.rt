@@ -7,9 +7,9 @@ ghost use Rattle.rules.specs.Size.{sizeCauses, sized};
 ghost use Rattle.core.specs.Types.{Book, Trade};
 ghost use Rattle.core.specs.Flat.{Rows, bookOf, appliedBy, appliedAt};
 ghost use Rattle.core.specs.Figures.{outstandingAt};
-use crate::desk;
-use crate::desk::Desk;
-use crate::desk::Done;
+use desk::done;
+use desk::done::Done;
+use desk::state::Desk;
 use money::units::Sheets;
 
 fn size_refusal(outstanding: u64, size: Sheets) -> u8
@@ -29,9 +29,9 @@ pub fn set_size(desk: Desk, outstanding: u64, size: Sheets) -> Done
 {
     let refusal = size_refusal(outstanding, size);
     if refusal != 0 {
-        return desk::answered(refusal, desk);
+        return done::answered(refusal, desk);
     }
     let mut next = desk;
     next.size = size;
-    desk::answered(0, next)
+    done::answered(0, next)
 }

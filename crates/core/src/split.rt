@@ -2,8 +2,8 @@
 ghost use mathlib.Core.Path.{_≡_};
 ghost use lib.ListN.{length};
 ghost use Rattle.core.specs.Flat.{securitiesOf, deskOf, rowsOf, bookOf};
-use crate::desk::Desk;
 use crate::held;
+use desk::state::Desk;
 use rules::book::Book;
 use rules::book::Security;
 use rules::book::Vault;

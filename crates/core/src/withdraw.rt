@@ -9,11 +9,11 @@ ghost use Rattle.rules.specs.Fit.{withdrawalsFit, securitiesFit, cashFit};
 ghost use Rattle.rules.specs.Vault.{effectiveOf, frozenOf};
 ghost use Rattle.rules.specs.Withdraw.{applied, withdrawCauses, withdrawn};
 ghost use Rattle.core.specs.Flat.{rowsOf, bookOf, appliedBy, appliedAt};
-use crate::desk;
-use crate::desk::Desk;
-use crate::desk::Done;
-use crate::standing;
 use crate::vault;
+use desk::done;
+use desk::done::Done;
+use desk::standing;
+use desk::state::Desk;
 
 // Whether the units, with those frozen and applied for, are above the effective. The units are tested first: any number may be applied for, and the sum of the three is then below 2^64.
 fn lacks(desk: Desk, held: &[u64], kinds: &[u8], units: &[u64], kind: u8, amount: u64) -> bool
@@ -78,12 +78,12 @@ pub fn withdraw(
 {
     let refusal = withdraw_refusal(desk, held, &*kinds, &*units, kind, amount);
     if refusal != 0 {
-        return desk::answered(refusal, desk);
+        return done::answered(refusal, desk);
     }
     let at = desk.applications;
     kinds[at] = kind;
     units[at] = amount;
     let mut next = desk;
     next.applications = at + 1;
-    desk::answered(0, next)
+    done::answered(0, next)
 }

@@ -11,7 +11,7 @@ use Rattle.rules.specs.declared.book.FailedRun.{FailedRun}
 use Rattle.rules.specs.declared.book.FailedRun.the-variants.{NotFailed, FailedOnce, FailedTwice}
 use Rattle.rules.specs.declared.book.ShortRun.{ShortRun}
 use Rattle.rules.specs.declared.book.ShortRun.the-variants.{NotShort, ShortOnce, ShortTwice, ShortThrice}
-use Rattle.core.specs.declared.desk.Desk.{Desk}
+use Rattle.desk.specs.declared.state.Desk.{Desk}
 use Rattle.exports.specs.Page.{dayAt, phaseAt, statusAt, failedAt, shortAt, isDated, dayNumber, phaseNumber, statusNumber, failedNumber, shortNumber}
 use Rattle.exports.specs.Slate.{deskOn, slateOf}
 

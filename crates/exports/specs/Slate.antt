@@ -1,6 +1,6 @@
 -- A desk in plain numbers, for the calls on a book that is changed in place: what is small of it, beside its lent rows.
 -- Assumes nothing.
-use Rattle.core.specs.declared.desk.Desk.{Desk}
+use Rattle.desk.specs.declared.state.Desk.{Desk}
 use Rattle.exports.specs.Page.{standingAt, marksOf}
 use Rattle.exports.specs.declared.slate.Slate.{Slate}
 

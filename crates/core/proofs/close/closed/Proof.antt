@@ -69,8 +69,11 @@ closed-desk-requires c κs =
     let sound = rw (sym (evening-over end)) at (evening-sound (book s) (s .pre .1 .1) (s .pre .1 .2) (trades s)) in
     (end .evening-end .kept .1 .0 ∙ s .pre .0 .0, sound .0, sound .1, sound .2)
 
+of-close-requires : tie.Need-of-close-requires
+of-close-requires c κs = search needs
+
 same-length : tie.Need-same-length
-same-length c = search needs
+same-length c = c .before .before .before .before .before .before .before .before .before .before .before .before .evening-end .kept .1 .0
 
 same-length-2 : tie.Need-same-length-2
 same-length-2 c = search needs
@@ -79,10 +82,11 @@ same-length-3 : tie.Need-same-length-3
 same-length-3 c = search needs
 
 same-length-4 : tie.Need-same-length-4
-same-length-4 c = let packed = c .before .before .before .before .before .before .before .before .before .before .before .before .before .before .before .before .before in packed .pack .kept .0 ∙ packed .before .before .before .before .before .before .redeem-due .kept .0
+same-length-4 c = let packed = c .before .before .before .before .before .before .before .before .before .before .before .before .before .before .before .before .before .before in packed .pack .kept .0 ∙ packed .before .before .before .before .before .before .redeem-due .kept .0
 
 returns : tie.Need-returns
-returns c =
+returns d =
+    let c = d .before in
     let cleared = c .before .before .before .before .before .before .clear in
     let end = c .before .before .before .before .before .before .before .before .before .before .before in
     let packed = end .before .before .before .before .before .before in
@@ -91,7 +95,7 @@ returns c =
     let s = from-count counted in (
       (λ calendar matured nets.
           let next = c .closed-desk .ensures calendar _ (trades s) nets (evening-over end) (sheets-left counted) (packed .pack .ensures .0 ∙ ap (λ l. length (remaining l)) (trades-left counted)) in
-          close-done calendar (book s) (trades s) (s .args .matured) (end .evening-end .result) (securitiesOf (end .evening-end .last .1 .0)) (c .closed-desk .result) (rowsOf (end .evening-end .last .1 .0) (cleared .last .0) (cleared .last .1 .0)) matured (evening-over end) (rw (cleared .ensures .0, cleared .ensures .1) next)),
+          rw (d .of-close .ensures) (close-done calendar (book s) (trades s) (s .args .matured) (end .evening-end .result) (securitiesOf (end .evening-end .last .1 .0)) (c .closed-desk .result) (rowsOf (end .evening-end .last .1 .0) (cleared .last .0) (cleared .last .1 .0)) matured (evening-over end) (rw (cleared .ensures .0, cleared .ensures .1) next))),
       packed .pack .ensures .1 ∙ packed-after-maturity (book s) _ _ _ (redeemed .before .day-number .ensures) (s .pre .0 .3) (redeemed .redeem-due .kept .0) (redeemed .redeem-due .ensures),
     )
 
@@ -106,6 +110,7 @@ closed-spec =
     evening-end-requires
     clear-requires
     closed-desk-requires
+    of-close-requires
     same-length
     same-length-2
     same-length-3

@@ -46,13 +46,16 @@ put-trade-requires : tie.Need-put-trade-requires
 put-trade-requires c κs = omega (arith, begins (c .before .before) .room)
 
 mul-today-less : tie.Need-mul-today-less
-mul-today-less c = omega (arith, begins (c .before .before .before .before .before .before .before) .few)
+mul-today-less c = omega (arith, begins (c .before .before .before .before .before .before) .few)
 
 today-less-requires : tie.Need-today-less-requires
-today-less-requires c κs = (fit-net _ _ _ (c .before .before .before .before .before .before .before .before .before .before .before .before .before .pre .1 .fits), omega (arith, begins (c .before .before .before .before .before .before .before) .few))
+today-less-requires c κs = (fit-net _ _ _ (c .before .before .before .before .before .before .before .before .before .before .before .before .pre .1 .fits), omega (arith, begins (c .before .before .before .before .before .before) .few))
 
-add-next : tie.Need-add-next
-add-next c = omega (arith, fit-keeps _ _ _ (c .before .before .before .before .before .before .before .before .before .before .before .before .before .before .pre .1 .fits) .few)
+add-with-trades : tie.Need-add-with-trades
+add-with-trades c = omega (arith, fit-keeps _ _ _ (c .before .before .before .before .before .before .before .before .before .before .before .before .before .pre .1 .fits) .few)
+
+with-trades-requires : tie.Need-with-trades-requires
+with-trades-requires c κs = search needs
 
 answered-requires-2 : tie.Need-answered-requires-2
 answered-requires-2 c κs = search needs
@@ -67,7 +70,7 @@ returns-2 c kinds units =
     let a = start q .args in
     let rows = rowsOf (a .held .now) kinds units in
     let none-applies = clear q kinds units in (
-      carried-out _ _ rows _ _ none-applies (c .answered2 .ensures) (rw (c .before .today-less .ensures)),
+      carried-out _ _ rows _ _ none-applies (c .answered2 .ensures) (rw (c .before .with-trades .ensures, c .before .before .today-less .ensures)),
       c .before .before .before .before .before .before .put-trade .ensures .0 ∙ rw (c .before .before .before .before .before .before .before .begun-trade .ensures rows, none-applies) refl,
     )
 
@@ -83,7 +86,8 @@ initial-spec =
     put-trade-requires
     mul-today-less
     today-less-requires
-    add-next
+    add-with-trades
+    with-trades-requires
     answered-requires-2
     same-length-2
     returns-2)

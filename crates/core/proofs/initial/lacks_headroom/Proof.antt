@@ -1,3 +1,4 @@
+use borrow.Author.Needs.{needs}
 use mathlib.Core.Path.{_≡_}
 use native.Mathlib.Omega.{arith}
 use Rattle.rules.specs.Vault.{headroom}
@@ -12,10 +13,7 @@ value-of-requires c κs =
     (s .pre .0, fit-securities _ (parts .securities), parts .cash .free, omega (arith, parts .cash .sum))
 
 above-headroom-requires : tie.Need-above-headroom-requires
-above-headroom-requires c κs =
-    let s = c .before .before .before .before .before in
-    let size = fit-parts _ _ _ (s .pre .1 .fits) .size in
-    (omega (arith, s .pre .2, size .within, size .covers), s .pre .3)
+above-headroom-requires c κs = search needs
 
 returns : tie.Need-returns
 unfolding headroom

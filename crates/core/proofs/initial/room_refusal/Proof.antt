@@ -1,9 +1,8 @@
 use mathlib.Core.Bool.{false}
 use mathlib.Core.Path.{_≡_, sym, ap, _∙_}
-use Prim.Native.Nat.{_/_}
+use Prim.Native.Nat.{ℕ, _/_}
 use borrow.Author.Needs.{needs}
 use native.Mathlib.Omega.{arith}
-use borrow.Author.Tests.{le-leb, lt-leb}
 use lib.IntN.{ℤ}
 use lib.Dec.{leb}
 use lib.ListN.{length, take}
@@ -28,6 +27,12 @@ module _ (c : tie.After-is-taken) where
   taken : c .is-taken .result ≡ onTable (start .args .terms .contract) (take (start .args .desk .trades) (tradesOf (start .args .table .now)))
   taken = c .is-taken .ensures ∙ ap (onTable (start .args .terms .contract)) (sym (fit-in-use _ _ _ (start .pre .1 .fits)))
 
+-- the table's slots are its trades
+slots : (c : tie.After-is-full) → (let a = c .before .before .before .before .before .before .before .args in c .is-full .result ≡ leb (length (tradesOf (a .table .now))) (a .desk .trades))
+slots c =
+    let a = c .before .before .before .before .before .before .before .args in
+    c .is-full .ensures ∙ ap (λ (n : ℕ). leb n (a .desk .trades)) (sym (length-trades (a .table .now) (length (a .table .now) / 4)))
+
 abbrev net-after : tie.Start → ℤ
 net-after s = netLess (bookOf (s .args .desk) noRows) (s .args .terms)
 
@@ -40,15 +45,16 @@ returns c kinds units = applies _ _ (asked (taken (c .before)) (c .if1 .taken))
 returns-2 : tie.Need-returns-2
 returns-2 c kinds units =
     let t = c .before .before .before in
-    passes _ _ _ (asked-not (taken t) (c .before .before .if1 .left)) (applies _ _ (le-leb (length (tradesOf (start t .args .table .now))) (start t .args .desk .trades) (omega (arith, c .if2 .taken, length-trades (start t .args .table .now) (length (start t .args .table .now) / 4)))))
+    passes _ _ _ (asked-not (taken t) (c .before .before .if1 .left)) (applies _ _ (asked (slots (c .before)) (c .if2 .taken)))
+
+is-full-requires : tie.Need-is-full-requires
+is-full-requires c κs = search needs
 
 lacks-headroom-requires : tie.Need-lacks-headroom-requires
 lacks-headroom-requires c κs = c .before .before .before .before .before .before .before .before .pre
 
 full : (c : tie.Else2) → (let s = c .before .before .before .before .before .before .before .before .args in leb (length (tradesOf (s .table .now))) (s .desk .trades) ≡ false)
-full c =
-    let a = c .before .before .before .before .before .before .before .before .args in
-    lt-leb (length (tradesOf (a .table .now))) (a .desk .trades) (omega (arith, c .if2 .left, length-trades (a .table .now) (length (a .table .now) / 4)))
+full c = asked-not (slots (c .before)) (c .if2 .left)
 
 returns-3 : tie.Need-returns-3
 returns-3 c kinds units =
@@ -81,6 +87,7 @@ room-refusal-spec =
     (tie.spec
     is-taken-requires
     returns
+    is-full-requires
     returns-2
     lacks-headroom-requires
     returns-3

@@ -1,10 +1,16 @@
 use borrow.Author.Needs.{needs}
 use mathlib.Core.Path.{sym, _∙_}
 use mathlib.Core.Bool.{false≢true}
+use Prim.Native.Nat.{_≤_}
+use borrow.Author.Tests.{ltb-true, ltb-false}
+use lib.ListN.{length}
 use Rattle.core.proofs.Fitting.{refuted, upheld}
 use Rattle.core.proofs.LentLaws.{lengths, not-whole, too-long, by-fitness}
 use Rattle.core.proofs.lent.fitness_in.Statement.{statement}
 use Rattle.core.proofs.lent.fitness_in.Tie as tie
+
+few : (c : tie.Else2) → length (c .before .before .before .before .before .before .before .before .before .args .calendar .now) ≤ 1200
+few c = ltb-false _ _ (sym (c .before .is-too-long .ensures) ∙ c .if2 .left)
 
 is-whole-requires : tie.Need-is-whole-requires
 is-whole-requires c κs = search needs
@@ -19,17 +25,20 @@ not-fit-requires-2 : tie.Need-not-fit-requires-2
 not-fit-requires-2 c κs = search needs
 
 returns-2 : tie.Need-returns-2
-returns-2 c = rw (c .not-fit2 .ensures) (sym (too-long _ _ (c .before .if2 .taken)), λ z. absurd (false≢true z))
+returns-2 c = rw (c .not-fit2 .ensures) (sym (too-long _ _ (ltb-true _ _ (sym (c .before .before .is-too-long .ensures) ∙ c .before .if2 .taken))), λ z. absurd (false≢true z))
+
+is-too-long-requires : tie.Need-is-too-long-requires
+is-too-long-requires c κs = search needs
 
 fitness-of-requires : tie.Need-fitness-of-requires
 fitness-of-requires c κs =
-    let long = lengths _ (upheld (c .before .before .is-whole .ensures) (c .before .if1 .left)) in
-    (long .held, long .kinds, long .units, c .if2 .left)
+    let long = lengths _ (upheld (c .before .before .before .is-whole .ensures) (c .before .before .if1 .left)) in
+    (long .held, long .kinds, long .units, few c)
 
 returns-3 : tie.Need-returns-3
 returns-3 c =
-    let whole = upheld (c .before .before .before .is-whole .ensures) (c .before .before .if1 .left) in
-    (c .fitness-of .ensures .0 ∙ by-fitness _ _ whole (c .before .if2 .left), c .fitness-of .ensures .1)
+    let whole = upheld (c .before .before .before .before .is-whole .ensures) (c .before .before .before .if1 .left) in
+    (c .fitness-of .ensures .0 ∙ by-fitness _ _ whole (few (c .before)), c .fitness-of .ensures .1)
 
 pub fitness-in-spec : {M : Type 1} → statement M
 fitness-in-spec =
@@ -38,6 +47,7 @@ fitness-in-spec =
     is-whole-requires
     not-fit-requires
     returns
+    is-too-long-requires
     not-fit-requires-2
     returns-2
     fitness-of-requires

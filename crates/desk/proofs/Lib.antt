@@ -1,0 +1,2 @@
+-- The laws of headroom's tests.
+pub mod HeadroomLaws

@@ -1,0 +1,42 @@
+// What an event leaves beside the rows and the table. Answers are made here only.
+ghost use mathlib.Core.Path.{_≡_};
+ghost use Rattle.money.specs.Units.{sheets};
+ghost use Rattle.rules.specs.Book.{answer};
+use crate::state::Desk;
+use money::units::Sheets;
+use rules::answer::Answer;
+
+pub struct Done {
+    pub answer: Answer,
+    pub desk: Desk,
+}
+
+// An answer that carries its number alone.
+pub fn answered(number: u8, desk: Desk) -> Done
+    ensures { λ r. ⌜ r ≡ record { answer = answer number; desk = desk } ⌝ }
+{
+    Done {
+        answer: Answer {
+            number,
+            matured: Sheets(0),
+            done: 0,
+            dropped: 0,
+        },
+        desk,
+    }
+}
+
+// An accepted Close carries the sheets matured and the applications done and dropped.
+pub fn of_close(matured: u64, done: u32, dropped: u32, desk: Desk) -> Done
+    ensures { λ r. ⌜ r ≡ record { answer = record { number = 0; matured = sheets matured; done = done; dropped = dropped }; desk = desk } ⌝ }
+{
+    Done {
+        answer: Answer {
+            number: 0,
+            matured: Sheets(matured),
+            done,
+            dropped,
+        },
+        desk,
+    }
+}

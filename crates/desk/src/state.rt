@@ -1,0 +1,45 @@
+// The book as the core has it: what is small goes by value; the securities and the applications stand in rows that are lent.
+ghost use mathlib.Core.Path.{_≡_};
+ghost use Prim.Native.Nat.{_/_};
+ghost use lib.Dec.{leb, ltb};
+ghost use Rattle.desk.specs.Desk.{withTrades};
+use money::units::Sheets;
+use rules::book::Cash;
+use rules::book::Guarantee;
+use rules::book::Nets;
+use rules::book::Standing;
+
+// `applications` is how many stand for the evening, `trades` how many slots of the table are in use.
+pub struct Desk {
+    pub nets: Nets,
+    pub cash: Cash,
+    pub guarantee: Guarantee,
+    pub size: Sheets,
+    pub standing: Standing,
+    pub applications: usize,
+    pub trades: usize,
+}
+
+// The desk after a trade has begun: other nets, and so many trades.
+pub fn with_trades(desk: Desk, nets: Nets, trades: usize) -> Desk
+    ensures { λ r. ⌜ r ≡ withTrades nets trades desk ⌝ }
+{
+    let mut next = desk;
+    next.nets = nets;
+    next.trades = trades;
+    next
+}
+
+// Whether a table of so many numbers, four a trade, has no slot left.
+pub fn is_full(numbers: usize, trades: usize) -> bool
+    ensures { λ r. ⌜ r ≡ leb (numbers / 4) trades ⌝ }
+{
+    numbers / 4 <= trades
+}
+
+// Whether a calendar has more words than any may have.
+pub fn is_too_long(words: usize) -> bool
+    ensures { λ r. ⌜ r ≡ ltb 1200 words ⌝ }
+{
+    words > 1_200
+}
