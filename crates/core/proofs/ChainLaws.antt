@@ -1,10 +1,10 @@
 -- Chains of trades by buckets: what is reached stays reached when a link is added, and what is on no chain is not among the trades.
 -- For the proofs of chains.rt. Assumes nothing.
-use mathlib.Core.Path.{_≡_, refl, sym, ap, _∙_, subst}
+use mathlib.Core.Path.{_≡_, refl, sym, ap, _∙_}
 use mathlib.Core.Logic.{_⊎_, inl, inr}
-use mathlib.Core.Bool.{Bool, true, false, cond, false≢true}
-use mathlib.Core.List.{List, [], _∷_, _++_}
-use Prim.Native.Nat.{ℕ, zero, suc, _+_, _*_, _≤_, _<_}
+use mathlib.Core.Bool.{Bool, true, false, cond}
+use mathlib.Core.List.{List, [], _∷_}
+use Prim.Native.Nat.{ℕ, zero, suc, _+_, _≤_, _<_}
 use native.Mathlib.Numerals.{add-one}
 use native.Mathlib.Omega.{arith}
 use native.Mathlib.Decide.{ℕ-discrete}
@@ -14,7 +14,7 @@ use lib.Seq.{getD-set-same, getD-set-other}
 use Rattle.rules.specs.Trades.{same, onTable, differ}
 use Rattle.rules.proofs.FoldLaws.{by-test}
 use Rattle.rules.proofs.TableFit.{differ-append}
-use Rattle.core.specs.Types.{Contract, Trade}
+use Rattle.core.specs.Types.{Contract}
 use Rattle.core.specs.Flat.{tradeAt, tradesTo}
 use Rattle.core.specs.Chains.{Differs, Repeats, bucketOf, Reaches, Falls, Tells}
 use Rattle.core.proofs.FlatLaws.{one-more, split-trades}

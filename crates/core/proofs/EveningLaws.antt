@@ -3,21 +3,19 @@
 use mathlib.Core.Path.{_≡_, refl, sym, ap, _∙_}
 use mathlib.Core.Bool.{Bool, true, false, cond, _&&_}
 use mathlib.Core.List.{List, [], _∷_, map}
-use Prim.Native.Nat.{ℕ, zero, suc, _+_, _-_, _≤_, _<_, min}
+use Prim.Native.Nat.{ℕ, zero, suc, _+_, _-_, _≤_, _<_}
 use native.Mathlib.Decide.{ℕ-discrete}
 use native.Mathlib.Numerals.{add-one}
 use native.Mathlib.Omega.{arith}
-use borrow.Author.Tests.{le-leb, lt-leb, le-ltb, lt-ltb, eq-eqb, ne-eqb, leb-true, ltb-true, ltb-false}
-use lib.Dec.{leb, ltb}
-use lib.IntN.{pos, negsuc, subℕ}
+use borrow.Author.Tests.{le-leb, lt-leb, eq-eqb, ne-eqb, leb-true}
+use lib.Dec.{leb}
 use lib.ListN.{length, getD, set, List·getD-eq-default}
-use lib.Signed.{ltZ}
 use Rattle.money.specs.Units.{fen}
 use Rattle.money.specs.Limits.{cashLimit}
 use Rattle.money.specs.Collateral.{rateOf, unitLimitOf, kindValue}
 use Rattle.rules.specs.Folds.{inTurn}
 use Rattle.rules.specs.Book.{noSecurity}
-use Rattle.rules.specs.Vault.{securityAt, isCash, effectiveOf, frozenOf, value, headroomOf}
+use Rattle.rules.specs.Vault.{securityAt, isCash, effectiveOf, frozenOf, value}
 use Rattle.rules.specs.Close.{Evening, fewer, fewerCash, takenOut, covered, mayGo, doneOne, settleOne, settled, applications}
 use Rattle.rules.proofs.FoldLaws.{by-test, both, in-turn-keeps, at-set}
 use Rattle.rules.proofs.FitParts.{SecurityFits, SecuritiesFit, fit-securities}

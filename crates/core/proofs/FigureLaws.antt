@@ -2,19 +2,17 @@
 -- For the proofs of figures.rt, cover.rt and run.rt. Assumes nothing.
 use mathlib.Core.Path.{_≡_, refl, sym, ap, _∙_}
 use mathlib.Core.Bool.{Bool, true, false, false≢true}
-use mathlib.Core.List.{List, [], _∷_, _++_}
+use mathlib.Core.List.{List, [], _∷_}
 use mathlib.Core.Option.{Option, none, some}
-use Prim.Native.Nat.{ℕ, _+_, _≤_, _<_}
-use native.Mathlib.Omega.{arith}
-use borrow.Author.Tests.{ltb-false, leb-false, not-false, eqb-false}
-use lib.Dec.{eqb}
+use Prim.Native.Nat.{ℕ, _+_}
+use borrow.Author.Tests.{ltb-false, leb-false, not-false}
 use lib.ListN.{length, take}
 use Rattle.money.specs.declared.units.Sheets.{Sheets}
 use Rattle.money.specs.declared.units.Ticks.{Ticks}
 use Rattle.money.specs.Units.{sheets}
 use Rattle.money.specs.Causes.{firstOf}
 use Rattle.money.specs.Days.{Calendar}
-use Rattle.rules.specs.Trades.{inUse, outstanding, onTable, takeOff}
+use Rattle.rules.specs.Trades.{inUse, outstanding, takeOff}
 use Rattle.rules.specs.Vault.{headroomOf, outstandingOf, headroom}
 use Rattle.rules.specs.Fit.{fit}
 use Rattle.rules.specs.Open.{openedBook}
@@ -25,8 +23,8 @@ use Rattle.rules.specs.Pledge.{pledged}
 use Rattle.rules.specs.Freeze.{frozen}
 use Rattle.rules.specs.Withdraw.{withdrawn}
 use Rattle.rules.specs.Initial.{initialCauses, begun, initialBook, initialTable}
-use Rattle.rules.specs.Early.{named, earlyCauses, earlyBook, earlyTable}
-use Rattle.rules.specs.Pay.{fails, paidBook, payNumber}
+use Rattle.rules.specs.Early.{earlyCauses, earlyBook, earlyTable}
+use Rattle.rules.specs.Pay.{fails, paidBook}
 use Rattle.rules.specs.Close.{closeAnswer}
 use Rattle.rules.specs.Step.{eventCauses, entryCauses, causes, act, actOn, refuseOr, step, accepted}
 use Rattle.rules.specs.Cover.{counted}
@@ -37,7 +35,7 @@ use Rattle.rules.proofs.FitParts.{fit-parts}
 use Rattle.rules.proofs.StaysFit.{others-clear}
 use Rattle.core.specs.Types.{Book, Contract, Trade, Terms, Event, Open, FundIn, FundOut, Size, Rate, Pledge, Freeze, Withdraw, Initial, Early, Pay, Close, Entry, Known, Undecodable, Applied}
 use Rattle.core.specs.Flat.{appliedOf}
-use Rattle.core.specs.Figures.{Figures, figuresOf, Moved, MovedBy}
+use Rattle.core.specs.Figures.{Figures, figuresOf, MovedBy}
 
 -- what a number that is not 0 tells of any entry
 pub unmoved : (entry : Entry) (number : ℕ) (before after : Figures) → MovedBy entry number before after → (number ≡ 0 → ⊥) → after ≡ before

@@ -1,6 +1,6 @@
 -- What one walk over the trades in use gathers, trade by trade, and that the latest first payment day answers for all.
 -- For the proofs of trades.rt and fit.rt. Assumes nothing.
-use mathlib.Core.Path.{_≡_, refl, sym, ap, _∙_}
+use mathlib.Core.Path.{_≡_, refl, sym, _∙_}
 use mathlib.Core.Bool.{Bool, true, false, _&&_, false≢true}
 use mathlib.Core.List.{List, [], _∷_, _++_}
 use Prim.Native.Nat.{ℕ, _+_, max}

@@ -36,3 +36,4 @@ pub mod FigureLaws
 pub mod LineLaws
 pub mod RunLaws
 pub mod LentLaws
+pub mod ToldLaws

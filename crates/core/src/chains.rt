@@ -3,8 +3,6 @@
 ghost use mathlib.Core.Path.{_≡_};
 ghost use Prim.Native.Nat.{_+_, _*_, _≤_, _<_};
 ghost use lib.ListN.{length, replicate};
-ghost use Rattle.rules.specs.Trades.{differ};
-ghost use Rattle.core.specs.Flat.{tradesTo};
 ghost use Rattle.core.specs.Chains.{bucketOf, Falls, Tells, TellsAll};
 use crate::flat;
 use rules::trade::Contract;

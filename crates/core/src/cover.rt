@@ -1,6 +1,6 @@
 // Headroom and O of a book.
 ghost use mathlib.Core.Path.{_≡_};
-ghost use Prim.Native.Nat.{_≤_, min};
+ghost use Prim.Native.Nat.{_≤_};
 ghost use Rattle.money.specs.Units.{sheets};
 ghost use Rattle.rules.specs.Vault.{headroomOf};
 ghost use Rattle.rules.specs.Cover.{uncounted};

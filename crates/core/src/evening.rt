@@ -2,12 +2,10 @@
 ghost use mathlib.Core.Path.{_≡_};
 ghost use mathlib.Core.Bool.{true, cond};
 ghost use Prim.Native.Nat.{_≤_, _+_};
-ghost use lib.IntN.{pos};
 ghost use mathlib.Core.List.{map};
 ghost use lib.ListN.{length};
-ghost use lib.Signed.{ltZ};
 ghost use Rattle.money.specs.Collateral.{rateOf, unitLimitOf, kindValue};
-ghost use Rattle.rules.specs.Vault.{securityAt, effectiveOf, frozenOf, value as valueOf, headroomOf};
+ghost use Rattle.rules.specs.Vault.{securityAt, effectiveOf, frozenOf, value as valueOf};
 ghost use Rattle.rules.specs.Fit.{securitiesFit, withdrawalsFit};
 ghost use Rattle.rules.specs.Close.{securityArrived, guaranteeArrived, takenOut, mayGo, applications};
 ghost use Rattle.core.specs.Types.{Vault};

@@ -6,7 +6,7 @@ use Prim.Native.Nat.{ℕ, suc, _+_, _-_, _≤_, _<_, min}
 use native.Mathlib.Omega.{arith}
 use borrow.Author.Tests.{ltb-true, ltb-false, lt-ltb, le-ltb}
 use lib.Dec.{ltb}
-use lib.IntN.{ℤ, pos, negsuc, subℕ}
+use lib.IntN.{pos, negsuc, subℕ}
 use lib.Signed.{ltZ}
 use Rattle.rules.specs.Vault.{headroomOf}
 use Rattle.rules.proofs.FoldLaws.{by-test}

@@ -24,8 +24,8 @@ use Rattle.rules.specs.Size.{sizeCauses}
 use Rattle.rules.specs.Initial.{initialCauses, begun, initialTable}
 use Rattle.rules.specs.Early.{earlyCauses, earlyBook, earlyTable}
 use Rattle.rules.specs.Close.{maturedTrades, maturedSheets, maturedAmount, closeCauses, evening, isShortClose, closeAnswer, closedBook, closedTable}
-use Rattle.rules.specs.Step.{Outcome, outcome, eventCauses, entryCauses, causes, act, actOn, refuseOr, step, unfit}
-use Rattle.rules.specs.Cover.{coverOf, counted}
+use Rattle.rules.specs.Step.{Outcome, outcome, eventCauses, entryCauses, causes, act, actOn, refuseOr, step}
+use Rattle.rules.specs.Cover.{coverOf}
 
 -- a table with more slots behind it
 abbrev pub withRest : Outcome → List Trade → Outcome

@@ -8,7 +8,7 @@ use lib.IntN.{ℤ, subℕ}
 use lib.ListN.{getD, set}
 use Rattle.money.specs.Collateral.{cashKind, kindValue}
 use Rattle.rules.specs.Folds.{sumBelow}
-use Rattle.rules.specs.Book.{Security, Guarantee, Vault, Book, noSecurity}
+use Rattle.rules.specs.Book.{Security, Vault, Book, noSecurity}
 use Rattle.rules.specs.Trades.{Trade, inUse, outstanding}
 
 -- ---- "A kind has effective, arriving and frozen units": kinds 0 to 31 are securities, kind 32 is guarantee cash

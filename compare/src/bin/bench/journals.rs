@@ -2,7 +2,7 @@
 
 use std::hint::black_box;
 
-use compare::proved::{self, book::Page};
+use compare::proved::{self, book::Page, lent::Rows};
 use model::book::{Book, Trade};
 use model::journal::run_fresh;
 use model::limits::JOURNAL_CAPACITY;
@@ -21,7 +21,8 @@ pub fn report(wanted: impl Fn(&str) -> bool) {
     );
     for load in &loads {
         show(load, "run", run(load));
-        show(load, "lent table", lent(load));
+        show(load, "in place", lent(load, Rows::from(&Book::fresh()), proved::lent::run_into));
+        show(load, "lent table", lent(load, Page::from(&Book::fresh()), proved::book::run_into));
         show(load, "listing", listing(load));
     }
 }
@@ -51,10 +52,12 @@ fn run(load: &Load) -> Medians {
     )
 }
 
+/// A proved run on a book and its table, into a lent buffer.
+type RunInto<B> = fn(&[u32], &mut B, &mut [proved::book::Trade], &[u8], &mut [u64]) -> u8;
+
 /// The same run on a fresh book and a lent table, both put there for each run.
-fn lent(load: &Load) -> Medians {
+fn lent<B: Clone>(load: &Load, book: B, run_into: RunInto<B>) -> Medians {
     let Load { calendar, events, .. } = load;
-    let page = Page::from(&Book::fresh());
     let slots = proved::book::table(&[Trade::default(); JOURNAL_CAPACITY]);
     let (mut lent, mut lines) = (slots.clone(), Vec::with_capacity(events.len()));
     let mut numbers = vec![0; proved::LINE_NUMBERS * events.len()];
@@ -62,7 +65,7 @@ fn lent(load: &Load) -> Medians {
         || {
             lent.copy_from_slice(&slots);
             let events = events.as_flattened();
-            black_box(proved::book::run_into(calendar, &mut page.clone(), &mut lent, events, &mut numbers));
+            black_box(run_into(calendar, &mut book.clone(), &mut lent, events, &mut numbers));
         },
         || {
             lines.clear();

@@ -1,8 +1,7 @@
-use Prim.Native.Nat.{ℕ, suc, _-_, _≤_}
+use Prim.Native.Nat.{suc, _-_, _≤_}
 use mathlib.Core.Path.{_≡_, sym, _∙_}
 use native.Mathlib.Omega.{arith}
 use borrow.Author.Needs.{needs}
-use lib.ListN.{getD}
 use Rattle.rules.specs.Trades.{same}
 use Rattle.core.specs.Flat.{tradeAt}
 use Rattle.core.proofs.ChainLaws.{Ahead, ahead-first, ahead-next, ahead-none}

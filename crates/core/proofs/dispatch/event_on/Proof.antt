@@ -8,7 +8,6 @@ use Rattle.rules.specs.Step.{eventCauses, act}
 use Rattle.rules.proofs.FitParts.{Fit, fit-parts, fits-cash, fit-securities, fit-withdrawals, fit-nets}
 use Rattle.core.specs.Types.{Book, Trade}
 use Rattle.core.specs.Flat.{Rows, rowsOf, bookOf, tradesOf}
-use Rattle.core.proofs.FitFacts.{fit-keeps}
 use Rattle.core.proofs.StepLaws.{leaves-table, changes-table, pays, closes}
 use Rattle.core.proofs.dispatch.event_on.Statement.{statement}
 use Rattle.core.proofs.dispatch.event_on.Tie as tie

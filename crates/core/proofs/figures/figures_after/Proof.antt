@@ -1,4 +1,4 @@
-use mathlib.Core.Path.{_≡_, sym}
+use mathlib.Core.Path.{sym}
 use borrow.Author.Needs.{needs}
 use Rattle.core.proofs.FigureLaws.{unmoved}
 use Rattle.core.proofs.figures.figures_after.Statement.{statement}

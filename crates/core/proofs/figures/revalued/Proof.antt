@@ -1,4 +1,4 @@
-use mathlib.Core.Path.{_≡_, sym}
+use mathlib.Core.Path.{sym}
 use native.Mathlib.Omega.{arith}
 use Rattle.rules.proofs.FitParts.{fit-parts, fit-securities}
 use Rattle.core.proofs.figures.revalued.Statement.{statement}

@@ -1,9 +1,9 @@
-use mathlib.Core.Path.{_≡_, sym, ap, _∙_}
+use mathlib.Core.Path.{sym, ap, _∙_}
 use mathlib.Core.Bool.{false≢true}
 use native.Mathlib.Omega.{arith}
 use borrow.Author.Needs.{needs}
 use Rattle.rules.specs.Trades.{outstanding}
-use Rattle.rules.proofs.FitParts.{capacity-fits, fit-parts}
+use Rattle.rules.proofs.FitParts.{capacity-fits}
 use Rattle.core.proofs.GatherLaws.{gathered-where}
 use Rattle.core.proofs.FitFacts.{room-where-fit, fit-in-use, fit-keeps}
 use Rattle.core.proofs.Fitting.{fitting, upheld, by-flat-tests}

@@ -1,8 +1,4 @@
-use mathlib.Core.Path.{_≡_}
-use mathlib.Core.Bool.{true}
 use borrow.Author.Needs.{needs}
-use Rattle.rules.specs.Fit.{capacityFit}
-use Rattle.core.specs.Flat.{tradesOf}
 use Rattle.core.proofs.GatherLaws.{gathered-where}
 use Rattle.core.proofs.FitFacts.{kept-where-fit}
 use Rattle.core.proofs.Fitting.{fitting, upheld, by-flat-tests}

@@ -1,5 +1,4 @@
 use borrow.Author.Needs.{needs}
-use mathlib.Core.Path.{_≡_}
 use native.Mathlib.Omega.{arith}
 use Rattle.rules.specs.Vault.{headroom}
 use Rattle.rules.proofs.FitParts.{fit-parts, fit-securities}

@@ -1,4 +1,3 @@
-use borrow.Author.Needs.{needs}
 use Rattle.rules.specs.Size.{sizeCauses}
 use Rattle.core.proofs.Column.{column}
 use Rattle.core.proofs.size.size_refusal.Statement.{statement}
