@@ -93,6 +93,22 @@ extern "C" {
     ) -> RunLeft;
 }
 
+/// How many numbers of each row and of the table are lent.
+#[derive(Clone, Copy)]
+pub struct Lengths {
+    pub held: usize,
+    pub kinds: usize,
+    pub units: usize,
+    pub table: usize,
+}
+
+impl Lengths {
+    /// All of them.
+    pub fn whole(table: &[Trade]) -> Lengths {
+        Lengths { held: CASH_KIND * 4, kinds: APPLICATIONS, units: APPLICATIONS, table: table.len() * 4 }
+    }
+}
+
 /// One event on a book and its table.
 pub fn apply(
     calendar: &[u32],
@@ -100,6 +116,24 @@ pub fn apply(
     table: &mut [Trade],
     event: &[u8; EVENT_BYTES],
 ) -> answer::Answer {
+    apply_cut(calendar, rows, table, Lengths::whole(table), event)
+}
+
+/// One event on rows and a table of which only so much is lent.
+pub fn apply_cut(
+    calendar: &[u32],
+    rows: &mut Rows,
+    table: &mut [Trade],
+    lengths: Lengths,
+    event: &[u8; EVENT_BYTES],
+) -> answer::Answer {
+    let Lengths { held, kinds, units, table: numbers } = Lengths::whole(table);
+    assert!(
+        lengths.held <= held
+            && lengths.kinds <= kinds
+            && lengths.units <= units
+            && lengths.table <= numbers
+    );
     let Rows { slate, held, kinds, units } = rows;
     let left = unsafe {
         lent_apply(
@@ -107,13 +141,13 @@ pub fn apply(
             calendar.len(),
             *slate,
             held.as_mut_ptr(),
-            held.len(),
+            lengths.held,
             kinds.as_mut_ptr(),
-            kinds.len(),
+            lengths.kinds,
             units.as_mut_ptr(),
-            units.len(),
+            lengths.units,
             table.as_mut_ptr().cast(),
-            table.len() * 4,
+            lengths.table,
             event.as_ptr(),
             event.len(),
         )
