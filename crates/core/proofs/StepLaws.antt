@@ -12,11 +12,9 @@ use Rattle.money.specs.Days.{Calendar}
 use Rattle.money.proofs.Refusals.{hit, skip}
 use Rattle.rules.specs.Book.{answer}
 use Rattle.rules.specs.Fit.{fit}
-use Rattle.rules.specs.Pay.{fails, paidBook, payNumber}
-use Rattle.rules.specs.Close.{closeAnswer, closedBook}
 use Rattle.rules.specs.Step.{Outcome, outcome, unfit, eventCauses, entryCauses, causes, act, actOn, refuseOr, step}
 use Rattle.core.specs.Types.{Book, Trade, Event, Entry, Known, Applied}
-use Rattle.core.specs.Flat.{appliedBy, paidBy, closedBy, tableBy, appliedOf}
+use Rattle.core.specs.Flat.{givenBy, tableBy, appliedOf}
 
 module _ (calendar : Calendar) (book : Book) (table : List Trade) where
   -- when cause 1 applies, and when it does not
@@ -56,32 +54,18 @@ module _ (calendar : Calendar) (book : Book) (table : List Trade) (fits : fit ca
   by-step : (left : Outcome) → act calendar book table event ≡ left → (r : Applied) (after : List Trade) → Gives (refuseOr refusal book table left) r after → Gives (step calendar book table (Known event)) r after
   by-step left acts r after given = rw (fit-step calendar book table fits few (Known event), acts) given
 
-  -- an event that leaves the table
-  pub leaves-table : (next : Book) → act calendar book table event ≡ outcome (answer 0) next table → (r : Applied) → r ≡ appliedBy refusal book next → Gives (step calendar book table (Known event)) r table
-  leaves-table next acts r e = by-step _ acts r table (by-refusal refusal e)
+  -- an event that may change the table
+  pub changes-table : (done : Applied) (changed : List Trade) → act calendar book table event ≡ outcome (done .answer) (done .book) changed → (r : Applied) (after : List Trade) → (r ≡ givenBy refusal book done) × (after ≡ tableBy refusal table changed) → Gives (step calendar book table (Known event)) r after
+  changes-table done changed acts r after e = by-step _ acts r after (by-refusal refusal e)
     where
-      by-refusal : (o : Option ℕ) → r ≡ appliedBy o book next → Gives (refuseOr o book table (outcome (answer 0) next table)) r table
-      by-refusal none e = (e, refl)
-      by-refusal (some n) e = (e, refl)
-
-  -- one that may change it
-  pub changes-table : (next : Book) (changed : List Trade) → act calendar book table event ≡ outcome (answer 0) next changed → (r : Applied) (after : List Trade) → (r ≡ appliedBy refusal book next) × (after ≡ tableBy refusal table changed) → Gives (step calendar book table (Known event)) r after
-  changes-table next changed acts r after e = by-step _ acts r after (by-refusal refusal e)
-    where
-      by-refusal : (o : Option ℕ) → (r ≡ appliedBy o book next) × (after ≡ tableBy o table changed) → Gives (refuseOr o book table (outcome (answer 0) next changed)) r after
+      by-refusal : (o : Option ℕ) → (r ≡ givenBy o book done) × (after ≡ tableBy o table changed) → Gives (refuseOr o book table (outcome (done .answer) (done .book) changed)) r after
       by-refusal none e = e
       by-refusal (some n) e = e
 
-  pub pays : act calendar book table event ≡ outcome (answer (payNumber (fails book))) (paidBook (fails book) book) table → (r : Applied) → r ≡ paidBy refusal book → Gives (step calendar book table (Known event)) r table
-  pays acts r e = by-step _ acts r table (by-refusal refusal e)
+  -- one that leaves it
+  pub leaves-table : (done : Applied) → act calendar book table event ≡ outcome (done .answer) (done .book) table → (r : Applied) → r ≡ givenBy refusal book done → Gives (step calendar book table (Known event)) r table
+  leaves-table done acts r e = changes-table done table acts r table (e, same refusal)
     where
-      by-refusal : (o : Option ℕ) → r ≡ paidBy o book → Gives (refuseOr o book table (outcome (answer (payNumber (fails book))) (paidBook (fails book) book) table)) r table
-      by-refusal none e = (e, refl)
-      by-refusal (some n) e = (e, refl)
-
-  pub closes : (changed : List Trade) → act calendar book table event ≡ outcome (closeAnswer book table) (closedBook calendar book table) changed → (r : Applied) (after : List Trade) → (r ≡ closedBy refusal calendar book table) × (after ≡ tableBy refusal table changed) → Gives (step calendar book table (Known event)) r after
-  closes changed acts r after e = by-step _ acts r after (by-refusal refusal e)
-    where
-      by-refusal : (o : Option ℕ) → (r ≡ closedBy o calendar book table) × (after ≡ tableBy o table changed) → Gives (refuseOr o book table (outcome (closeAnswer book table) (closedBook calendar book table) changed)) r after
-      by-refusal none e = e
-      by-refusal (some n) e = e
+      same : (o : Option ℕ) → table ≡ tableBy o table table
+      same none = refl
+      same (some n) = refl

@@ -145,26 +145,28 @@ pub record Redeemable (table : List ℕ) (count payment : ℕ) : Type 0 where
   pub begun : allTrades (λ trade. leb (trade .first) payment) (tradesTo table count) ≡ true
   pub term : payment ≤ termLimit
 
--- ---- what an event that leaves the table gives back
+-- ---- what an event gives back, by the cause that applies: what it does, or the number and the book as it was
 
-abbrev pub appliedBy : Option ℕ → (before after : Book) → Applied
-appliedBy none before after = record { answer = answer 0; book = after }
-appliedBy (some number) before after = record { answer = answer number; book = before }
+abbrev pub givenBy : Option ℕ → Book → Applied → Applied
+givenBy none before done = done
+givenBy (some number) before done = record { answer = answer number; book = before }
 
 -- the table of an event that may change it
 abbrev pub tableBy : Option ℕ → (before after : List Trade) → List Trade
 tableBy none before after = after
 tableBy (some number) before after = before
 
+-- "Done is 0."
+abbrev pub appliedBy : Option ℕ → (before after : Book) → Applied
+appliedBy cause before after = givenBy cause before (record { answer = answer 0; book = after })
+
 -- Pay answers 99 where it fails, and then changes the book too
 abbrev pub paidBy : Option ℕ → Book → Applied
-paidBy none before = record { answer = answer (payNumber (fails before)); book = paidBook (fails before) before }
-paidBy (some number) before = record { answer = answer number; book = before }
+paidBy cause before = givenBy cause before (record { answer = answer (payNumber (fails before)); book = paidBook (fails before) before })
 
 -- Close carries its figures in the answer
 abbrev pub closedBy : Option ℕ → Calendar → Book → List Trade → Applied
-closedBy none calendar before table = record { answer = closeAnswer before table; book = closedBook calendar before table }
-closedBy (some number) calendar before table = record { answer = answer number; book = before }
+closedBy cause calendar before table = givenBy cause before (record { answer = closeAnswer before table; book = closedBook calendar before table })
 
 -- what a step gives back beside the table
 abbrev pub appliedOf : Outcome → Applied

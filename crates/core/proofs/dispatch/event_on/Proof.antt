@@ -8,7 +8,7 @@ use Rattle.rules.specs.Step.{eventCauses, act}
 use Rattle.rules.proofs.FitParts.{Fit, fit-parts, fits-cash, fit-securities, fit-withdrawals, fit-nets}
 use Rattle.core.specs.Types.{Book, Trade}
 use Rattle.core.specs.Flat.{Rows, rowsOf, bookOf, tradesOf}
-use Rattle.core.proofs.StepLaws.{leaves-table, changes-table, pays, closes}
+use Rattle.core.proofs.StepLaws.{leaves-table, changes-table}
 use Rattle.core.proofs.dispatch.event_on.Statement.{statement}
 use Rattle.core.proofs.dispatch.event_on.Tie as tie
 
@@ -227,7 +227,7 @@ returns-11 : tie.Need-returns-11
 unfolding eventCauses act
 returns-11 c =
     let s = c .before .before .before .before .before .before .before .before in
-    rw (c .before .enum-told2 .given .1) (pays _ (book s) (table s) (s .pre .4) (s .pre .3) _ refl _ (c .pay .ensures (rows s)))
+    rw (c .before .enum-told2 .given .1) (leaves-table _ (book s) (table s) (s .pre .4) (s .pre .3) _ _ refl _ (c .pay .ensures (rows s)))
 
 same-length-11 : tie.Need-same-length-11
 same-length-11 c = search needs
@@ -245,7 +245,7 @@ returns-12 : tie.Need-returns-12
 unfolding eventCauses act
 returns-12 c =
     let s = c .before .before .before .before .before .before .before .before .before .before .before .before .before .before .before .before .before .before .before .before in
-    rw (c .before .before .before .before .before .before .before .before .before .before .before .before .before .enum-told3 .given .1) (closes _ (book s) (table s) (s .pre .4) (s .pre .3) _ _ refl _ _ (c .before .before .before .before .before .before .before .before .close .ensures))
+    rw (c .before .before .before .before .before .before .before .before .before .before .before .before .before .enum-told3 .given .1) (changes-table _ (book s) (table s) (s .pre .4) (s .pre .3) _ _ _ refl _ _ (c .before .before .before .before .before .before .before .before .close .ensures))
 
 pub event-on-spec : {M : Type 1} → statement M
 event-on-spec =
