@@ -80,9 +80,9 @@ pub fn run_flat(
         events,
         lines,
     );
-    let after = ended.desk;
+    let last = ended.desk;
     Ran {
         number: ended.number,
-        book: split::book_of(after, &held, kinds, units),
+        book: split::book_of(last, &held, kinds, units),
     }
 }
