@@ -16,7 +16,7 @@ use Rattle.rules.specs.Days.{following, paymentDay, followed}
 use Rattle.rules.specs.Trades.{total, outstanding, onTable, tradeOf, differ, takeOff, remaining}
 use Rattle.rules.specs.Vault.{value, headroom}
 use Rattle.rules.specs.Fit.{capacityFit, securitiesFit, cashFit, allTrades, sizeFit, netsFit, withdrawalsFit, fit}
-use Rattle.rules.specs.Entry.{Own, Client, Open, FundIn, FundOut, Size, Rate, Pledge, Freeze, Withdraw, Early, Pay, Close, Entry, Known, Undecodable}
+use Rattle.rules.specs.Entry.{Own, Client, Open, FundIn, FundOut, Size, Rate, Pledge, Freeze, Withdraw, Early, Pay, Close, Entry, Known, Undecodable, Fields, unless, entryOf, codeOf}
 use Rattle.rules.specs.Open.{openCauses, openedBook, openedTable, statusAtOpen, turnsTerminated}
 use Rattle.rules.specs.Funds.{fundInCauses, fundedIn, fundOutCauses, fundedOut}
 use Rattle.rules.specs.Size.{sizeCauses, sized}
@@ -164,3 +164,12 @@ pub unpaid : rowsAfter daily appliedUnpaid (Known Close ∷ []) ≡
     ∷ []
 unfolding rowsAfter
 unpaid = refl
+
+-- ---- "Byte 0 code": a code is read back from the event that it gives, and what is no code gives none
+
+abbrev bare : ℕ → Fields
+bare code = record { code = code; kind = 0; spare = 0; amount = 0; contract = 0; price = 0; fallback = 0; due = 0; last = 0 }
+
+pub codes-read-back : map (λ code. codeOf (entryOf (bare code))) (0 ∷ 1 ∷ 2 ∷ 3 ∷ 4 ∷ 5 ∷ 6 ∷ 7 ∷ 8 ∷ 9 ∷ 10 ∷ 11 ∷ 12 ∷ 13 ∷ []) ≡ (0 ∷ 1 ∷ 2 ∷ 3 ∷ 4 ∷ 5 ∷ 6 ∷ 7 ∷ 8 ∷ 9 ∷ 10 ∷ 11 ∷ 12 ∷ 0 ∷ [])
+unfolding entryOf unless
+codes-read-back = refl
