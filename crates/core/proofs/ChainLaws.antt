@@ -6,6 +6,7 @@ use mathlib.Core.Bool.{Bool, true, false, cond}
 use mathlib.Core.List.{List, [], _∷_}
 use Prim.Native.Nat.{ℕ, zero, suc, _+_, _≤_, _<_}
 use native.Mathlib.Numerals.{add-one}
+use native.Mathlib.Nat.{mod-lt}
 use native.Mathlib.Omega.{arith}
 use native.Mathlib.Decide.{ℕ-discrete}
 use borrow.Author.Tests.{eqb-true}
@@ -59,18 +60,20 @@ falls-kept next below value h room falls at l = by (ℕ-discrete at below)
 
 -- ---- the same contract falls into the same bucket
 
-same-bucket : (a b : Contract) → same a b ≡ true → bucketOf a ≡ bucketOf b
-same-bucket a b h = ap (λ (n : ℕ). bucketOf (record { 0 = n })) (eqb-true (a .0) (b .0) h)
+same-bucket : (buckets : ℕ) (a b : Contract) → same a b ≡ true → bucketOf buckets a ≡ bucketOf buckets b
+same-bucket buckets a b h = ap (λ (n : ℕ). bucketOf buckets (record { 0 = n })) (eqb-true (a .0) (b .0) h)
 
 -- ---- the first trades, all linked
 
-pub record Linked (table : List ℕ) (count : ℕ) (heads next : List ℕ) (i : ℕ) : Type 0 where
+pub record Linked (table : List ℕ) (count buckets : ℕ) (heads next : List ℕ) (i : ℕ) : Type 0 where
   pub high : i ≤ count
-  pub wide : length heads ≡ 8191
+  pub some : 0 < buckets
+  pub most : buckets ≤ 32749
+  pub wide : length heads ≡ buckets
   pub long : count ≤ length next
   pub low : (bucket : ℕ) → getD heads bucket 0 ≤ i
   pub falls : Falls next i
-  pub reached : (place : ℕ) → place < i → (steps : ℕ) × Reaches next steps (getD heads (bucketOf (tradeAt table place .contract)) 0) place
+  pub reached : (place : ℕ) → place < i → (steps : ℕ) × Reaches next steps (getD heads (bucketOf buckets (tradeAt table place .contract)) 0) place
   pub differing : differ (tradesTo table i) ≡ true
 
 -- a contract that differs from every trade's is not among them
@@ -128,29 +131,31 @@ zeros-at zero at = refl
 zeros-at (suc n) zero = refl
 zeros-at (suc n) (suc at) = zeros-at n at
 
-pub none-linked : (table : List ℕ) (count : ℕ) (heads next : List ℕ) → heads ≡ replicate 8191 0 → count ≤ length next → Linked table count heads next 0
-none-linked table count heads next e long = record {
+pub none-linked : (table : List ℕ) (count buckets : ℕ) (heads next : List ℕ) → 0 < buckets → buckets ≤ 32749 → heads ≡ replicate buckets 0 → count ≤ length next → Linked table count buckets heads next 0
+none-linked table count buckets heads next some most e long = record {
   high = omega arith;
-  wide = rw e (length-replicate {A = ℕ} 8191 0);
+  some = some;
+  most = most;
+  wide = rw e (length-replicate {A = ℕ} buckets 0);
   long = long;
-  low = λ bucket. rw (e, zeros-at 8191 bucket) (omega arith);
+  low = λ bucket. rw (e, zeros-at buckets bucket) (omega arith);
   falls = λ at l. absurd (omega (arith, l));
   reached = λ place l. absurd (omega (arith, l));
   differing = differ-none table;
 }
 
-module _ (table : List ℕ) (count : ℕ) (heads next : List ℕ) (i : ℕ) (linked : Linked table count heads next i) (more : i < count) where
+module _ (table : List ℕ) (count buckets : ℕ) (heads next : List ℕ) (i : ℕ) (linked : Linked table count buckets heads next i) (more : i < count) where
   abbrev this : Contract
   this = tradeAt table i .contract
 
   abbrev bucket : ℕ
-  bucket = bucketOf this
+  bucket = bucketOf buckets this
 
   abbrev first : ℕ
   first = getD heads bucket 0
 
   pub inside : bucket < length heads
-  inside = omega (arith, linked .wide)
+  inside = rw (linked .wide) (mod-lt (this .0) (linked .some))
 
   pub repeated : Tells table next first this Repeats → differ (tradesTo table count) ≡ false
   repeated told =
@@ -163,16 +168,18 @@ module _ (table : List ℕ) (count : ℕ) (heads next : List ℕ) (i : ℕ) (lin
       known : (place : ℕ) → place < i → same (tradeAt table place .contract) this ≡ true → same (tradeAt table place .contract) this ≡ false
       known place l e =
           let r = linked .reached place l in
-          told (r .0) place (rw (same-bucket (tradeAt table place .contract) this e) at (r .1))
+          told (r .0) place (rw (same-bucket buckets (tradeAt table place .contract) this e) at (r .1))
 
-  pub next-linked : Tells table next first this Differs → Linked table count (set heads bucket (i + 1)) (set next i first) (i + 1)
+  pub next-linked : Tells table next first this Differs → Linked table count buckets (set heads bucket (i + 1)) (set next i first) (i + 1)
   next-linked told = record {
     high = omega arith;
+    some = linked .some;
+    most = linked .most;
     wide = length-set heads bucket (i + 1) ∙ linked .wide;
     long = rw (length-set next i first) (linked .long);
     low = λ at. low at (ℕ-discrete at bucket);
     falls = falls-kept next i first (linked .low bucket) (omega (arith, linked .long)) (linked .falls);
-    reached = λ place l. reached place l (ℕ-discrete place i) (ℕ-discrete (bucketOf (tradeAt table place .contract)) bucket);
+    reached = λ place l. reached place l (ℕ-discrete place i) (ℕ-discrete (bucketOf buckets (tradeAt table place .contract)) bucket);
     differing = rw (one-more table i) (differ-append (tradesTo table i) (tradeAt table i) (linked .differing) (new told));
   }
     where
@@ -186,11 +193,11 @@ module _ (table : List ℕ) (count : ℕ) (heads next : List ℕ) (i : ℕ) (lin
       here : getD (set next i first) i 0 ≡ first
       here = getD-set-same next i first 0 (omega (arith, linked .long))
 
-      reached : (place : ℕ) → place < i + 1 → Dec (place ≡ i) → Dec (bucketOf (tradeAt table place .contract) ≡ bucket) → (steps : ℕ) × Reaches (set next i first) steps (getD (set heads bucket (i + 1)) (bucketOf (tradeAt table place .contract)) 0) place
+      reached : (place : ℕ) → place < i + 1 → Dec (place ≡ i) → Dec (bucketOf buckets (tradeAt table place .contract) ≡ bucket) → (steps : ℕ) × Reaches (set next i first) steps (getD (set heads bucket (i + 1)) (bucketOf buckets (tradeAt table place .contract)) 0) place
       reached place l (yes e) d = rw (e, getD-set-same heads bucket (i + 1) 0 inside, add-one i) (1, reaches-first (set next i first) i)
       reached place l (no e) (yes q) =
           let r = linked .reached place (omega (arith, l, e)) in
           rw (q, getD-set-same heads bucket (i + 1) 0 inside, add-one i) (suc (r .0), reaches-then (set next i first) (r .0) i place (rw here (kept (r .0) first place (linked .low bucket) (rw q at (r .1)))))
       reached place l (no e) (no q) =
           let r = linked .reached place (omega (arith, l, e)) in
-          rw (getD-set-other heads bucket (bucketOf (tradeAt table place .contract)) (i + 1) 0 q) (r .0, kept (r .0) (getD heads (bucketOf (tradeAt table place .contract)) 0) place (linked .low (bucketOf (tradeAt table place .contract))) (r .1))
+          rw (getD-set-other heads bucket (bucketOf buckets (tradeAt table place .contract)) (i + 1) 0 q) (r .0, kept (r .0) (getD heads (bucketOf buckets (tradeAt table place .contract)) 0) place (linked .low (bucketOf buckets (tradeAt table place .contract))) (r .1))

@@ -12,8 +12,8 @@ use Rattle.core.specs.Flat.{tradeAt, tradesTo}
 pub use Rattle.core.specs.declared.chains.Told.{Told}
 pub use Rattle.core.specs.declared.chains.Told.the-variants.{Differs, Repeats, Nothing}
 
-abbrev pub bucketOf : Contract → ℕ
-bucketOf contract = contract .0 % 8191
+abbrev pub bucketOf : (buckets : ℕ) → Contract → ℕ
+bucketOf buckets contract = contract .0 % buckets
 
 -- a place is reached from a link, one more than a place or 0 at the end, in so many steps
 unfoldable pub Reaches : (next : List ℕ) → (steps link place : ℕ) → Type 0

@@ -14,10 +14,11 @@ pub enum Told {
     Nothing,
 }
 
-fn bucket_of(contract: Contract) -> usize
-    ensures { λ r. ⌜ r ≡ bucketOf contract ⌝ }
+fn bucket_of(contract: Contract, buckets: usize) -> usize
+    requires { ⌜ 0 < buckets ⌝ }
+    ensures { λ r. ⌜ r ≡ bucketOf buckets contract ⌝ }
 {
-    (contract.0 % 8_191) as usize
+    (contract.0 % (buckets as u64)) as usize
 }
 
 // A contract looked for along a chain, over 64 trades at most. A link is one more than a place, and 0 at the end.
@@ -42,14 +43,20 @@ fn look_along(table: &[u64], next: &[u16], from: usize, contract: Contract) -> T
 }
 
 // The trades linked one after the other, each looked for along the chain of its bucket.
-pub fn linked_differ(table: &[u64], count: usize, heads: &mut [u16], next: &mut [u16]) -> Told
-    requires { ⌜ (count * 4 ≤ length (now table)) × (count ≤ 4096) × (now heads ≡ replicate 8191 0) × (count ≤ length (now next)) ⌝ }
+pub fn linked_differ(
+    table: &[u64],
+    count: usize,
+    buckets: usize,
+    heads: &mut [u16],
+    next: &mut [u16],
+) -> Told
+    requires { ⌜ (count * 4 ≤ length (now table)) × (count ≤ 4096) × (0 < buckets) × (buckets ≤ 32749) × (now heads ≡ replicate buckets 0) × (count ≤ length (now next)) ⌝ }
     ensures { λ r. ⌜ TellsAll (now (table .entry)) count r ⌝ }
 {
     let mut i = 0;
     while i < count {
         let contract = flat::contract_at(table, i);
-        let bucket = bucket_of(contract);
+        let bucket = bucket_of(contract, buckets);
         let first = heads[bucket];
         match look_along(table, &*next, first as usize, contract) {
             Told::Differs => {}

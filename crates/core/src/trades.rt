@@ -1,7 +1,7 @@
 // What is counted and tested over the trades in use.
 ghost use mathlib.Core.Path.{_≡_};
 ghost use Prim.Native.Nat.{_+_, _*_, _≤_, _<_, max};
-ghost use lib.ListN.{length};
+ghost use lib.ListN.{length, replicate};
 ghost use Rattle.rules.specs.Trades.{outstanding, differ};
 ghost use Rattle.rules.specs.Fit.{tradeFit};
 ghost use Rattle.core.specs.Flat.{tradeAt, tradesTo, placeOf, contractNumbers, Kept};
@@ -87,17 +87,33 @@ fn sorted_differ(table: &[u64], count: usize) -> bool
 }
 
 // By chains, which most contracts keep short; where they do not, sorted.
-fn many_differ(table: &[u64], count: usize) -> bool
-    requires { ⌜ (count * 4 ≤ length (now table)) × (count ≤ 4096) ⌝ }
+fn chains_differ(table: &[u64], count: usize, buckets: usize, heads: &mut [u16]) -> bool
+    requires { ⌜ (count * 4 ≤ length (now table)) × (count ≤ 4096) × (0 < buckets) × (buckets ≤ 32749) × (now heads ≡ replicate buckets 0) ⌝ }
     ensures { λ r. ⌜ r ≡ differ (tradesTo (now (table .entry)) count) ⌝ }
 {
-    let mut heads: [u16; 8191] = [0; 8191];
     let mut next: [u16; 4096] = [0; 4096];
-    match chains::linked_differ(table, count, &mut heads, &mut next) {
+    match chains::linked_differ(table, count, buckets, heads, &mut next) {
         Told::Differs => true,
         Told::Repeats => false,
         Told::Nothing => sorted_differ(table, count),
     }
+}
+
+// Eight buckets a trade, of which most stay empty; fewer trades have fewer to clear.
+fn some_differ(table: &[u64], count: usize) -> bool
+    requires { ⌜ (count * 4 ≤ length (now table)) × (count ≤ 4096) ⌝ }
+    ensures { λ r. ⌜ r ≡ differ (tradesTo (now (table .entry)) count) ⌝ }
+{
+    let mut heads: [u16; 8191] = [0; 8191];
+    chains_differ(table, count, 8_191, &mut heads)
+}
+
+fn many_differ(table: &[u64], count: usize) -> bool
+    requires { ⌜ (count * 4 ≤ length (now table)) × (count ≤ 4096) ⌝ }
+    ensures { λ r. ⌜ r ≡ differ (tradesTo (now (table .entry)) count) ⌝ }
+{
+    let mut heads: [u16; 32749] = [0; 32749];
+    chains_differ(table, count, 32_749, &mut heads)
 }
 
 // No contract stands twice.
@@ -107,6 +123,9 @@ pub fn contracts_differ(table: &[u64], count: usize) -> bool
 {
     if count <= 32 {
         return few_differ(table, count);
+    }
+    if count <= 1_024 {
+        return some_differ(table, count);
     }
     many_differ(table, count)
 }

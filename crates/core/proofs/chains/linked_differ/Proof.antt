@@ -11,44 +11,44 @@ use Rattle.core.proofs.chains.linked_differ.Statement.{statement}
 use Rattle.core.proofs.chains.linked_differ.Tie as tie
 
 abbrev Inv-loop : tie.InvT-loop
-Inv-loop table count heads₀ next₀ i₀ heads next i = Linked table count heads next i × (length heads ≡ length heads₀) × (length next ≡ length next₀)
+Inv-loop table count buckets heads₀ next₀ i₀ heads next i = Linked table count buckets heads next i × (length heads ≡ length heads₀) × (length next ≡ length next₀)
 
 abbrev μ-loop : tie.MeasureT-loop
-μ-loop table count heads₀ next₀ i₀ heads next i = count - i
+μ-loop table count buckets heads₀ next₀ i₀ heads next i = count - i
 
 -- the bucket is that of the trade's contract, and lies within
 module _ (c : tie.After-bucket-of Inv-loop μ-loop) where
   abbrev start : tie.Start Inv-loop μ-loop
   start = c .before .before .before .before .before .before .before
 
-  fell : c .bucket-of .result ≡ bucketOf (tradeAt (start .args .table .now) (c .before .before .before .loop .i) .contract)
+  fell : c .bucket-of .result ≡ bucketOf (start .args .buckets) (tradeAt (start .args .table .now) (c .before .before .before .loop .i) .contract)
   fell = rw (c .before .contract-at .ensures) at (c .bucket-of .ensures)
 
   within : c .bucket-of .result < length (c .before .before .before .loop .heads)
-  within = rw fell (inside _ _ _ _ _ (c .before .before .before .loop .inv .0) (c .before .before .loop-test .taken))
+  within = rw fell (inside _ _ _ _ _ _ (c .before .before .before .loop .inv .0) (c .before .before .loop-test .taken))
 
 -- what the look told, of that contract and that chain
 told : (c : tie.After-look-along Inv-loop μ-loop) → (let f = c .before .before .before in let l = f .before .before .before .loop in let this = tradeAt (start f .args .table .now) (l .i) .contract in
-    Tells (start f .args .table .now) (l .next) (getD (l .heads) (bucketOf this) 0) this (c .look-along .result))
+    Tells (start f .args .table .now) (l .next) (getD (l .heads) (bucketOf (start f .args .buckets) this) 0) this (c .look-along .result))
 told c =
     let f = c .before .before .before in
     let table = start f .args .table .now in
     let l = f .before .before .before .loop in
     let this = tradeAt table (l .i) .contract in
-    subst (λ (contract : Contract). Tells table (l .next) (getD (l .heads) (bucketOf this) 0) contract (c .look-along .result)) (f .before .contract-at .ensures)
+    subst (λ (contract : Contract). Tells table (l .next) (getD (l .heads) (bucketOf (start f .args .buckets) this) 0) contract (c .look-along .result)) (f .before .contract-at .ensures)
     (subst (λ (bucket : ℕ). Tells table (l .next) (getD (l .heads) bucket 0) (f .before .contract-at .result) (c .look-along .result)) (fell f) (c .look-along .ensures))
 
 loop-holds : tie.Need-loop-holds Inv-loop μ-loop
-loop-holds c = let s = c .before .before .before in (none-linked _ _ _ _ (s .pre .2) (s .pre .3), search needs, search needs)
+loop-holds c = let s = c .before .before .before in (none-linked _ _ _ _ _ (s .pre .2) (s .pre .3) (s .pre .4) (s .pre .5), search needs, search needs)
 
 contract-at-requires : tie.Need-contract-at-requires Inv-loop μ-loop
 contract-at-requires c κs = omega (arith, c .loop-test .taken, c .before .before .before .before .before .pre .0)
 
 bucket-of-requires : tie.Need-bucket-of-requires Inv-loop μ-loop
-bucket-of-requires c κs = search needs
+bucket-of-requires c κs = c .before .before .before .before .before .before .pre .2
 
 mul-first : tie.Need-mul-first Inv-loop μ-loop
-mul-first c = record { fits = omega (arith, within c, c .before .before .before .loop .inv .0 .wide) }
+mul-first c = record { fits = omega (arith, within c, c .before .before .before .loop .inv .0 .wide, c .before .before .before .loop .inv .0 .most) }
 
 slice-read-first : tie.Need-slice-read-first Inv-loop μ-loop
 slice-read-first c = within (c .before)
@@ -77,7 +77,7 @@ same-length-2 : tie.Need-same-length-2 Inv-loop μ-loop
 same-length-2 c = search needs
 
 returns : tie.Need-returns Inv-loop μ-loop
-returns c = repeated _ _ _ _ _ (c .before .before .before .before .before .before .before .before .loop .inv .0) (c .before .before .before .before .before .before .before .loop-test .taken) (rw (c .enum-told2 .given .1) at (told (c .before .before)))
+returns c = repeated _ _ _ _ _ _ (c .before .before .before .before .before .before .before .before .loop .inv .0) (c .before .before .before .before .before .before .before .loop-test .taken) (rw (c .enum-told2 .given .1) at (told (c .before .before)))
 
 enum-told-3 : tie.Need-enum-told-3 Inv-loop μ-loop
 enum-told-3 c = search needs
@@ -104,7 +104,7 @@ cast-heads : tie.Need-cast-heads Inv-loop μ-loop
 cast-heads c = record { fits = omega (arith, c .before .before .before .before .before .before .before .loop-test .taken, c .before .before .before .before .before .before .before .before .before .before .before .before .pre .1) }
 
 mul-heads : tie.Need-mul-heads Inv-loop μ-loop
-mul-heads c = record { fits = omega (arith, within (c .before .before .before .before .before), c .before .before .before .before .before .before .before .before .loop .inv .0 .wide) }
+mul-heads c = record { fits = omega (arith, within (c .before .before .before .before .before), c .before .before .before .before .before .before .before .before .loop .inv .0 .wide, c .before .before .before .before .before .before .before .before .loop .inv .0 .most) }
 
 slice-write-heads : tie.Need-slice-write-heads Inv-loop μ-loop
 slice-write-heads c = within (c .before .before .before .before .before)
@@ -118,7 +118,7 @@ loop-less c = search needs
 loop-again : tie.Need-loop-again Inv-loop μ-loop
 loop-again c =
     let here = c .before .before .before .before .before .before .before .before .loop in
-    let linked = next-linked _ _ _ _ _ (here .inv .0) (c .before .before .before .before .before .before .before .loop-test .taken) (rw (c .enum-told .given .1) at (told (c .before .before))) in
+    let linked = next-linked _ _ _ _ _ _ (here .inv .0) (c .before .before .before .before .before .before .before .loop-test .taken) (rw (c .enum-told .given .1) at (told (c .before .before))) in
     (rw (fell (c .before .before .before .before .before)) linked, length-set {A = ℕ} (here .heads) _ _ ∙ here .inv .1, length-set {A = ℕ} (here .next) _ _ ∙ here .inv .2)
 
 same-length-5 : tie.Need-same-length-5 Inv-loop μ-loop
