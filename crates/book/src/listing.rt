@@ -18,7 +18,10 @@ fn listing_refusal(words: usize, bytes: usize, room: usize) -> u8
 
 // The listing of a journal's events, on a fresh book with a table of 1,024 trades.
 pub fn run_listing(calendar: &[u32], events: &[u8], lines: &mut [u64]) -> u8
-    ensures { λ r. ⌜ (r ≡ numberOf (firstOf (listingCauses (length (now (calendar .entry))) (length (now (events .entry))) (length (now (lines .entry)))))) × (now (lines .exit) ≡ writtenBy (firstOf (listingCauses (length (now (calendar .entry))) (length (now (events .entry))) (length (now (lines .entry))))) (listingOf (now (calendar .entry)) (now (events .entry))) (now (lines .entry))) ⌝ }
+    ensures { λ r.
+        let cause = firstOf (listingCauses (length (now (calendar .entry))) (length (now (events .entry))) (length (now (lines .entry)))) in
+        ⌜ (r ≡ numberOf cause)
+        × (now (lines .exit) ≡ writtenBy cause (listingOf (now (calendar .entry)) (now (events .entry))) (now (lines .entry))) ⌝ }
 {
     let refusal = listing_refusal(calendar.len(), events.len(), lines.len());
     if refusal != 0 {

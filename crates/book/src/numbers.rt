@@ -16,7 +16,11 @@ use rules::event::Entry;
 
 pub fn apply_flat(calendar: &[u32], book: Book, table: &mut [u64], entry: Entry) -> Applied
     requires { ⌜ length (now table) % 4 ≡ 0 ⌝ }
-    ensures { λ r. ⌜ (r ≡ appliedOf (step (now (calendar .entry)) book (tradesOf (now (table .entry))) entry)) × (tradesOf (now (table .exit)) ≡ step (now (calendar .entry)) book (tradesOf (now (table .entry))) entry .table) ⌝ }
+    ensures { λ r.
+        let trades = tradesOf (now (table .entry)) in
+        let next = step (now (calendar .entry)) book trades entry in
+        ⌜ (r ≡ appliedOf next)
+        × (tradesOf (now (table .exit)) ≡ next .table) ⌝ }
 {
     let vault = book.vault;
     let withdrawals = book.withdrawals;
@@ -62,7 +66,12 @@ pub fn run_flat(
     lines: &mut [u64],
 ) -> Ran
     requires { ⌜ length (now table) % 4 ≡ 0 ⌝ }
-    ensures { λ r. ⌜ (r ≡ runOutcome (now (calendar .entry)) book (tradesOf (now (table .entry))) (now (events .entry)) (now (lines .entry)) .ran) × (tradesOf (now (table .exit)) ≡ runOutcome (now (calendar .entry)) book (tradesOf (now (table .entry))) (now (events .entry)) (now (lines .entry)) .table) × (now (lines .exit) ≡ runOutcome (now (calendar .entry)) book (tradesOf (now (table .entry))) (now (events .entry)) (now (lines .entry)) .lines) ⌝ }
+    ensures { λ r.
+        let trades = tradesOf (now (table .entry)) in
+        let ended = runOutcome (now (calendar .entry)) book trades (now (events .entry)) (now (lines .entry)) in
+        ⌜ (r ≡ ended .ran)
+        × (tradesOf (now (table .exit)) ≡ ended .table)
+        × (now (lines .exit) ≡ ended .lines) ⌝ }
 {
     let vault = book.vault;
     let withdrawals = book.withdrawals;

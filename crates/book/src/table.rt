@@ -27,7 +27,11 @@ fn apply_first(
     entry: Entry,
 ) -> Applied
     requires { ⌜ count * 4 ≤ length (now flat) ⌝ }
-    ensures { λ r. ⌜ (r ≡ appliedOf (step (now (calendar .entry)) book (tradesTo (now (flat .entry)) count) entry)) × (tradesTo (now (flat .exit)) count ≡ step (now (calendar .entry)) book (tradesTo (now (flat .entry)) count) entry .table) ⌝ }
+    ensures { λ r.
+        let trades = tradesTo (now (flat .entry)) count in
+        let next = step (now (calendar .entry)) book trades entry in
+        ⌜ (r ≡ appliedOf next)
+        × (tradesTo (now (flat .exit)) count ≡ next .table) ⌝ }
 {
     let end = count * 4;
     numbers::apply_flat(calendar, book, &mut flat[..end], entry)
@@ -42,7 +46,10 @@ fn apply_by(
     entry: Entry,
 ) -> Applied
     requires { ⌜ length (now table) * 4 ≤ length (now flat) ⌝ }
-    ensures { λ r. ⌜ (r ≡ appliedOf (step (now (calendar .entry)) book (now (table .entry)) entry)) × (now (table .exit) ≡ step (now (calendar .entry)) book (now (table .entry)) entry .table) ⌝ }
+    ensures { λ r.
+        let next = step (now (calendar .entry)) book (now (table .entry)) entry in
+        ⌜ (r ≡ appliedOf next)
+        × (now (table .exit) ≡ next .table) ⌝ }
 {
     let n = table.len();
     copies::copy_in(&*table, flat);
@@ -54,7 +61,10 @@ fn apply_by(
 // With numbers of its own. To clear them is most of the work where few trades are in use, so there are three sizes.
 fn apply_128(calendar: &[u32], book: Book, table: &mut [Trade], entry: Entry) -> Applied
     requires { ⌜ length (now table) ≤ 128 ⌝ }
-    ensures { λ r. ⌜ (r ≡ appliedOf (step (now (calendar .entry)) book (now (table .entry)) entry)) × (now (table .exit) ≡ step (now (calendar .entry)) book (now (table .entry)) entry .table) ⌝ }
+    ensures { λ r.
+        let next = step (now (calendar .entry)) book (now (table .entry)) entry in
+        ⌜ (r ≡ appliedOf next)
+        × (now (table .exit) ≡ next .table) ⌝ }
 {
     let mut flat = copies::zeros_128();
     apply_by(calendar, book, table, &mut flat, entry)
@@ -62,7 +72,10 @@ fn apply_128(calendar: &[u32], book: Book, table: &mut [Trade], entry: Entry) ->
 
 fn apply_1024(calendar: &[u32], book: Book, table: &mut [Trade], entry: Entry) -> Applied
     requires { ⌜ length (now table) ≤ 1024 ⌝ }
-    ensures { λ r. ⌜ (r ≡ appliedOf (step (now (calendar .entry)) book (now (table .entry)) entry)) × (now (table .exit) ≡ step (now (calendar .entry)) book (now (table .entry)) entry .table) ⌝ }
+    ensures { λ r.
+        let next = step (now (calendar .entry)) book (now (table .entry)) entry in
+        ⌜ (r ≡ appliedOf next)
+        × (now (table .exit) ≡ next .table) ⌝ }
 {
     let mut flat = copies::zeros_1024();
     apply_by(calendar, book, table, &mut flat, entry)
@@ -70,7 +83,10 @@ fn apply_1024(calendar: &[u32], book: Book, table: &mut [Trade], entry: Entry) -
 
 fn apply_4096(calendar: &[u32], book: Book, table: &mut [Trade], entry: Entry) -> Applied
     requires { ⌜ length (now table) ≤ 4096 ⌝ }
-    ensures { λ r. ⌜ (r ≡ appliedOf (step (now (calendar .entry)) book (now (table .entry)) entry)) × (now (table .exit) ≡ step (now (calendar .entry)) book (now (table .entry)) entry .table) ⌝ }
+    ensures { λ r.
+        let next = step (now (calendar .entry)) book (now (table .entry)) entry in
+        ⌜ (r ≡ appliedOf next)
+        × (now (table .exit) ≡ next .table) ⌝ }
 {
     let mut flat = copies::zeros_4096();
     apply_by(calendar, book, table, &mut flat, entry)
@@ -79,7 +95,10 @@ fn apply_4096(calendar: &[u32], book: Book, table: &mut [Trade], entry: Entry) -
 // One entry with as few numbers as will do.
 fn apply_more(calendar: &[u32], book: Book, table: &mut [Trade], entry: Entry) -> Applied
     requires { ⌜ length (now table) ≤ 4096 ⌝ }
-    ensures { λ r. ⌜ (r ≡ appliedOf (step (now (calendar .entry)) book (now (table .entry)) entry)) × (now (table .exit) ≡ step (now (calendar .entry)) book (now (table .entry)) entry .table) ⌝ }
+    ensures { λ r.
+        let next = step (now (calendar .entry)) book (now (table .entry)) entry in
+        ⌜ (r ≡ appliedOf next)
+        × (now (table .exit) ≡ next .table) ⌝ }
 {
     if table.len() <= 1_024 {
         return apply_1024(calendar, book, table, entry);
@@ -89,7 +108,10 @@ fn apply_more(calendar: &[u32], book: Book, table: &mut [Trade], entry: Entry) -
 
 fn apply_front(calendar: &[u32], book: Book, table: &mut [Trade], entry: Entry) -> Applied
     requires { ⌜ length (now table) ≤ 4096 ⌝ }
-    ensures { λ r. ⌜ (r ≡ appliedOf (step (now (calendar .entry)) book (now (table .entry)) entry)) × (now (table .exit) ≡ step (now (calendar .entry)) book (now (table .entry)) entry .table) ⌝ }
+    ensures { λ r.
+        let next = step (now (calendar .entry)) book (now (table .entry)) entry in
+        ⌜ (r ≡ appliedOf next)
+        × (now (table .exit) ≡ next .table) ⌝ }
 {
     if table.len() <= 128 {
         return apply_128(calendar, book, table, entry);
@@ -109,7 +131,10 @@ fn slots_used(book: Book, slots: usize) -> usize
 
 // One entry on any book and any table.
 pub fn apply(calendar: &[u32], book: Book, table: &mut [Trade], entry: Entry) -> Applied
-    ensures { λ r. ⌜ (r ≡ appliedOf (step (now (calendar .entry)) book (now (table .entry)) entry)) × (now (table .exit) ≡ step (now (calendar .entry)) book (now (table .entry)) entry .table) ⌝ }
+    ensures { λ r.
+        let next = step (now (calendar .entry)) book (now (table .entry)) entry in
+        ⌜ (r ≡ appliedOf next)
+        × (now (table .exit) ≡ next .table) ⌝ }
 {
     let slots = table.len();
     if slots > 4_096 {
@@ -205,7 +230,12 @@ fn run_first(
     lines: &mut [u64],
 ) -> Ran
     requires { ⌜ count * 4 ≤ length (now flat) ⌝ }
-    ensures { λ r. ⌜ (r ≡ runOutcome (now (calendar .entry)) book (tradesTo (now (flat .entry)) count) (now (events .entry)) (now (lines .entry)) .ran) × (tradesTo (now (flat .exit)) count ≡ runOutcome (now (calendar .entry)) book (tradesTo (now (flat .entry)) count) (now (events .entry)) (now (lines .entry)) .table) × (now (lines .exit) ≡ runOutcome (now (calendar .entry)) book (tradesTo (now (flat .entry)) count) (now (events .entry)) (now (lines .entry)) .lines) ⌝ }
+    ensures { λ r.
+        let trades = tradesTo (now (flat .entry)) count in
+        let ended = runOutcome (now (calendar .entry)) book trades (now (events .entry)) (now (lines .entry)) in
+        ⌜ (r ≡ ended .ran)
+        × (tradesTo (now (flat .exit)) count ≡ ended .table)
+        × (now (lines .exit) ≡ ended .lines) ⌝ }
 {
     let end = count * 4;
     numbers::run_flat(calendar, book, &mut flat[..end], events, lines)
@@ -221,7 +251,11 @@ fn run_by(
     lines: &mut [u64],
 ) -> Ran
     requires { ⌜ length (now table) * 4 ≤ length (now flat) ⌝ }
-    ensures { λ r. ⌜ (r ≡ runOutcome (now (calendar .entry)) book (now (table .entry)) (now (events .entry)) (now (lines .entry)) .ran) × (now (table .exit) ≡ runOutcome (now (calendar .entry)) book (now (table .entry)) (now (events .entry)) (now (lines .entry)) .table) × (now (lines .exit) ≡ runOutcome (now (calendar .entry)) book (now (table .entry)) (now (events .entry)) (now (lines .entry)) .lines) ⌝ }
+    ensures { λ r.
+        let ended = runOutcome (now (calendar .entry)) book (now (table .entry)) (now (events .entry)) (now (lines .entry)) in
+        ⌜ (r ≡ ended .ran)
+        × (now (table .exit) ≡ ended .table)
+        × (now (lines .exit) ≡ ended .lines) ⌝ }
 {
     let n = table.len();
     copies::copy_in(&*table, flat);
@@ -239,7 +273,11 @@ fn run_128(
     lines: &mut [u64],
 ) -> Ran
     requires { ⌜ length (now table) ≤ 128 ⌝ }
-    ensures { λ r. ⌜ (r ≡ runOutcome (now (calendar .entry)) book (now (table .entry)) (now (events .entry)) (now (lines .entry)) .ran) × (now (table .exit) ≡ runOutcome (now (calendar .entry)) book (now (table .entry)) (now (events .entry)) (now (lines .entry)) .table) × (now (lines .exit) ≡ runOutcome (now (calendar .entry)) book (now (table .entry)) (now (events .entry)) (now (lines .entry)) .lines) ⌝ }
+    ensures { λ r.
+        let ended = runOutcome (now (calendar .entry)) book (now (table .entry)) (now (events .entry)) (now (lines .entry)) in
+        ⌜ (r ≡ ended .ran)
+        × (now (table .exit) ≡ ended .table)
+        × (now (lines .exit) ≡ ended .lines) ⌝ }
 {
     let mut flat = copies::zeros_128();
     run_by(calendar, book, table, &mut flat, events, lines)
@@ -253,7 +291,11 @@ fn run_1024(
     lines: &mut [u64],
 ) -> Ran
     requires { ⌜ length (now table) ≤ 1024 ⌝ }
-    ensures { λ r. ⌜ (r ≡ runOutcome (now (calendar .entry)) book (now (table .entry)) (now (events .entry)) (now (lines .entry)) .ran) × (now (table .exit) ≡ runOutcome (now (calendar .entry)) book (now (table .entry)) (now (events .entry)) (now (lines .entry)) .table) × (now (lines .exit) ≡ runOutcome (now (calendar .entry)) book (now (table .entry)) (now (events .entry)) (now (lines .entry)) .lines) ⌝ }
+    ensures { λ r.
+        let ended = runOutcome (now (calendar .entry)) book (now (table .entry)) (now (events .entry)) (now (lines .entry)) in
+        ⌜ (r ≡ ended .ran)
+        × (now (table .exit) ≡ ended .table)
+        × (now (lines .exit) ≡ ended .lines) ⌝ }
 {
     let mut flat = copies::zeros_1024();
     run_by(calendar, book, table, &mut flat, events, lines)
@@ -267,7 +309,11 @@ fn run_4096(
     lines: &mut [u64],
 ) -> Ran
     requires { ⌜ length (now table) ≤ 4096 ⌝ }
-    ensures { λ r. ⌜ (r ≡ runOutcome (now (calendar .entry)) book (now (table .entry)) (now (events .entry)) (now (lines .entry)) .ran) × (now (table .exit) ≡ runOutcome (now (calendar .entry)) book (now (table .entry)) (now (events .entry)) (now (lines .entry)) .table) × (now (lines .exit) ≡ runOutcome (now (calendar .entry)) book (now (table .entry)) (now (events .entry)) (now (lines .entry)) .lines) ⌝ }
+    ensures { λ r.
+        let ended = runOutcome (now (calendar .entry)) book (now (table .entry)) (now (events .entry)) (now (lines .entry)) in
+        ⌜ (r ≡ ended .ran)
+        × (now (table .exit) ≡ ended .table)
+        × (now (lines .exit) ≡ ended .lines) ⌝ }
 {
     let mut flat = copies::zeros_4096();
     run_by(calendar, book, table, &mut flat, events, lines)
@@ -282,7 +328,11 @@ fn run_more(
     lines: &mut [u64],
 ) -> Ran
     requires { ⌜ length (now table) ≤ 4096 ⌝ }
-    ensures { λ r. ⌜ (r ≡ runOutcome (now (calendar .entry)) book (now (table .entry)) (now (events .entry)) (now (lines .entry)) .ran) × (now (table .exit) ≡ runOutcome (now (calendar .entry)) book (now (table .entry)) (now (events .entry)) (now (lines .entry)) .table) × (now (lines .exit) ≡ runOutcome (now (calendar .entry)) book (now (table .entry)) (now (events .entry)) (now (lines .entry)) .lines) ⌝ }
+    ensures { λ r.
+        let ended = runOutcome (now (calendar .entry)) book (now (table .entry)) (now (events .entry)) (now (lines .entry)) in
+        ⌜ (r ≡ ended .ran)
+        × (now (table .exit) ≡ ended .table)
+        × (now (lines .exit) ≡ ended .lines) ⌝ }
 {
     if table.len() <= 1_024 {
         return run_1024(calendar, book, table, events, lines);
@@ -298,7 +348,11 @@ fn run_short(
     lines: &mut [u64],
 ) -> Ran
     requires { ⌜ length (now table) ≤ 4096 ⌝ }
-    ensures { λ r. ⌜ (r ≡ runOutcome (now (calendar .entry)) book (now (table .entry)) (now (events .entry)) (now (lines .entry)) .ran) × (now (table .exit) ≡ runOutcome (now (calendar .entry)) book (now (table .entry)) (now (events .entry)) (now (lines .entry)) .table) × (now (lines .exit) ≡ runOutcome (now (calendar .entry)) book (now (table .entry)) (now (events .entry)) (now (lines .entry)) .lines) ⌝ }
+    ensures { λ r.
+        let ended = runOutcome (now (calendar .entry)) book (now (table .entry)) (now (events .entry)) (now (lines .entry)) in
+        ⌜ (r ≡ ended .ran)
+        × (now (table .exit) ≡ ended .table)
+        × (now (lines .exit) ≡ ended .lines) ⌝ }
 {
     if table.len() <= 128 {
         return run_128(calendar, book, table, events, lines);
@@ -314,7 +368,11 @@ pub fn run(
     events: &[u8],
     lines: &mut [u64],
 ) -> Ran
-    ensures { λ r. ⌜ (r ≡ runOutcome (now (calendar .entry)) book (now (table .entry)) (now (events .entry)) (now (lines .entry)) .ran) × (now (table .exit) ≡ runOutcome (now (calendar .entry)) book (now (table .entry)) (now (events .entry)) (now (lines .entry)) .table) × (now (lines .exit) ≡ runOutcome (now (calendar .entry)) book (now (table .entry)) (now (events .entry)) (now (lines .entry)) .lines) ⌝ }
+    ensures { λ r.
+        let ended = runOutcome (now (calendar .entry)) book (now (table .entry)) (now (events .entry)) (now (lines .entry)) in
+        ⌜ (r ≡ ended .ran)
+        × (now (table .exit) ≡ ended .table)
+        × (now (lines .exit) ≡ ended .lines) ⌝ }
 {
     if table.len() > 4_096 {
         return refused::run(1, book);

@@ -45,7 +45,9 @@ fn same_numbers(numbers: &[u64], at: usize, lines: &[u64]) -> bool
 // The bytes of a journal in three parts, at the front of a buffer for 48 events.
 fn encoded(start: &[u64], earlier: &[u64], events: &[u64]) -> [u8; 1_920]
     requires { ⌜ length (now start) + length (now earlier) + length (now events) ≤ 240 ⌝ }
-    ensures { λ r. ⌜ take ((length (now (start .entry)) + length (now (earlier .entry)) + length (now (events .entry))) * 8) r ≡ bytesOf ((now (start .entry) ++ now (earlier .entry)) ++ now (events .entry)) ⌝ }
+    ensures { λ r.
+        ⌜ take ((length (now (start .entry)) + length (now (earlier .entry)) + length (now (events .entry))) * 8) r
+        ≡ bytesOf ((now (start .entry) ++ now (earlier .entry)) ++ now (events .entry)) ⌝ }
 {
     let mut bytes = [0; 1_920];
     write_numbers(&mut bytes, 0, start);
@@ -56,7 +58,12 @@ fn encoded(start: &[u64], earlier: &[u64], events: &[u64]) -> [u8; 1_920]
 
 // The expectation that the listing of a journal in three parts ends with these lines.
 pub fn expect_lines(calendar: &[u32], start: &[u64], earlier: &[u64], events: &[u64], lines: &[u64])
-    requires { ⌜ (length (now calendar) ≤ 1200) × (length (now start) + length (now earlier) + length (now events) ≤ 240) × ((length (now start) + length (now earlier) + length (now events)) % 5 ≡ 0) × (length (now lines) ≤ (length (now start) + length (now earlier) + length (now events)) / 5 * 7) × (endsWith (now calendar) (now start) (now earlier) (now events) (now lines) ≡ true) ⌝ }
+    requires { let all = length (now start) + length (now earlier) + length (now events) in
+        ⌜ (length (now calendar) ≤ 1200)
+        × (all ≤ 240)
+        × (all % 5 ≡ 0)
+        × (length (now lines) ≤ all / 5 * 7)
+        × (endsWith (now calendar) (now start) (now earlier) (now events) (now lines) ≡ true) ⌝ }
 {
     let length = start.len() + earlier.len() + events.len();
     let bytes = encoded(start, earlier, events);

@@ -50,7 +50,12 @@ pub fn linked_differ(
     heads: &mut [u16],
     next: &mut [u16],
 ) -> Told
-    requires { ⌜ (count * 4 ≤ length (now table)) × (count ≤ 4096) × (0 < buckets) × (buckets ≤ 32749) × (now heads ≡ replicate buckets 0) × (count ≤ length (now next)) ⌝ }
+    requires { ⌜ (count * 4 ≤ length (now table))
+        × (count ≤ 4096)
+        × (0 < buckets)
+        × (buckets ≤ 32749)
+        × (now heads ≡ replicate buckets 0)
+        × (count ≤ length (now next)) ⌝ }
     ensures { λ r. ⌜ TellsAll (now (table .entry)) count r ⌝ }
 {
     let mut i = 0;

@@ -106,8 +106,14 @@ fn clear(kinds: &mut [u8], units: &mut [u64])
 // The evening's end, with the sheets that are left after maturity.
 fn evening_end(desk: Desk, held: &mut [u64], kinds: &[u8], units: &[u64], left: u64) -> Evened
     requires { ⌜ (length (now held) ≡ 128) × (length (now kinds) ≡ 128) × (length (now units) ≡ 128) ⌝ }
-    requires { ⌜ (withdrawalsFit (bookOf desk (rowsOf (now held) (now kinds) (now units)) .withdrawals) ≡ true) × (securitiesFit (bookOf desk (rowsOf (now held) (now kinds) (now units)) .vault) ≡ true) × (cashFit (desk .cash) (desk .guarantee) ≡ true) ⌝ }
-    ensures { λ r. ⌜ ((table : List Trade) → left ≡ outstanding (maturedTrades (bookOf desk (rowsOf (now (held .entry)) (now (kinds .entry)) (now (units .entry)))) table) → eveningAt r (securitiesOf (now (held .exit))) ≡ eveningOf (bookOf desk (rowsOf (now (held .entry)) (now (kinds .entry)) (now (units .entry)))) table) ⌝ }
+    requires { let book = bookOf desk (rowsOf (now held) (now kinds) (now units)) in
+        ⌜ (withdrawalsFit (book .withdrawals) ≡ true)
+        × (securitiesFit (book .vault) ≡ true)
+        × (cashFit (desk .cash) (desk .guarantee) ≡ true) ⌝ }
+    ensures { λ r.
+        let book = bookOf desk (rowsOf (now (held .entry)) (now (kinds .entry)) (now (units .entry))) in
+        ⌜ ((table : List Trade) →
+        left ≡ outstanding (maturedTrades book table) → eveningAt r (securitiesOf (now (held .exit))) ≡ eveningOf book table) ⌝ }
 {
     let standing = desk.standing;
     let guarantee = desk.guarantee;
@@ -138,8 +144,19 @@ fn closed_desk(
     left: u64,
     kept: usize,
 ) -> Desk
-    requires { ⌜ (length (now held) ≡ 128) × (securitiesFit (vaultOf (evened .guarantee) (securitiesOf (now held))) ≡ true) × (evened .guarantee .frozen .0 ≤ evened .guarantee .effective .0) × (evened .guarantee .effective .0 ≤ 10000000000000000) ⌝ }
-    ensures { λ r. ⌜ ((calendar : Calendar) (rows : Rows) (table : List Trade) → cleared ≡ record { today = pos 0; cleared = clearedAtClose calendar (bookOf desk rows) table } → eveningAt evened (securitiesOf (now (held .entry))) ≡ eveningOf (bookOf desk rows) table → left ≡ outstanding (maturedTrades (bookOf desk rows) table) → kept ≡ length (remaining (maturedTrades (bookOf desk rows) table)) → bookOf r (rowsOf (now (held .entry)) (noApplications .kinds) (noApplications .units)) ≡ closedBook calendar (bookOf desk rows) table) ⌝ }
+    requires { ⌜ (length (now held) ≡ 128)
+        × (securitiesFit (vaultOf (evened .guarantee) (securitiesOf (now held))) ≡ true)
+        × (evened .guarantee .frozen .0 ≤ evened .guarantee .effective .0)
+        × (evened .guarantee .effective .0 ≤ 10000000000000000) ⌝ }
+    ensures { λ r.
+        ⌜ ((calendar : Calendar) (rows : Rows) (table : List Trade) →
+        let book = bookOf desk rows in
+        let matured = maturedTrades book table in
+        cleared ≡ record { today = pos 0; cleared = clearedAtClose calendar book table }
+        → eveningAt evened (securitiesOf (now (held .entry))) ≡ eveningOf book table
+        → left ≡ outstanding matured
+        → kept ≡ length (remaining matured)
+        → bookOf r (rowsOf (now (held .entry)) (noApplications .kinds) (noApplications .units)) ≡ closedBook calendar book table) ⌝ }
 {
     let standing = desk.standing;
     let short = standing.short;
@@ -170,8 +187,18 @@ fn closed(
     cleared: Nets,
 ) -> Done
     requires { ⌜ (length (now held) ≡ 128) × (length (now kinds) ≡ 128) × (length (now units) ≡ 128) × (Kept (now table) (desk .trades)) ⌝ }
-    requires { ⌜ (withdrawalsFit (bookOf desk (rowsOf (now held) (now kinds) (now units)) .withdrawals) ≡ true) × (securitiesFit (bookOf desk (rowsOf (now held) (now kinds) (now units)) .vault) ≡ true) × (cashFit (desk .cash) (desk .guarantee) ≡ true) ⌝ }
-    ensures { λ r. ⌜ ((calendar : Calendar) → matured ≡ maturedSheets (bookOf desk (rowsOf (now (held .entry)) (now (kinds .entry)) (now (units .entry)))) (tradesOf (now (table .entry))) → cleared ≡ record { today = pos 0; cleared = clearedAtClose calendar (bookOf desk (rowsOf (now (held .entry)) (now (kinds .entry)) (now (units .entry)))) (tradesOf (now (table .entry))) } → appliedAt r (rowsOf (now (held .exit)) (now (kinds .exit)) (now (units .exit))) ≡ closedBy none calendar (bookOf desk (rowsOf (now (held .entry)) (now (kinds .entry)) (now (units .entry)))) (tradesOf (now (table .entry)))) × (tradesOf (now (table .exit)) ≡ closedTable (bookOf desk (rowsOf (now (held .entry)) (now (kinds .entry)) (now (units .entry)))) (tradesOf (now (table .entry)))) ⌝ }
+    requires { let book = bookOf desk (rowsOf (now held) (now kinds) (now units)) in
+        ⌜ (withdrawalsFit (book .withdrawals) ≡ true)
+        × (securitiesFit (book .vault) ≡ true)
+        × (cashFit (desk .cash) (desk .guarantee) ≡ true) ⌝ }
+    ensures { λ r.
+        let book = bookOf desk (rowsOf (now (held .entry)) (now (kinds .entry)) (now (units .entry))) in
+        let trades = tradesOf (now (table .entry)) in
+        ⌜ ((calendar : Calendar) →
+        matured ≡ maturedSheets book trades
+        → cleared ≡ record { today = pos 0; cleared = clearedAtClose calendar book trades }
+        → appliedAt r (rowsOf (now (held .exit)) (now (kinds .exit)) (now (units .exit))) ≡ closedBy none calendar book trades)
+        × (tradesOf (now (table .exit)) ≡ closedTable book trades) ⌝ }
 {
     let standing = desk.standing;
     let day = standing.day;
@@ -194,8 +221,18 @@ pub fn close(
     units: &mut [u64],
     table: &mut [u64],
 ) -> Done
-    requires { ⌜ (length (now held) ≡ 128) × (length (now kinds) ≡ 128) × (length (now units) ≡ 128) × (length (now calendar) ≤ 1200) × (fit (now calendar) (bookOf desk (rowsOf (now held) (now kinds) (now units))) (tradesOf (now table)) ≡ true) ⌝ }
-    ensures { λ r. ⌜ (appliedAt r (rowsOf (now (held .exit)) (now (kinds .exit)) (now (units .exit))) ≡ closedBy (firstOf (closeCauses (now (calendar .entry)) (bookOf desk (rowsOf (now (held .entry)) (now (kinds .entry)) (now (units .entry)))) (tradesOf (now (table .entry))))) (now (calendar .entry)) (bookOf desk (rowsOf (now (held .entry)) (now (kinds .entry)) (now (units .entry)))) (tradesOf (now (table .entry)))) × (tradesOf (now (table .exit)) ≡ tableBy (firstOf (closeCauses (now (calendar .entry)) (bookOf desk (rowsOf (now (held .entry)) (now (kinds .entry)) (now (units .entry)))) (tradesOf (now (table .entry))))) (tradesOf (now (table .entry))) (closedTable (bookOf desk (rowsOf (now (held .entry)) (now (kinds .entry)) (now (units .entry)))) (tradesOf (now (table .entry))))) ⌝ }
+    requires { ⌜ (length (now held) ≡ 128)
+        × (length (now kinds) ≡ 128)
+        × (length (now units) ≡ 128)
+        × (length (now calendar) ≤ 1200)
+        × (fit (now calendar) (bookOf desk (rowsOf (now held) (now kinds) (now units))) (tradesOf (now table)) ≡ true) ⌝ }
+    ensures { λ r.
+        let book = bookOf desk (rowsOf (now (held .entry)) (now (kinds .entry)) (now (units .entry))) in
+        let trades = tradesOf (now (table .entry)) in
+        let left = rowsOf (now (held .exit)) (now (kinds .exit)) (now (units .exit)) in
+        let cause = firstOf (closeCauses (now (calendar .entry)) book trades) in
+        ⌜ (appliedAt r left ≡ closedBy cause (now (calendar .entry)) book trades)
+        × (tradesOf (now (table .exit)) ≡ tableBy cause trades (closedTable book trades)) ⌝ }
 {
     let standing = desk.standing;
     if !may_close(standing) {

@@ -21,7 +21,9 @@ fn headroom_from(size: u64, value: u64, outstanding: u64) -> i64
 // From O and V.
 pub fn cover_from(size: u64, figures: Figures) -> Cover
     requires { ⌜ (size ≤ 10000000000) × (figures .outstanding ≤ 10000000000) ⌝ }
-    ensures { λ r. ⌜ r ≡ record { number = 0; headroom = headroomOf size (figures .value) (figures .outstanding); outstanding = sheets (figures .outstanding) } ⌝ }
+    ensures { λ r.
+        let headroom = headroomOf size (figures .value) (figures .outstanding) in
+        ⌜ r ≡ record { number = 0; headroom = headroom; outstanding = sheets (figures .outstanding) } ⌝ }
 {
     Cover {
         number: 0,

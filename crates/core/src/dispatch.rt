@@ -36,8 +36,19 @@ fn event_on(
     outstanding: u64,
     event: Event,
 ) -> Done
-    requires { ⌜ (length (now held) ≡ 128) × (length (now kinds) ≡ 128) × (length (now units) ≡ 128) × (length (now calendar) ≤ 1200) × (fit (now calendar) (bookOf desk (rowsOf (now held) (now kinds) (now units))) (tradesOf (now table)) ≡ true) × (outstanding ≡ outstandingAt desk (tradesOf (now table))) ⌝ }
-    ensures { λ r. ⌜ (appliedAt r (rowsOf (now (held .exit)) (now (kinds .exit)) (now (units .exit))) ≡ appliedOf (step (now (calendar .entry)) (bookOf desk (rowsOf (now (held .entry)) (now (kinds .entry)) (now (units .entry)))) (tradesOf (now (table .entry))) (Known event))) × (tradesOf (now (table .exit)) ≡ step (now (calendar .entry)) (bookOf desk (rowsOf (now (held .entry)) (now (kinds .entry)) (now (units .entry)))) (tradesOf (now (table .entry))) (Known event) .table) ⌝ }
+    requires { let trades = tradesOf (now table) in
+        ⌜ (length (now held) ≡ 128)
+        × (length (now kinds) ≡ 128)
+        × (length (now units) ≡ 128)
+        × (length (now calendar) ≤ 1200)
+        × (fit (now calendar) (bookOf desk (rowsOf (now held) (now kinds) (now units))) trades ≡ true)
+        × (outstanding ≡ outstandingAt desk trades) ⌝ }
+    ensures { λ r.
+        let book = bookOf desk (rowsOf (now (held .entry)) (now (kinds .entry)) (now (units .entry))) in
+        let trades = tradesOf (now (table .entry)) in
+        let next = step (now (calendar .entry)) book trades (Known event) in
+        ⌜ (appliedAt r (rowsOf (now (held .exit)) (now (kinds .exit)) (now (units .exit))) ≡ appliedOf next)
+        × (tradesOf (now (table .exit)) ≡ next .table) ⌝ }
 {
     match event {
         Event::Open => open::open(calendar, desk, table),
@@ -87,8 +98,19 @@ pub fn entry_on(
     outstanding: u64,
     entry: Entry,
 ) -> Done
-    requires { ⌜ (length (now held) ≡ 128) × (length (now kinds) ≡ 128) × (length (now units) ≡ 128) × (length (now calendar) ≤ 1200) × (fit (now calendar) (bookOf desk (rowsOf (now held) (now kinds) (now units))) (tradesOf (now table)) ≡ true) × (outstanding ≡ outstandingAt desk (tradesOf (now table))) ⌝ }
-    ensures { λ r. ⌜ (appliedAt r (rowsOf (now (held .exit)) (now (kinds .exit)) (now (units .exit))) ≡ appliedOf (step (now (calendar .entry)) (bookOf desk (rowsOf (now (held .entry)) (now (kinds .entry)) (now (units .entry)))) (tradesOf (now (table .entry))) entry)) × (tradesOf (now (table .exit)) ≡ step (now (calendar .entry)) (bookOf desk (rowsOf (now (held .entry)) (now (kinds .entry)) (now (units .entry)))) (tradesOf (now (table .entry))) entry .table) ⌝ }
+    requires { let trades = tradesOf (now table) in
+        ⌜ (length (now held) ≡ 128)
+        × (length (now kinds) ≡ 128)
+        × (length (now units) ≡ 128)
+        × (length (now calendar) ≤ 1200)
+        × (fit (now calendar) (bookOf desk (rowsOf (now held) (now kinds) (now units))) trades ≡ true)
+        × (outstanding ≡ outstandingAt desk trades) ⌝ }
+    ensures { λ r.
+        let book = bookOf desk (rowsOf (now (held .entry)) (now (kinds .entry)) (now (units .entry))) in
+        let trades = tradesOf (now (table .entry)) in
+        let next = step (now (calendar .entry)) book trades entry in
+        ⌜ (appliedAt r (rowsOf (now (held .exit)) (now (kinds .exit)) (now (units .exit))) ≡ appliedOf next)
+        × (tradesOf (now (table .exit)) ≡ next .table) ⌝ }
 {
     match entry {
         Entry::Known(event) => event_on(

@@ -41,8 +41,15 @@ fn amount_at(
     count: Sheets,
     price: Ticks,
 ) -> u64
-    requires { ⌜ (Fits (now calendar) desk (tradesOf (now table))) × (length (now calendar) ≤ 1200) × (place ≡ placeOf contract (tradesTo (now table) (desk .trades))) × (place < desk .trades) × (count .0 ≤ 100000000) × (price .0 ≤ 100000) ⌝ }
-    ensures { λ r. ⌜ ((rows : Rows) → r ≡ earlyAmount (now (calendar .entry)) (bookOf desk rows) (tradesOf (now (table .entry))) contract count price) ⌝ }
+    requires { ⌜ (Fits (now calendar) desk (tradesOf (now table)))
+        × (length (now calendar) ≤ 1200)
+        × (place ≡ placeOf contract (tradesTo (now table) (desk .trades)))
+        × (place < desk .trades)
+        × (count .0 ≤ 100000000)
+        × (price .0 ≤ 100000) ⌝ }
+    ensures { λ r.
+        ⌜ ((rows : Rows) →
+        r ≡ earlyAmount (now (calendar .entry)) (bookOf desk rows) (tradesOf (now (table .entry))) contract count price) ⌝ }
 {
     let standing = desk.standing;
     let day = standing.day;
@@ -59,8 +66,15 @@ fn early_refusal(
     count: Sheets,
     price: Ticks,
 ) -> u8
-    requires { ⌜ (Fits (now calendar) desk (tradesOf (now table))) × (length (now calendar) ≤ 1200) × (place ≡ placeOf contract (tradesTo (now table) (desk .trades))) ⌝ }
-    ensures { λ r. ⌜ ((rows : Rows) → r ≡ numberOf (firstOf (earlyCauses (now (calendar .entry)) (bookOf desk rows) (tradesOf (now (table .entry))) contract count price))) ⌝ }
+    requires { ⌜ (Fits (now calendar) desk (tradesOf (now table)))
+        × (length (now calendar) ≤ 1200)
+        × (place ≡ placeOf contract (tradesTo (now table) (desk .trades))) ⌝ }
+    ensures { λ r.
+        let trades = tradesOf (now (table .entry)) in
+        ⌜ ((rows : Rows) →
+        let book = bookOf desk rows in
+        let cause = firstOf (earlyCauses (now (calendar .entry)) book trades contract count price) in
+        r ≡ numberOf cause) ⌝ }
 {
     let standing = desk.standing;
     if !standing::is_trading(standing) {
@@ -101,7 +115,13 @@ pub fn early(
     price: Ticks,
 ) -> Done
     requires { ⌜ (Fits (now calendar) desk (tradesOf (now table))) × (length (now calendar) ≤ 1200) ⌝ }
-    ensures { λ r. ⌜ ((rows : Rows) → (appliedAt r rows ≡ appliedBy (firstOf (earlyCauses (now (calendar .entry)) (bookOf desk rows) (tradesOf (now (table .entry))) contract count price)) (bookOf desk rows) (earlyBook (now (calendar .entry)) (bookOf desk rows) (tradesOf (now (table .entry))) contract count price)) × (tradesOf (now (table .exit)) ≡ tableBy (firstOf (earlyCauses (now (calendar .entry)) (bookOf desk rows) (tradesOf (now (table .entry))) contract count price)) (tradesOf (now (table .entry))) (earlyTable (bookOf desk rows) (tradesOf (now (table .entry))) contract count))) ⌝ }
+    ensures { λ r.
+        let trades = tradesOf (now (table .entry)) in
+        ⌜ ((rows : Rows) →
+        let book = bookOf desk rows in
+        let cause = firstOf (earlyCauses (now (calendar .entry)) book trades contract count price) in
+        (appliedAt r rows ≡ appliedBy cause book (earlyBook (now (calendar .entry)) book trades contract count price))
+        × (tradesOf (now (table .exit)) ≡ tableBy cause trades (earlyTable book trades contract count))) ⌝ }
 {
     let place = trades::place_of(&*table, desk.trades, contract);
     let refusal = early_refusal(calendar, desk, &*table, place, contract, count, price);

@@ -53,7 +53,11 @@ pub fn all_arrived(held: &mut [u64], guarantee: Guarantee)
 
 // Guarantee cash as a security, and back; a security's rate is not looked at in cash.
 fn as_security(guarantee: Guarantee) -> Security
-    ensures { λ r. ⌜ (r .effective ≡ guarantee .effective .0) × (r .arriving ≡ guarantee .arriving .0) × (r .frozen ≡ guarantee .frozen .0) × (r .rate ≡ 0) ⌝ }
+    ensures { λ r.
+        ⌜ (r .effective ≡ guarantee .effective .0)
+        × (r .arriving ≡ guarantee .arriving .0)
+        × (r .frozen ≡ guarantee .frozen .0)
+        × (r .rate ≡ 0) ⌝ }
 {
     Security {
         effective: guarantee.effective.0,
@@ -88,8 +92,21 @@ fn judged(
     had: Security,
     value: u64,
 ) -> Verdict
-    requires { ⌜ (kind ≤ 32) × (had .frozen ≤ had .effective) × (had .effective ≤ unitLimitOf kind) × (rateOf kind (had .rate) ≤ 20000) × (kindValue kind (had .effective) (had .frozen) (had .rate) .0 ≤ value) × (value ≤ 67000000000000) ⌝ }
-    ensures { λ r. ⌜ ((vault : Vault) → length (vault .securities) ≡ 32 → had .effective ≡ effectiveOf vault kind → had .frozen ≡ frozenOf vault kind → had .rate ≡ securityAt vault kind .rate → value ≡ valueOf vault → (r .goes ≡ mayGo served outstanding kind units vault) × (r .value ≡ cond (r .goes) (valueOf (takenOut kind units vault)) value)) ⌝ }
+    requires { ⌜ (kind ≤ 32)
+        × (had .frozen ≤ had .effective)
+        × (had .effective ≤ unitLimitOf kind)
+        × (rateOf kind (had .rate) ≤ 20000)
+        × (kindValue kind (had .effective) (had .frozen) (had .rate) .0 ≤ value)
+        × (value ≤ 67000000000000) ⌝ }
+    ensures { λ r.
+        ⌜ ((vault : Vault) →
+        length (vault .securities) ≡ 32
+        → had .effective ≡ effectiveOf vault kind
+        → had .frozen ≡ frozenOf vault kind
+        → had .rate ≡ securityAt vault kind .rate
+        → value ≡ valueOf vault
+        → (r .goes ≡ mayGo served outstanding kind units vault)
+        × (r .value ≡ cond (r .goes) (valueOf (takenOut kind units vault)) value)) ⌝ }
 {
     if !served {
         return Verdict { goes: false, value };
@@ -126,9 +143,20 @@ pub fn applications(
     held: &mut [u64],
     begun: Evened,
 ) -> Evened
-    requires { ⌜ (length (now kinds) ≡ 128) × (length (now units) ≡ 128) × (length (now held) ≡ 128) × (withdrawalsFit (record { kinds = now kinds; units = now units; count = count }) ≡ true) ⌝ }
-    requires { ⌜ (securitiesFit (vaultOf (begun .guarantee) (securitiesOf (now held))) ≡ true) × (begun .guarantee .frozen .0 ≤ begun .guarantee .effective .0) × (begun .guarantee .effective .0 ≤ 10000000000000000) × (begun .own .0 + begun .guarantee .effective .0 ≤ 10000000000000000) × (begun .done ≡ 0) × (begun .dropped ≡ 0) ⌝ }
-    ensures { λ r. ⌜ eveningAt r (securitiesOf (now (held .exit))) ≡ applications served outstanding (record { kinds = now (kinds .entry); units = now (units .entry); count = count }) (eveningAt begun (securitiesOf (now (held .entry)))) ⌝ }
+    requires { ⌜ (length (now kinds) ≡ 128)
+        × (length (now units) ≡ 128)
+        × (length (now held) ≡ 128)
+        × (withdrawalsFit (record { kinds = now kinds; units = now units; count = count }) ≡ true) ⌝ }
+    requires { ⌜ (securitiesFit (vaultOf (begun .guarantee) (securitiesOf (now held))) ≡ true)
+        × (begun .guarantee .frozen .0 ≤ begun .guarantee .effective .0)
+        × (begun .guarantee .effective .0 ≤ 10000000000000000)
+        × (begun .own .0 + begun .guarantee .effective .0 ≤ 10000000000000000)
+        × (begun .done ≡ 0)
+        × (begun .dropped ≡ 0) ⌝ }
+    ensures { λ r.
+        let before = eveningAt begun (securitiesOf (now (held .entry))) in
+        ⌜ eveningAt r (securitiesOf (now (held .exit)))
+        ≡ applications served outstanding (record { kinds = now (kinds .entry); units = now (units .entry); count = count }) before ⌝ }
 {
     let mut guarantee = begun.guarantee;
     let mut own = begun.own.0;

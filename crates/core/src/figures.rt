@@ -29,7 +29,10 @@ pub fn figures_of(calendar: &[u32], desk: Desk, held: &[u64], table: &[u64]) -> 
 
 // The vault has changed, and the table has not.
 fn revalued(calendar: &[u32], before: Figures, desk: Desk, held: &[u64], table: &[u64]) -> Figures
-    requires { ⌜ (length (now held) ≡ 128) × (FitsHeld (now calendar) desk (now held) (tradesOf (now table))) × (outstanding (inUse (desk .trades) (tradesOf (now table))) ≡ before .outstanding) ⌝ }
+    requires { let trades = tradesOf (now table) in
+        ⌜ (length (now held) ≡ 128)
+        × (FitsHeld (now calendar) desk (now held) trades)
+        × (outstanding (inUse (desk .trades) trades) ≡ before .outstanding) ⌝ }
     ensures { λ r. ⌜ r ≡ figuresAt desk (now (held .entry)) (tradesOf (now (table .entry))) ⌝ }
 {
     let guarantee = desk.guarantee;
@@ -48,7 +51,10 @@ fn figures_moved(
     held: &[u64],
     table: &[u64],
 ) -> Figures
-    requires { ⌜ (length (now held) ≡ 128) × (FitsHeld (now calendar) desk (now held) (tradesOf (now table))) × (Moved event before (figuresAt desk (now held) (tradesOf (now table)))) ⌝ }
+    requires { let trades = tradesOf (now table) in
+        ⌜ (length (now held) ≡ 128)
+        × (FitsHeld (now calendar) desk (now held) trades)
+        × (Moved event before (figuresAt desk (now held) trades)) ⌝ }
     ensures { λ r. ⌜ r ≡ figuresAt desk (now (held .entry)) (tradesOf (now (table .entry))) ⌝ }
 {
     match event {
@@ -86,7 +92,10 @@ pub fn figures_after(
     held: &[u64],
     table: &[u64],
 ) -> Figures
-    requires { ⌜ (length (now held) ≡ 128) × (FitsHeld (now calendar) desk (now held) (tradesOf (now table))) × (MovedBy entry number before (figuresAt desk (now held) (tradesOf (now table)))) ⌝ }
+    requires { let trades = tradesOf (now table) in
+        ⌜ (length (now held) ≡ 128)
+        × (FitsHeld (now calendar) desk (now held) trades)
+        × (MovedBy entry number before (figuresAt desk (now held) trades)) ⌝ }
     ensures { λ r. ⌜ r ≡ figuresAt desk (now (held .entry)) (tradesOf (now (table .entry))) ⌝ }
 {
     if number != 0 {

@@ -76,7 +76,9 @@ fn opened_fit(calendar: &[u32], today: u32, latest: u32) -> bool
 
 fn day_fit(calendar: &[u32], standing: Standing, count: usize, latest: u32) -> bool
     requires { ⌜ length (now calendar) ≤ 1200 ⌝ }
-    ensures { λ r. ⌜ ((trades : List Trade) → latest ≡ latestFirst trades → r ≡ dayFit (now (calendar .entry)) (standing .day) (standing .phase) trades count) ⌝ }
+    ensures { λ r.
+        ⌜ ((trades : List Trade) →
+        latest ≡ latestFirst trades → r ≡ dayFit (now (calendar .entry)) (standing .day) (standing .phase) trades count) ⌝ }
 {
     let day = standing.day;
     match day {
@@ -94,8 +96,19 @@ fn others_fit(
     table: &[u64],
     latest: u32,
 ) -> bool
-    requires { ⌜ (length (now calendar) ≤ 1200) × (length (now kinds) ≡ 128) × (length (now units) ≡ 128) × (Kept (now table) (desk .trades)) × (latest ≡ latestFirst (tradesTo (now table) (desk .trades))) ⌝ }
-    ensures { λ r. ⌜ r ≡ every (netsFit (desk .nets) ∷ differ (tradesTo (now (table .entry)) (desk .trades)) ∷ withdrawalsFit (record { kinds = now (kinds .entry); units = now (units .entry); count = desk .applications }) ∷ dayFit (now (calendar .entry)) (desk .standing .day) (desk .standing .phase) (tradesTo (now (table .entry)) (desk .trades)) (desk .trades) ∷ []) ⌝ }
+    requires { ⌜ (length (now calendar) ≤ 1200)
+        × (length (now kinds) ≡ 128)
+        × (length (now units) ≡ 128)
+        × (Kept (now table) (desk .trades))
+        × (latest ≡ latestFirst (tradesTo (now table) (desk .trades))) ⌝ }
+    ensures { λ r.
+        let trades = tradesTo (now (table .entry)) (desk .trades) in
+        ⌜ r ≡ every
+        (netsFit (desk .nets)
+        ∷ differ trades
+        ∷ withdrawalsFit (record { kinds = now (kinds .entry); units = now (units .entry); count = desk .applications })
+        ∷ dayFit (now (calendar .entry)) (desk .standing .day) (desk .standing .phase) trades (desk .trades)
+        ∷ []) ⌝ }
 {
     let nets = desk.nets;
     if !nets_fit(nets) {
@@ -122,8 +135,16 @@ fn is_fit(
     table: &[u64],
     gathered: Gathered,
 ) -> bool
-    requires { ⌜ (length (now held) ≡ 128) × (length (now kinds) ≡ 128) × (length (now units) ≡ 128) × (length (now calendar) ≤ 1200) × (capacityFit (desk .trades) (tradesOf (now table)) ≡ true) × (gathered ≡ gatheredOf (tradesTo (now table) (desk .trades))) ⌝ }
-    ensures { λ r. ⌜ r ≡ fit (now (calendar .entry)) (bookOf desk (rowsOf (now (held .entry)) (now (kinds .entry)) (now (units .entry)))) (tradesOf (now (table .entry))) ⌝ }
+    requires { ⌜ (length (now held) ≡ 128)
+        × (length (now kinds) ≡ 128)
+        × (length (now units) ≡ 128)
+        × (length (now calendar) ≤ 1200)
+        × (capacityFit (desk .trades) (tradesOf (now table)) ≡ true)
+        × (gathered ≡ gatheredOf (tradesTo (now table) (desk .trades))) ⌝ }
+    ensures { λ r.
+        let book = bookOf desk (rowsOf (now (held .entry)) (now (kinds .entry)) (now (units .entry))) in
+        let trades = tradesOf (now (table .entry)) in
+        ⌜ r ≡ fit (now (calendar .entry)) book trades ⌝ }
 {
     if !vault::securities_fit(held) {
         return false;
@@ -158,7 +179,10 @@ pub fn fitness_of(
     table: &[u64],
 ) -> Fitness
     requires { ⌜ (length (now held) ≡ 128) × (length (now kinds) ≡ 128) × (length (now units) ≡ 128) × (length (now calendar) ≤ 1200) ⌝ }
-    ensures { λ r. ⌜ (r .fit ≡ fit (now (calendar .entry)) (bookOf desk (rowsOf (now (held .entry)) (now (kinds .entry)) (now (units .entry)))) (tradesOf (now (table .entry)))) × (r .fit ≡ true → r .outstanding ≡ outstandingAt desk (tradesOf (now (table .entry)))) ⌝ }
+    ensures { λ r.
+        let trades = tradesOf (now (table .entry)) in
+        ⌜ (r .fit ≡ fit (now (calendar .entry)) (bookOf desk (rowsOf (now (held .entry)) (now (kinds .entry)) (now (units .entry)))) trades)
+        × (r .fit ≡ true → r .outstanding ≡ outstandingAt desk trades) ⌝ }
 {
     let count = desk.trades;
     if !capacity_fit(count, table) {

@@ -80,7 +80,9 @@ pub fn due_at(table: &[u64], place: usize) -> u32
 
 pub fn put_sheets(table: &mut [u64], place: usize, count: u64)
     requires { ⌜ place * 4 + 3 < length (now table) ⌝ }
-    ensures { λ _. ⌜ tradesOf (now (table .exit)) ≡ set (tradesOf (now (table .entry))) place (withSheets count (tradeAt (now (table .entry)) place)) ⌝ }
+    ensures { λ _.
+        let trades = tradesOf (now (table .entry)) in
+        ⌜ tradesOf (now (table .exit)) ≡ set trades place (withSheets count (tradeAt (now (table .entry)) place)) ⌝ }
 {
     table[place * 4 + 1] = count;
 }
@@ -101,7 +103,9 @@ pub fn no_trade() -> Trade
 
 pub fn put_trade(table: &mut [u64], place: usize, trade: Trade)
     requires { ⌜ place * 4 + 3 < length (now table) ⌝ }
-    ensures { λ _. ⌜ (tradesOf (now (table .exit)) ≡ set (tradesOf (now (table .entry))) place trade) × ((k : ℕ) → place * 4 + 4 ≤ k → getD (now (table .exit)) k 0 ≡ getD (now (table .entry)) k 0) ⌝ }
+    ensures { λ _.
+        ⌜ (tradesOf (now (table .exit)) ≡ set (tradesOf (now (table .entry))) place trade)
+        × ((k : ℕ) → place * 4 + 4 ≤ k → getD (now (table .exit)) k 0 ≡ getD (now (table .entry)) k 0) ⌝ }
 {
     table[place * 4] = trade.contract.0;
     table[place * 4 + 1] = trade.sheets.0;

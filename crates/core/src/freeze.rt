@@ -16,7 +16,9 @@ use rules::book::Guarantee;
 
 fn freeze_refusal(desk: Desk, held: &[u64], kind: u8, units: u64) -> u8
     requires { ⌜ length (now held) ≡ 128 ⌝ }
-    ensures { λ r. ⌜ ((kinds amounts : List ℕ) → r ≡ numberOf (firstOf (freezeCauses (bookOf desk (rowsOf (now (held .entry)) kinds amounts)) kind units))) ⌝ }
+    ensures { λ r.
+        ⌜ ((kinds amounts : List ℕ) →
+        r ≡ numberOf (firstOf (freezeCauses (bookOf desk (rowsOf (now (held .entry)) kinds amounts)) kind units))) ⌝ }
 {
     if kind > 32 {
         return 3;
@@ -30,7 +32,9 @@ fn freeze_refusal(desk: Desk, held: &[u64], kind: u8, units: u64) -> u8
 
 fn put_frozen(held: &mut [u64], kind: u8, units: u64)
     requires { ⌜ (kind < 32) × (length (now held) ≡ 128) ⌝ }
-    ensures { λ _. ⌜ securitiesOf (now (held .exit)) ≡ set (securitiesOf (now (held .entry))) kind (withFrozen units (securityIn (now (held .entry)) kind)) ⌝ }
+    ensures { λ _.
+        ⌜ securitiesOf (now (held .exit))
+        ≡ set (securitiesOf (now (held .entry))) kind (withFrozen units (securityIn (now (held .entry)) kind)) ⌝ }
 {
     let at = kind as usize;
     let mut security = held::security_at(&*held, at);
@@ -50,7 +54,11 @@ fn cash_frozen(guarantee: Guarantee, units: u64) -> Guarantee
 
 pub fn freeze(desk: Desk, held: &mut [u64], kind: u8, units: u64) -> Done
     requires { ⌜ length (now held) ≡ 128 ⌝ }
-    ensures { λ r. ⌜ ((kinds amounts : List ℕ) → appliedAt r (rowsOf (now (held .exit)) kinds amounts) ≡ appliedBy (firstOf (freezeCauses (bookOf desk (rowsOf (now (held .entry)) kinds amounts)) kind units)) (bookOf desk (rowsOf (now (held .entry)) kinds amounts)) (frozen (bookOf desk (rowsOf (now (held .entry)) kinds amounts)) kind units)) ⌝ }
+    ensures { λ r.
+        ⌜ ((kinds amounts : List ℕ) →
+        let book = bookOf desk (rowsOf (now (held .entry)) kinds amounts) in
+        let cause = firstOf (freezeCauses book kind units) in
+        appliedAt r (rowsOf (now (held .exit)) kinds amounts) ≡ appliedBy cause book (frozen book kind units)) ⌝ }
 {
     let refusal = freeze_refusal(desk, &*held, kind, units);
     if refusal != 0 {

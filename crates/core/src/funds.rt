@@ -55,7 +55,10 @@ fn fund_in_refusal(desk: Desk, account: Account, amount: Fen) -> u8
 
 pub fn fund_in(desk: Desk, account: Account, amount: Fen) -> Done
     requires { ⌜ cashFit (desk .cash) (desk .guarantee) ≡ true ⌝ }
-    ensures { λ r. ⌜ ((rows : Rows) → appliedAt r rows ≡ appliedBy (firstOf (fundInCauses (bookOf desk rows) account amount)) (bookOf desk rows) (fundedIn (bookOf desk rows) account amount)) ⌝ }
+    ensures { λ r.
+        ⌜ ((rows : Rows) →
+        let book = bookOf desk rows in
+        appliedAt r rows ≡ appliedBy (firstOf (fundInCauses book account amount)) book (fundedIn book account amount)) ⌝ }
 {
     let refusal = fund_in_refusal(desk, account, amount);
     if refusal != 0 {
@@ -81,7 +84,10 @@ fn fund_out_refusal(desk: Desk, account: Account, amount: Fen) -> u8
 }
 
 pub fn fund_out(desk: Desk, account: Account, amount: Fen) -> Done
-    ensures { λ r. ⌜ ((rows : Rows) → appliedAt r rows ≡ appliedBy (firstOf (fundOutCauses (bookOf desk rows) account amount)) (bookOf desk rows) (fundedOut (bookOf desk rows) account amount)) ⌝ }
+    ensures { λ r.
+        ⌜ ((rows : Rows) →
+        let book = bookOf desk rows in
+        appliedAt r rows ≡ appliedBy (firstOf (fundOutCauses book account amount)) book (fundedOut book account amount)) ⌝ }
 {
     let refusal = fund_out_refusal(desk, account, amount);
     if refusal != 0 {

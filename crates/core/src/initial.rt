@@ -78,8 +78,14 @@ fn lacks_headroom(
     outstanding: u64,
     count: u64,
 ) -> bool
-    requires { ⌜ (length (now held) ≡ 128) × (FitsHeld (now calendar) desk (now held) (tradesOf (now table))) × (outstanding ≡ outstandingAt desk (tradesOf (now table))) × (count ≤ 100000000) ⌝ }
-    ensures { λ r. ⌜ ((kinds units : List ℕ) → r ≡ ltZ (headroom (bookOf desk (rowsOf (now (held .entry)) kinds units)) (tradesOf (now (table .entry)))) (pos count)) ⌝ }
+    requires { let trades = tradesOf (now table) in
+        ⌜ (length (now held) ≡ 128)
+        × (FitsHeld (now calendar) desk (now held) trades)
+        × (outstanding ≡ outstandingAt desk trades)
+        × (count ≤ 100000000) ⌝ }
+    ensures { λ r.
+        ⌜ ((kinds units : List ℕ) →
+        r ≡ ltZ (headroom (bookOf desk (rowsOf (now (held .entry)) kinds units)) (tradesOf (now (table .entry)))) (pos count)) ⌝ }
 {
     let guarantee = desk.guarantee;
     let value = vault::value_of(held, guarantee);
@@ -94,8 +100,17 @@ fn room_refusal(
     outstanding: u64,
     terms: Terms,
 ) -> u8
-    requires { ⌜ (length (now held) ≡ 128) × (FitsHeld (now calendar) desk (now held) (tradesOf (now table))) × (outstanding ≡ outstandingAt desk (tradesOf (now table))) × (terms .sheets .0 ≤ 100000000) ⌝ }
-    ensures { λ r. ⌜ ((kinds units : List ℕ) → r ≡ numberOf (firstOf (roomCauses (bookOf desk (rowsOf (now (held .entry)) kinds units)) (tradesOf (now (table .entry))) terms))) ⌝ }
+    requires { let trades = tradesOf (now table) in
+        ⌜ (length (now held) ≡ 128)
+        × (FitsHeld (now calendar) desk (now held) trades)
+        × (outstanding ≡ outstandingAt desk trades)
+        × (terms .sheets .0 ≤ 100000000) ⌝ }
+    ensures { λ r.
+        let trades = tradesOf (now (table .entry)) in
+        ⌜ ((kinds units : List ℕ) →
+        let book = bookOf desk (rowsOf (now (held .entry)) kinds units) in
+        let cause = firstOf (roomCauses book trades terms) in
+        r ≡ numberOf cause) ⌝ }
 {
     let contract = terms.contract;
     if is_taken(table, desk.trades, contract) {
@@ -122,8 +137,17 @@ fn initial_refusal(
     outstanding: u64,
     terms: Terms,
 ) -> u8
-    requires { ⌜ (length (now held) ≡ 128) × (FitsHeld (now calendar) desk (now held) (tradesOf (now table))) × (length (now calendar) ≤ 1200) × (outstanding ≡ outstandingAt desk (tradesOf (now table))) ⌝ }
-    ensures { λ r. ⌜ ((kinds units : List ℕ) → r ≡ numberOf (firstOf (initialCauses (now (calendar .entry)) (bookOf desk (rowsOf (now (held .entry)) kinds units)) (tradesOf (now (table .entry))) terms))) ⌝ }
+    requires { let trades = tradesOf (now table) in
+        ⌜ (length (now held) ≡ 128)
+        × (FitsHeld (now calendar) desk (now held) trades)
+        × (length (now calendar) ≤ 1200)
+        × (outstanding ≡ outstandingAt desk trades) ⌝ }
+    ensures { λ r.
+        let trades = tradesOf (now (table .entry)) in
+        ⌜ ((kinds units : List ℕ) →
+        let book = bookOf desk (rowsOf (now (held .entry)) kinds units) in
+        let cause = firstOf (initialCauses (now (calendar .entry)) book trades terms) in
+        r ≡ numberOf cause) ⌝ }
 {
     let standing = desk.standing;
     if !standing::is_trading(standing) {
@@ -175,8 +199,18 @@ pub fn initial(
     outstanding: u64,
     terms: Terms,
 ) -> Done
-    requires { ⌜ (length (now held) ≡ 128) × (FitsHeld (now calendar) desk (now held) (tradesOf (now table))) × (length (now calendar) ≤ 1200) × (outstanding ≡ outstandingAt desk (tradesOf (now table))) ⌝ }
-    ensures { λ r. ⌜ ((kinds units : List ℕ) → (appliedAt r (rowsOf (now (held .entry)) kinds units) ≡ appliedBy (firstOf (initialCauses (now (calendar .entry)) (bookOf desk (rowsOf (now (held .entry)) kinds units)) (tradesOf (now (table .entry))) terms)) (bookOf desk (rowsOf (now (held .entry)) kinds units)) (initialBook (bookOf desk (rowsOf (now (held .entry)) kinds units)) terms)) × (tradesOf (now (table .exit)) ≡ tableBy (firstOf (initialCauses (now (calendar .entry)) (bookOf desk (rowsOf (now (held .entry)) kinds units)) (tradesOf (now (table .entry))) terms)) (tradesOf (now (table .entry))) (initialTable (now (calendar .entry)) (bookOf desk (rowsOf (now (held .entry)) kinds units)) (tradesOf (now (table .entry))) terms))) ⌝ }
+    requires { let trades = tradesOf (now table) in
+        ⌜ (length (now held) ≡ 128)
+        × (FitsHeld (now calendar) desk (now held) trades)
+        × (length (now calendar) ≤ 1200)
+        × (outstanding ≡ outstandingAt desk trades) ⌝ }
+    ensures { λ r.
+        let trades = tradesOf (now (table .entry)) in
+        ⌜ ((kinds units : List ℕ) →
+        let book = bookOf desk (rowsOf (now (held .entry)) kinds units) in
+        let cause = firstOf (initialCauses (now (calendar .entry)) book trades terms) in
+        (appliedAt r (rowsOf (now (held .entry)) kinds units) ≡ appliedBy cause book (initialBook book terms))
+        × (tradesOf (now (table .exit)) ≡ tableBy cause trades (initialTable (now (calendar .entry)) book trades terms))) ⌝ }
 {
     let refusal = initial_refusal(calendar, desk, held, &*table, outstanding, terms);
     if refusal != 0 {

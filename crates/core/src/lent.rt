@@ -60,7 +60,11 @@ fn fitness_in(
     units: &[u64],
     table: &[u64],
 ) -> Fitness
-    ensures { λ r. ⌜ (r .fit ≡ fitIn (now (calendar .entry)) (lent desk (now (held .entry)) (now (kinds .entry)) (now (units .entry)) (now (table .entry)))) × (r .fit ≡ true → r .outstanding ≡ outstandingAt desk (tradesOf (now (table .entry)))) ⌝ }
+    ensures { λ r.
+        let before = lent desk (now (held .entry)) (now (kinds .entry)) (now (units .entry)) (now (table .entry)) in
+        let trades = tradesOf (now (table .entry)) in
+        ⌜ (r .fit ≡ fitIn (now (calendar .entry)) before)
+        × (r .fit ≡ true → r .outstanding ≡ outstandingAt desk trades) ⌝ }
 {
     if !is_whole(desk, held, kinds, units, table) {
         return not_fit();
@@ -81,7 +85,11 @@ pub fn apply(
     table: &mut [u64],
     entry: Entry,
 ) -> Done
-    ensures { λ r. ⌜ (outcome (r .answer) (bookIn (lent (r .desk) (now (held .exit)) (now (kinds .exit)) (now (units .exit)) (now (table .exit)))) (tableIn (lent (r .desk) (now (held .exit)) (now (kinds .exit)) (now (units .exit)) (now (table .exit)))) ≡ stepIn (now (calendar .entry)) (lent desk (now (held .entry)) (now (kinds .entry)) (now (units .entry)) (now (table .entry))) entry) × (isWhole (lent desk (now (held .entry)) (now (kinds .entry)) (now (units .entry)) (now (table .entry))) ≡ false → lent (r .desk) (now (held .exit)) (now (kinds .exit)) (now (units .exit)) (now (table .exit)) ≡ lent desk (now (held .entry)) (now (kinds .entry)) (now (units .entry)) (now (table .entry))) ⌝ }
+    ensures { λ r.
+        let before = lent desk (now (held .entry)) (now (kinds .entry)) (now (units .entry)) (now (table .entry)) in
+        let after = lent (r .desk) (now (held .exit)) (now (kinds .exit)) (now (units .exit)) (now (table .exit)) in
+        ⌜ (outcome (r .answer) (bookIn after) (tableIn after) ≡ stepIn (now (calendar .entry)) before entry)
+        × (isWhole before ≡ false → after ≡ before) ⌝ }
 {
     let tested = fitness_in(calendar, desk, &*held, &*kinds, &*units, &*table);
     let fits = tested.fit;
@@ -109,7 +117,9 @@ pub fn cover(
     units: &[u64],
     table: &[u64],
 ) -> Cover
-    ensures { λ r. ⌜ r ≡ coverIn (now (calendar .entry)) (lent desk (now (held .entry)) (now (kinds .entry)) (now (units .entry)) (now (table .entry))) ⌝ }
+    ensures { λ r.
+        let before = lent desk (now (held .entry)) (now (kinds .entry)) (now (units .entry)) (now (table .entry)) in
+        ⌜ r ≡ coverIn (now (calendar .entry)) before ⌝ }
 {
     let tested = fitness_in(calendar, desk, held, kinds, units, table);
     let fits = tested.fit;
@@ -153,7 +163,12 @@ pub fn run(
     events: &[u8],
     lines: &mut [u64],
 ) -> Ended
-    ensures { λ r. ⌜ (record { ran = record { number = r .number; book = bookIn (lent (r .desk) (now (held .exit)) (now (kinds .exit)) (now (units .exit)) (now (table .exit))) }; table = tableIn (lent (r .desk) (now (held .exit)) (now (kinds .exit)) (now (units .exit)) (now (table .exit))); lines = now (lines .exit) } ≡ runIn (now (calendar .entry)) (lent desk (now (held .entry)) (now (kinds .entry)) (now (units .entry)) (now (table .entry))) (now (events .entry)) (now (lines .entry))) × (isWhole (lent desk (now (held .entry)) (now (kinds .entry)) (now (units .entry)) (now (table .entry))) ≡ false → lent (r .desk) (now (held .exit)) (now (kinds .exit)) (now (units .exit)) (now (table .exit)) ≡ lent desk (now (held .entry)) (now (kinds .entry)) (now (units .entry)) (now (table .entry))) ⌝ }
+    ensures { λ r.
+        let before = lent desk (now (held .entry)) (now (kinds .entry)) (now (units .entry)) (now (table .entry)) in
+        let after = lent (r .desk) (now (held .exit)) (now (kinds .exit)) (now (units .exit)) (now (table .exit)) in
+        ⌜ (record { ran = record { number = r .number; book = bookIn after }; table = tableIn after; lines = now (lines .exit) }
+        ≡ runIn (now (calendar .entry)) before (now (events .entry)) (now (lines .entry)))
+        × (isWhole before ≡ false → after ≡ before) ⌝ }
 {
     let tested = fitness_in(calendar, desk, &*held, &*kinds, &*units, &*table);
     let fits = tested.fit;
@@ -185,7 +200,9 @@ pub fn trade_at(table: &[u64], place: usize) -> Trade
 
 // A trade put at a place; nothing is written past the last.
 pub fn put_trade(table: &mut [u64], place: usize, trade: Trade)
-    ensures { λ _. ⌜ (tradesOf (now (table .exit)) ≡ set (tradesOf (now (table .entry))) place trade) × ((k : ℕ) → capacity (now (table .entry)) * 4 ≤ k → getD (now (table .exit)) k 0 ≡ getD (now (table .entry)) k 0) ⌝ }
+    ensures { λ _.
+        ⌜ (tradesOf (now (table .exit)) ≡ set (tradesOf (now (table .entry))) place trade)
+        × ((k : ℕ) → capacity (now (table .entry)) * 4 ≤ k → getD (now (table .exit)) k 0 ≡ getD (now (table .entry)) k 0) ⌝ }
 {
     if place < table.len() / 4 {
         flat::put_trade(table, place, trade);

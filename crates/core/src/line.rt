@@ -29,8 +29,20 @@ pub fn write_line(
     cash: Cash,
     guarantee: Guarantee,
 )
-    requires { ⌜ (at + 7 ≤ length (now lines)) × (natAbs (cover .headroom) ≤ 10000000000) × (guarantee .effective .0 + guarantee .arriving .0 ≤ 10000000000000000) ⌝ }
-    ensures { λ _. ⌜ now (lines .exit) ≡ sets (now (lines .entry)) at (number ∷ isNegative (cover .headroom) ∷ natAbs (cover .headroom) ∷ cover .outstanding .0 ∷ cash .own .0 ∷ cash .client .0 ∷ (guarantee .effective .0 + guarantee .arriving .0) ∷ []) ⌝ }
+    requires { ⌜ (at + 7 ≤ length (now lines))
+        × (natAbs (cover .headroom) ≤ 10000000000)
+        × (guarantee .effective .0 + guarantee .arriving .0 ≤ 10000000000000000) ⌝ }
+    ensures { λ _.
+        ⌜ now (lines .exit)
+        ≡ sets (now (lines .entry)) at
+        (number
+        ∷ isNegative (cover .headroom)
+        ∷ natAbs (cover .headroom)
+        ∷ cover .outstanding .0
+        ∷ cash .own .0
+        ∷ cash .client .0
+        ∷ (guarantee .effective .0 + guarantee .arriving .0)
+        ∷ []) ⌝ }
 {
     let negative = sign_of(cover.headroom);
     let size = nets::size_of(cover.headroom);

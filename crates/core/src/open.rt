@@ -101,8 +101,13 @@ fn turns_terminated(before: Standing, after: Standing) -> bool
 // Art. 72: every trade is redeemed whole at its fallback price on the day opened, into the cleared net.
 fn with_fallbacks(calendar: &[u32], desk: Desk, table: &[u64], after: Standing) -> Nets
     requires { ⌜ (Fits (now calendar) desk (tradesOf (now table))) × (length (now calendar) ≤ 1200) ⌝ }
-    requires { ⌜ (followed (now calendar) (following (now calendar) (desk .standing .day)) ≡ true) × (after ≡ openedStanding (now calendar) (desk .standing)) ⌝ }
-    ensures { λ r. ⌜ ((rows : Rows) → r ≡ record { today = desk .nets .today; cleared = netWithFallbacks (now (calendar .entry)) (bookOf desk rows) (tradesOf (now (table .entry))) }) ⌝ }
+    requires { ⌜ (followed (now calendar) (following (now calendar) (desk .standing .day)) ≡ true)
+        × (after ≡ openedStanding (now calendar) (desk .standing)) ⌝ }
+    ensures { λ r.
+        let trades = tradesOf (now (table .entry)) in
+        ⌜ ((rows : Rows) →
+        let book = bookOf desk rows in
+        r ≡ record { today = desk .nets .today; cleared = netWithFallbacks (now (calendar .entry)) book trades }) ⌝ }
 {
     let nets = desk.nets;
     let day = after.day;
@@ -114,9 +119,16 @@ fn with_fallbacks(calendar: &[u32], desk: Desk, table: &[u64], after: Standing) 
 // On turning terminated the table is emptied, unless the net would leave its limit.
 fn terminated(calendar: &[u32], desk: Desk, table: &mut [u64], after: Standing) -> Done
     requires { ⌜ (Fits (now calendar) desk (tradesOf (now table))) × (length (now calendar) ≤ 1200) ⌝ }
-    requires { ⌜ (followed (now calendar) (following (now calendar) (desk .standing .day)) ≡ true) × (after ≡ openedStanding (now calendar) (desk .standing)) ⌝ }
+    requires { ⌜ (followed (now calendar) (following (now calendar) (desk .standing .day)) ≡ true)
+        × (after ≡ openedStanding (now calendar) (desk .standing)) ⌝ }
     requires { ⌜ (isClosed (desk .standing .phase) ≡ true) × (turnsTerminated (desk .standing) ≡ true) ⌝ }
-    ensures { λ r. ⌜ ((rows : Rows) → (appliedAt r rows ≡ appliedBy (firstOf (openCauses (now (calendar .entry)) (bookOf desk rows) (tradesOf (now (table .entry))))) (bookOf desk rows) (openedBook (now (calendar .entry)) (bookOf desk rows) (tradesOf (now (table .entry))))) × (tradesOf (now (table .exit)) ≡ tableBy (firstOf (openCauses (now (calendar .entry)) (bookOf desk rows) (tradesOf (now (table .entry))))) (tradesOf (now (table .entry))) (openedTable (bookOf desk rows) (tradesOf (now (table .entry)))))) ⌝ }
+    ensures { λ r.
+        let trades = tradesOf (now (table .entry)) in
+        ⌜ ((rows : Rows) →
+        let book = bookOf desk rows in
+        let cause = firstOf (openCauses (now (calendar .entry)) book trades) in
+        (appliedAt r rows ≡ appliedBy cause book (openedBook (now (calendar .entry)) book trades))
+        × (tradesOf (now (table .exit)) ≡ tableBy cause trades (openedTable book trades))) ⌝ }
 {
     let nets = with_fallbacks(calendar, desk, &*table, after);
     if !nets::cleared_fit(nets) {
@@ -132,7 +144,13 @@ fn terminated(calendar: &[u32], desk: Desk, table: &mut [u64], after: Standing) 
 
 pub fn open(calendar: &[u32], desk: Desk, table: &mut [u64]) -> Done
     requires { ⌜ (Fits (now calendar) desk (tradesOf (now table))) × (length (now calendar) ≤ 1200) ⌝ }
-    ensures { λ r. ⌜ ((rows : Rows) → (appliedAt r rows ≡ appliedBy (firstOf (openCauses (now (calendar .entry)) (bookOf desk rows) (tradesOf (now (table .entry))))) (bookOf desk rows) (openedBook (now (calendar .entry)) (bookOf desk rows) (tradesOf (now (table .entry))))) × (tradesOf (now (table .exit)) ≡ tableBy (firstOf (openCauses (now (calendar .entry)) (bookOf desk rows) (tradesOf (now (table .entry))))) (tradesOf (now (table .entry))) (openedTable (bookOf desk rows) (tradesOf (now (table .entry)))))) ⌝ }
+    ensures { λ r.
+        let trades = tradesOf (now (table .entry)) in
+        ⌜ ((rows : Rows) →
+        let book = bookOf desk rows in
+        let cause = firstOf (openCauses (now (calendar .entry)) book trades) in
+        (appliedAt r rows ≡ appliedBy cause book (openedBook (now (calendar .entry)) book trades))
+        × (tradesOf (now (table .exit)) ≡ tableBy cause trades (openedTable book trades))) ⌝ }
 {
     let standing = desk.standing;
     if !standing::is_closed(standing) {

@@ -37,7 +37,9 @@ fn free(table: &mut [u64], place: usize)
 
 fn free_from(table: &mut [u64], from: usize, to: usize)
     requires { ⌜ (from ≤ to) × (to * 4 ≤ length (now table)) ⌝ }
-    ensures { λ _. ⌜ tradesOf (now (table .exit)) ≡ take from (tradesOf (now (table .entry))) ++ (replicate (to - from) noTrade ++ drop to (tradesOf (now (table .entry)))) ⌝ }
+    ensures { λ _.
+        let trades = tradesOf (now (table .entry)) in
+        ⌜ tradesOf (now (table .exit)) ≡ take from trades ++ (replicate (to - from) noTrade ++ drop to trades) ⌝ }
 {
     let mut i = from;
     while i < to {
@@ -49,7 +51,10 @@ fn free_from(table: &mut [u64], from: usize, to: usize)
 // The answer is how many trades are left.
 pub fn pack(table: &mut [u64], count: usize) -> usize
     requires { ⌜ count * 4 ≤ length (now table) ⌝ }
-    ensures { λ r. ⌜ (r ≡ length (remaining (tradesTo (now (table .entry)) count))) × (tradesOf (now (table .exit)) ≡ packed count (remaining (tradesTo (now (table .entry)) count)) (tradesOf (now (table .entry)))) ⌝ }
+    ensures { λ r.
+        let trades = tradesTo (now (table .entry)) count in
+        ⌜ (r ≡ length (remaining trades))
+        × (tradesOf (now (table .exit)) ≡ packed count (remaining trades) (tradesOf (now (table .entry)))) ⌝ }
 {
     let kept = gather(table, count);
     free_from(table, kept, count);

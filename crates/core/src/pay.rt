@@ -52,7 +52,9 @@ fn falls_short(nets: Nets, cash: Cash) -> bool
 
 // The net due moves from the payer's account to the other.
 fn cash_moved(nets: Nets, cash: Cash) -> Cash
-    requires { ⌜ (netFit (nets .cleared) ≡ true) × (natAbs (nets .cleared) ≤ payerHolds (nets .cleared) cash) × (cash .own .0 + cash .client .0 ≤ 10000000000000000) ⌝ }
+    requires { ⌜ (netFit (nets .cleared) ≡ true)
+        × (natAbs (nets .cleared) ≤ payerHolds (nets .cleared) cash)
+        × (cash .own .0 + cash .client .0 ≤ 10000000000000000) ⌝ }
     ensures { λ r. ⌜ r ≡ moved (nets .cleared) cash ⌝ }
 {
     let due = nets::net_due(nets);
@@ -105,7 +107,9 @@ fn unpaid(desk: Desk) -> Desk
 }
 
 fn paid(desk: Desk) -> Desk
-    requires { ⌜ (netFit (desk .nets .cleared) ≡ true) × (natAbs (desk .nets .cleared) ≤ payerHolds (desk .nets .cleared) (desk .cash)) × (desk .cash .own .0 + desk .cash .client .0 ≤ 10000000000000000) ⌝ }
+    requires { ⌜ (netFit (desk .nets .cleared) ≡ true)
+        × (natAbs (desk .nets .cleared) ≤ payerHolds (desk .nets .cleared) (desk .cash))
+        × (desk .cash .own .0 + desk .cash .client .0 ≤ 10000000000000000) ⌝ }
     ensures { λ r. ⌜ ((rows : Rows) → bookOf r rows ≡ paidBook false (bookOf desk rows)) ⌝ }
 {
     let nets = desk.nets;

@@ -27,7 +27,9 @@ fn units_of(held: &[u64], guarantee: Guarantee, kind: u8) -> u64
 
 fn pledge_refusal(desk: Desk, held: &[u64], kind: u8, units: u64) -> u8
     requires { ⌜ (length (now held) ≡ 128) × (securitiesFit (vaultOf (desk .guarantee) (securitiesOf (now held))) ≡ true) ⌝ }
-    ensures { λ r. ⌜ ((kinds amounts : List ℕ) → r ≡ numberOf (firstOf (pledgeCauses (bookOf desk (rowsOf (now (held .entry)) kinds amounts)) kind units))) ⌝ }
+    ensures { λ r.
+        ⌜ ((kinds amounts : List ℕ) →
+        r ≡ numberOf (firstOf (pledgeCauses (bookOf desk (rowsOf (now (held .entry)) kinds amounts)) kind units))) ⌝ }
 {
     if kind > 32 {
         return 3;
@@ -54,7 +56,9 @@ fn pledge_refusal(desk: Desk, held: &[u64], kind: u8, units: u64) -> u8
 
 fn put_arrived(held: &mut [u64], kind: u8, units: u64)
     requires { ⌜ (kind < 32) × (length (now held) ≡ 128) × (securityIn (now held) kind .arriving + units ≤ 1000000000000) ⌝ }
-    ensures { λ _. ⌜ securitiesOf (now (held .exit)) ≡ set (securitiesOf (now (held .entry))) kind (arrived units (securityIn (now (held .entry)) kind)) ⌝ }
+    ensures { λ _.
+        ⌜ securitiesOf (now (held .exit))
+        ≡ set (securitiesOf (now (held .entry))) kind (arrived units (securityIn (now (held .entry)) kind)) ⌝ }
 {
     let at = kind as usize;
     let mut security = held::security_at(&*held, at);
@@ -74,8 +78,14 @@ fn cash_arrived(guarantee: Guarantee, units: u64) -> Guarantee
 }
 
 pub fn pledge(desk: Desk, held: &mut [u64], kind: u8, units: u64) -> Done
-    requires { ⌜ (length (now held) ≡ 128) × (securitiesFit (vaultOf (desk .guarantee) (securitiesOf (now held))) ≡ true) × (cashFit (desk .cash) (desk .guarantee) ≡ true) ⌝ }
-    ensures { λ r. ⌜ ((kinds amounts : List ℕ) → appliedAt r (rowsOf (now (held .exit)) kinds amounts) ≡ appliedBy (firstOf (pledgeCauses (bookOf desk (rowsOf (now (held .entry)) kinds amounts)) kind units)) (bookOf desk (rowsOf (now (held .entry)) kinds amounts)) (pledged (bookOf desk (rowsOf (now (held .entry)) kinds amounts)) kind units)) ⌝ }
+    requires { ⌜ (length (now held) ≡ 128)
+        × (securitiesFit (vaultOf (desk .guarantee) (securitiesOf (now held))) ≡ true)
+        × (cashFit (desk .cash) (desk .guarantee) ≡ true) ⌝ }
+    ensures { λ r.
+        ⌜ ((kinds amounts : List ℕ) →
+        let book = bookOf desk (rowsOf (now (held .entry)) kinds amounts) in
+        let cause = firstOf (pledgeCauses book kind units) in
+        appliedAt r (rowsOf (now (held .exit)) kinds amounts) ≡ appliedBy cause book (pledged book kind units)) ⌝ }
 {
     let refusal = pledge_refusal(desk, &*held, kind, units);
     if refusal != 0 {

@@ -25,7 +25,11 @@ fn rate_refusal(kind: u8, rate: u64) -> u8
 
 pub fn set_rate(desk: Desk, held: &mut [u64], kind: u8, rate: u64) -> Done
     requires { ⌜ length (now held) ≡ 128 ⌝ }
-    ensures { λ r. ⌜ ((kinds units : List ℕ) → appliedAt r (rowsOf (now (held .exit)) kinds units) ≡ appliedBy (firstOf (rateCauses kind rate)) (bookOf desk (rowsOf (now (held .entry)) kinds units)) (rated (bookOf desk (rowsOf (now (held .entry)) kinds units)) kind rate)) ⌝ }
+    ensures { λ r.
+        let cause = firstOf (rateCauses kind rate) in
+        ⌜ ((kinds units : List ℕ) →
+        let book = bookOf desk (rowsOf (now (held .entry)) kinds units) in
+        appliedAt r (rowsOf (now (held .exit)) kinds units) ≡ appliedBy cause book (rated book kind rate)) ⌝ }
 {
     let refusal = rate_refusal(kind, rate);
     if refusal != 0 {

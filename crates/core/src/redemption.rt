@@ -43,7 +43,9 @@ fn maturing_at(table: &[u64], place: usize, today: u32) -> u64
 // "Trades due today or earlier are redeemed at their price."
 pub fn maturity_plan(table: &[u64], count: usize, today: u32, payment: u32) -> Plan
     requires { ⌜ Redeemable (now table) count payment ⌝ }
-    ensures { λ r. ⌜ r ≡ record { sheets = total (maturing today) (tradesTo (now (table .entry)) count); amount = total (maturityAmount today payment) (tradesTo (now (table .entry)) count) } ⌝ }
+    ensures { λ r.
+        let trades = tradesTo (now (table .entry)) count in
+        ⌜ r ≡ record { sheets = total (maturing today) trades; amount = total (maturityAmount today payment) trades } ⌝ }
 {
     let mut sheets = 0;
     let mut amount = 0;
@@ -82,7 +84,8 @@ pub fn fallback_total(table: &[u64], count: usize, payment: u32) -> u64
 
 fn redeem_one(table: &mut [u64], place: usize, by: u32)
     requires { ⌜ place * 4 + 3 < length (now table) ⌝ }
-    ensures { λ _. ⌜ tradesOf (now (table .exit)) ≡ set (tradesOf (now (table .entry))) place (matured by (tradeAt (now (table .entry)) place)) ⌝ }
+    ensures { λ _.
+        ⌜ tradesOf (now (table .exit)) ≡ set (tradesOf (now (table .entry))) place (matured by (tradeAt (now (table .entry)) place)) ⌝ }
 {
     let left = flat::sheets_at(table, place) - maturing_at(table, place, by);
     flat::put_sheets(table, place, left);
@@ -91,7 +94,9 @@ fn redeem_one(table: &mut [u64], place: usize, by: u32)
 // Of each trade in use that is due by then, nothing is left.
 pub fn redeem_due(table: &mut [u64], count: usize, by: u32)
     requires { ⌜ count * 4 ≤ length (now table) ⌝ }
-    ensures { λ _. ⌜ tradesOf (now (table .exit)) ≡ over count (map (matured by) (tradesTo (now (table .entry)) count)) (tradesOf (now (table .entry))) ⌝ }
+    ensures { λ _.
+        let trades = tradesOf (now (table .entry)) in
+        ⌜ tradesOf (now (table .exit)) ≡ over count (map (matured by) (tradesTo (now (table .entry)) count)) trades ⌝ }
 {
     let mut i = 0;
     while i < count {

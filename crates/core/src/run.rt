@@ -36,8 +36,22 @@ fn run_event(
     lines: &mut [u64],
     at: usize,
 ) -> Turn
-    requires { ⌜ (length (now held) ≡ 128) × (length (now kinds) ≡ 128) × (length (now units) ≡ 128) × (length (now calendar) ≤ 1200) × (fit (now calendar) (bookOf desk (rowsOf (now held) (now kinds) (now units))) (tradesOf (now table)) ≡ true) × (figures ≡ figuresAt desk (now held) (tradesOf (now table))) × (at + 7 ≤ length (now lines)) ⌝ }
-    ensures { λ r. ⌜ (bookOf (r .desk) (rowsOf (now (held .exit)) (now (kinds .exit)) (now (units .exit))) ≡ step (now (calendar .entry)) (bookOf desk (rowsOf (now (held .entry)) (now (kinds .entry)) (now (units .entry)))) (tradesOf (now (table .entry))) (decoded (now (bytes .entry))) .book) × (tradesOf (now (table .exit)) ≡ step (now (calendar .entry)) (bookOf desk (rowsOf (now (held .entry)) (now (kinds .entry)) (now (units .entry)))) (tradesOf (now (table .entry))) (decoded (now (bytes .entry))) .table) × (now (lines .exit) ≡ sets (now (lines .entry)) at (lineOf (step (now (calendar .entry)) (bookOf desk (rowsOf (now (held .entry)) (now (kinds .entry)) (now (units .entry)))) (tradesOf (now (table .entry))) (decoded (now (bytes .entry)))))) × (r .figures ≡ figuresAt (r .desk) (now (held .exit)) (tradesOf (now (table .exit)))) ⌝ }
+    requires { let trades = tradesOf (now table) in
+        ⌜ (length (now held) ≡ 128)
+        × (length (now kinds) ≡ 128)
+        × (length (now units) ≡ 128)
+        × (length (now calendar) ≤ 1200)
+        × (fit (now calendar) (bookOf desk (rowsOf (now held) (now kinds) (now units))) trades ≡ true)
+        × (figures ≡ figuresAt desk (now held) trades)
+        × (at + 7 ≤ length (now lines)) ⌝ }
+    ensures { λ r.
+        let book = bookOf desk (rowsOf (now (held .entry)) (now (kinds .entry)) (now (units .entry))) in
+        let trades = tradesOf (now (table .entry)) in
+        let next = step (now (calendar .entry)) book trades (decoded (now (bytes .entry))) in
+        ⌜ (bookOf (r .desk) (rowsOf (now (held .exit)) (now (kinds .exit)) (now (units .exit))) ≡ next .book)
+        × (tradesOf (now (table .exit)) ≡ next .table)
+        × (now (lines .exit) ≡ sets (now (lines .entry)) at (lineOf next))
+        × (r .figures ≡ figuresAt (r .desk) (now (held .exit)) (tradesOf (now (table .exit)))) ⌝ }
 {
     let entry = decoder::entry::decode(bytes);
     let done = dispatch::entry_on(
@@ -80,8 +94,19 @@ pub fn run_events(
     events: &[u8],
     lines: &mut [u64],
 ) -> Desk
-    requires { ⌜ (length (now held) ≡ 128) × (length (now kinds) ≡ 128) × (length (now units) ≡ 128) × (length (now calendar) ≤ 1200) × (fit (now calendar) (bookOf desk (rowsOf (now held) (now kinds) (now units))) (tradesOf (now table)) ≡ true) × (7 * (length (now events) / 40) ≤ length (now lines)) ⌝ }
-    ensures { λ r. ⌜ (bookOf r (rowsOf (now (held .exit)) (now (kinds .exit)) (now (units .exit))) ≡ runDone (now (calendar .entry)) (bookOf desk (rowsOf (now (held .entry)) (now (kinds .entry)) (now (units .entry)))) (tradesOf (now (table .entry))) (now (events .entry)) (now (lines .entry)) .ran .book) × (tradesOf (now (table .exit)) ≡ runDone (now (calendar .entry)) (bookOf desk (rowsOf (now (held .entry)) (now (kinds .entry)) (now (units .entry)))) (tradesOf (now (table .entry))) (now (events .entry)) (now (lines .entry)) .table) × (now (lines .exit) ≡ runDone (now (calendar .entry)) (bookOf desk (rowsOf (now (held .entry)) (now (kinds .entry)) (now (units .entry)))) (tradesOf (now (table .entry))) (now (events .entry)) (now (lines .entry)) .lines) ⌝ }
+    requires { ⌜ (length (now held) ≡ 128)
+        × (length (now kinds) ≡ 128)
+        × (length (now units) ≡ 128)
+        × (length (now calendar) ≤ 1200)
+        × (fit (now calendar) (bookOf desk (rowsOf (now held) (now kinds) (now units))) (tradesOf (now table)) ≡ true)
+        × (7 * (length (now events) / 40) ≤ length (now lines)) ⌝ }
+    ensures { λ r.
+        let book = bookOf desk (rowsOf (now (held .entry)) (now (kinds .entry)) (now (units .entry))) in
+        let trades = tradesOf (now (table .entry)) in
+        let ended = runDone (now (calendar .entry)) book trades (now (events .entry)) (now (lines .entry)) in
+        ⌜ (bookOf r (rowsOf (now (held .exit)) (now (kinds .exit)) (now (units .exit))) ≡ ended .ran .book)
+        × (tradesOf (now (table .exit)) ≡ ended .table)
+        × (now (lines .exit) ≡ ended .lines) ⌝ }
 {
     let count = events.len() / 40;
     let figures = figures::figures_of(calendar, desk, &*held, &*table);

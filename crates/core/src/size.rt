@@ -13,7 +13,9 @@ use desk::state::Desk;
 use money::units::Sheets;
 
 fn size_refusal(outstanding: u64, size: Sheets) -> u8
-    ensures { λ r. ⌜ ((book : Book) (table : List Trade) → outstanding ≡ outstandingOf book table → r ≡ numberOf (firstOf (sizeCauses book table size))) ⌝ }
+    ensures { λ r.
+        ⌜ ((book : Book) (table : List Trade) →
+        outstanding ≡ outstandingOf book table → r ≡ numberOf (firstOf (sizeCauses book table size))) ⌝ }
 {
     if size.0 > 10_000_000_000 {
         return 14;
@@ -25,7 +27,11 @@ fn size_refusal(outstanding: u64, size: Sheets) -> u8
 }
 
 pub fn set_size(desk: Desk, outstanding: u64, size: Sheets) -> Done
-    ensures { λ r. ⌜ ((rows : Rows) (table : List Trade) → outstanding ≡ outstandingAt desk table → appliedAt r rows ≡ appliedBy (firstOf (sizeCauses (bookOf desk rows) table size)) (bookOf desk rows) (sized (bookOf desk rows) size)) ⌝ }
+    ensures { λ r.
+        ⌜ ((rows : Rows) (table : List Trade) →
+        let book = bookOf desk rows in
+        outstanding ≡ outstandingAt desk table
+        → appliedAt r rows ≡ appliedBy (firstOf (sizeCauses book table size)) book (sized book size)) ⌝ }
 {
     let refusal = size_refusal(outstanding, size);
     if refusal != 0 {

@@ -88,7 +88,11 @@ fn sorted_differ(table: &[u64], count: usize) -> bool
 
 // By chains, which most contracts keep short; where they do not, sorted.
 fn chains_differ(table: &[u64], count: usize, buckets: usize, heads: &mut [u16]) -> bool
-    requires { ⌜ (count * 4 ≤ length (now table)) × (count ≤ 4096) × (0 < buckets) × (buckets ≤ 32749) × (now heads ≡ replicate buckets 0) ⌝ }
+    requires { ⌜ (count * 4 ≤ length (now table))
+        × (count ≤ 4096)
+        × (0 < buckets)
+        × (buckets ≤ 32749)
+        × (now heads ≡ replicate buckets 0) ⌝ }
     ensures { λ r. ⌜ r ≡ differ (tradesTo (now (table .entry)) count) ⌝ }
 {
     let mut next: [u16; 4096] = [0; 4096];

@@ -113,7 +113,10 @@ pub fn worth(kind: u8, effective: u64, frozen: u64, rate: u64) -> u64
 
 // V: the value of the 32 securities, and of the guarantee cash.
 pub fn value_of(held: &[u64], guarantee: Guarantee) -> u64
-    requires { ⌜ (length (now held) ≡ 128) × (securitiesFit (vaultOf guarantee (securitiesOf (now held))) ≡ true) × (guarantee .frozen .0 ≤ guarantee .effective .0) × (guarantee .effective .0 ≤ 10000000000000000) ⌝ }
+    requires { ⌜ (length (now held) ≡ 128)
+        × (securitiesFit (vaultOf guarantee (securitiesOf (now held))) ≡ true)
+        × (guarantee .frozen .0 ≤ guarantee .effective .0)
+        × (guarantee .effective .0 ≤ 10000000000000000) ⌝ }
     ensures { λ r. ⌜ r ≡ value (vaultOf guarantee (securitiesOf (now (held .entry)))) ⌝ }
 {
     let mut sum = 0;
@@ -155,7 +158,9 @@ pub fn frozen_of(held: &[u64], guarantee: Guarantee, kind: u8) -> u64
 
 // The units of a kind that stand applied for.
 pub fn applied_of(kinds: &[u8], units: &[u64], count: usize, kind: u8) -> u64
-    requires { ⌜ (length (now kinds) ≡ 128) × (length (now units) ≡ 128) × (withdrawalsFit (record { kinds = now kinds; units = now units; count = count }) ≡ true) ⌝ }
+    requires { ⌜ (length (now kinds) ≡ 128)
+        × (length (now units) ≡ 128)
+        × (withdrawalsFit (record { kinds = now kinds; units = now units; count = count }) ≡ true) ⌝ }
     ensures { λ r. ⌜ r ≡ applied (record { kinds = now (kinds .entry); units = now (units .entry); count = count }) kind ⌝ }
 {
     let mut sum = 0;

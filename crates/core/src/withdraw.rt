@@ -18,8 +18,13 @@ use desk::state::Desk;
 // Whether the units, with those frozen and applied for, are above the effective. The units are tested first: any number may be applied for, and the sum of the three is then below 2^64.
 fn lacks(desk: Desk, held: &[u64], kinds: &[u8], units: &[u64], kind: u8, amount: u64) -> bool
     requires { ⌜ (length (now held) ≡ 128) × (length (now kinds) ≡ 128) × (length (now units) ≡ 128) × (kind ≤ 32) ⌝ }
-    requires { ⌜ (withdrawalsFit (bookOf desk (rowsOf (now held) (now kinds) (now units)) .withdrawals) ≡ true) × (securitiesFit (bookOf desk (rowsOf (now held) (now kinds) (now units)) .vault) ≡ true) × (cashFit (desk .cash) (desk .guarantee) ≡ true) ⌝ }
-    ensures { λ r. ⌜ r ≡ ltb (effectiveOf (bookOf desk (rowsOf (now (held .entry)) (now (kinds .entry)) (now (units .entry))) .vault) kind) (amount + frozenOf (bookOf desk (rowsOf (now (held .entry)) (now (kinds .entry)) (now (units .entry))) .vault) kind + applied (bookOf desk (rowsOf (now (held .entry)) (now (kinds .entry)) (now (units .entry))) .withdrawals) kind) ⌝ }
+    requires { let book = bookOf desk (rowsOf (now held) (now kinds) (now units)) in
+        ⌜ (withdrawalsFit (book .withdrawals) ≡ true)
+        × (securitiesFit (book .vault) ≡ true)
+        × (cashFit (desk .cash) (desk .guarantee) ≡ true) ⌝ }
+    ensures { λ r.
+        let book = bookOf desk (rowsOf (now (held .entry)) (now (kinds .entry)) (now (units .entry))) in
+        ⌜ r ≡ ltb (effectiveOf (book .vault) kind) (amount + frozenOf (book .vault) kind + applied (book .withdrawals) kind) ⌝ }
 {
     let guarantee = desk.guarantee;
     let effective = vault::effective_of(held, guarantee, kind);
@@ -39,8 +44,14 @@ fn withdraw_refusal(
     amount: u64,
 ) -> u8
     requires { ⌜ (length (now held) ≡ 128) × (length (now kinds) ≡ 128) × (length (now units) ≡ 128) ⌝ }
-    requires { ⌜ (withdrawalsFit (bookOf desk (rowsOf (now held) (now kinds) (now units)) .withdrawals) ≡ true) × (securitiesFit (bookOf desk (rowsOf (now held) (now kinds) (now units)) .vault) ≡ true) × (cashFit (desk .cash) (desk .guarantee) ≡ true) ⌝ }
-    ensures { λ r. ⌜ r ≡ numberOf (firstOf (withdrawCauses (bookOf desk (rowsOf (now (held .entry)) (now (kinds .entry)) (now (units .entry)))) kind amount)) ⌝ }
+    requires { let book = bookOf desk (rowsOf (now held) (now kinds) (now units)) in
+        ⌜ (withdrawalsFit (book .withdrawals) ≡ true)
+        × (securitiesFit (book .vault) ≡ true)
+        × (cashFit (desk .cash) (desk .guarantee) ≡ true) ⌝ }
+    ensures { λ r.
+        let book = bookOf desk (rowsOf (now (held .entry)) (now (kinds .entry)) (now (units .entry))) in
+        let cause = firstOf (withdrawCauses book kind amount) in
+        ⌜ r ≡ numberOf cause ⌝ }
 {
     if kind > 32 {
         return 3;
@@ -73,8 +84,14 @@ pub fn withdraw(
     amount: u64,
 ) -> Done
     requires { ⌜ (length (now held) ≡ 128) × (length (now kinds) ≡ 128) × (length (now units) ≡ 128) ⌝ }
-    requires { ⌜ (withdrawalsFit (bookOf desk (rowsOf (now held) (now kinds) (now units)) .withdrawals) ≡ true) × (securitiesFit (bookOf desk (rowsOf (now held) (now kinds) (now units)) .vault) ≡ true) × (cashFit (desk .cash) (desk .guarantee) ≡ true) ⌝ }
-    ensures { λ r. ⌜ appliedAt r (rowsOf (now (held .entry)) (now (kinds .exit)) (now (units .exit))) ≡ appliedBy (firstOf (withdrawCauses (bookOf desk (rowsOf (now (held .entry)) (now (kinds .entry)) (now (units .entry)))) kind amount)) (bookOf desk (rowsOf (now (held .entry)) (now (kinds .entry)) (now (units .entry)))) (withdrawn (bookOf desk (rowsOf (now (held .entry)) (now (kinds .entry)) (now (units .entry)))) kind amount) ⌝ }
+    requires { let book = bookOf desk (rowsOf (now held) (now kinds) (now units)) in
+        ⌜ (withdrawalsFit (book .withdrawals) ≡ true)
+        × (securitiesFit (book .vault) ≡ true)
+        × (cashFit (desk .cash) (desk .guarantee) ≡ true) ⌝ }
+    ensures { λ r.
+        let book = bookOf desk (rowsOf (now (held .entry)) (now (kinds .entry)) (now (units .entry))) in
+        ⌜ appliedAt r (rowsOf (now (held .entry)) (now (kinds .exit)) (now (units .exit)))
+        ≡ appliedBy (firstOf (withdrawCauses book kind amount)) book (withdrawn book kind amount) ⌝ }
 {
     let refusal = withdraw_refusal(desk, held, &*kinds, &*units, kind, amount);
     if refusal != 0 {

@@ -107,7 +107,11 @@ fn code_only(fields: Fields, event: Event) -> Entry
 
 // The account stands where other events have a kind: one event for each of the two.
 fn on_account(fields: Fields, own: Event, client: Event) -> Entry
-    ensures { λ r. ⌜ ((event : Account → Event) → own ≡ event Account.Own → client ≡ event Account.Client → r ≡ onAccount (fields .kind) event (restOf fields)) ⌝ }
+    ensures { λ r.
+        ⌜ ((event : Account → Event) →
+        own ≡ event Account.Own
+        → client ≡ event Account.Client
+        → r ≡ onAccount (fields .kind) event (restOf fields)) ⌝ }
 {
     let account = fields.kind;
     match account {
@@ -140,7 +144,9 @@ fn initial(fields: Fields) -> Entry
 }
 
 fn early(fields: Fields) -> Entry
-    ensures { λ r. ⌜ r ≡ unless (Event.Early (record { 0 = fields .contract }) (sheets (fields .amount)) (ticks (fields .price))) (fields .kind ∷ fields .spare ∷ fields .fallback ∷ fields .due ∷ fields .last ∷ []) ⌝ }
+    ensures { λ r.
+        ⌜ r ≡ unless (Event.Early (record { 0 = fields .contract }) (sheets (fields .amount)) (ticks (fields .price)))
+        (fields .kind ∷ fields .spare ∷ fields .fallback ∷ fields .due ∷ fields .last ∷ []) ⌝ }
 {
     if fields.kind != 0 {
         return Entry::Undecodable;

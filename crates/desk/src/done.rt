@@ -28,7 +28,8 @@ pub fn answered(number: u8, desk: Desk) -> Done
 
 // An accepted Close carries the sheets matured and the applications done and dropped.
 pub fn of_close(matured: u64, done: u32, dropped: u32, desk: Desk) -> Done
-    ensures { λ r. ⌜ r ≡ record { answer = record { number = 0; matured = sheets matured; done = done; dropped = dropped }; desk = desk } ⌝ }
+    ensures { λ r.
+        ⌜ r ≡ record { answer = record { number = 0; matured = sheets matured; done = done; dropped = dropped }; desk = desk } ⌝ }
 {
     Done {
         answer: Answer {

@@ -21,7 +21,12 @@ pub extern "C" fn book_apply(
     table: &mut [Trade],
     event: &[u8],
 ) -> Answer
-    ensures { λ r. ⌜ (r ≡ step (now (calendar .entry)) (bookOn (now (page .entry))) (now (table .entry)) (decoded (now (event .entry))) .answer) × (now (page .exit) ≡ pageOf (step (now (calendar .entry)) (bookOn (now (page .entry))) (now (table .entry)) (decoded (now (event .entry))) .book)) × (now (table .exit) ≡ step (now (calendar .entry)) (bookOn (now (page .entry))) (now (table .entry)) (decoded (now (event .entry))) .table) ⌝ }
+    ensures { λ r.
+        let book = bookOn (now (page .entry)) in
+        let next = step (now (calendar .entry)) book (now (table .entry)) (decoded (now (event .entry))) in
+        ⌜ (r ≡ next .answer)
+        × (now (page .exit) ≡ pageOf (next .book))
+        × (now (table .exit) ≡ next .table) ⌝ }
 {
     let book = page::book_on(*page);
     let entry = decoder::entry::decode(event);
@@ -39,7 +44,13 @@ pub extern "C" fn book_run(
     events: &[u8],
     lines: &mut [u64],
 ) -> u8
-    ensures { λ r. ⌜ (r ≡ runOutcome (now (calendar .entry)) (bookOn (now (page .entry))) (now (table .entry)) (now (events .entry)) (now (lines .entry)) .ran .number) × (now (page .exit) ≡ pageOf (runOutcome (now (calendar .entry)) (bookOn (now (page .entry))) (now (table .entry)) (now (events .entry)) (now (lines .entry)) .ran .book)) × (now (table .exit) ≡ runOutcome (now (calendar .entry)) (bookOn (now (page .entry))) (now (table .entry)) (now (events .entry)) (now (lines .entry)) .table) × (now (lines .exit) ≡ runOutcome (now (calendar .entry)) (bookOn (now (page .entry))) (now (table .entry)) (now (events .entry)) (now (lines .entry)) .lines) ⌝ }
+    ensures { λ r.
+        let book = bookOn (now (page .entry)) in
+        let ended = runOutcome (now (calendar .entry)) book (now (table .entry)) (now (events .entry)) (now (lines .entry)) in
+        ⌜ (r ≡ ended .ran .number)
+        × (now (page .exit) ≡ pageOf (ended .ran .book))
+        × (now (table .exit) ≡ ended .table)
+        × (now (lines .exit) ≡ ended .lines) ⌝ }
 {
     let book = page::book_on(*page);
     let ran = book::table::run(calendar, book, table, events, lines);
@@ -59,7 +70,10 @@ pub extern "C" fn book_cover(calendar: &[u32], page: &Page, table: &[Trade]) -> 
 // The run of a journal's events on a fresh book, seven numbers an event.
 #[no_mangle]
 pub extern "C" fn book_run_listing(calendar: &[u32], events: &[u8], lines: &mut [u64]) -> u8
-    ensures { λ r. ⌜ (r ≡ numberOf (firstOf (listingCauses (length (now (calendar .entry))) (length (now (events .entry))) (length (now (lines .entry)))))) × (now (lines .exit) ≡ writtenBy (firstOf (listingCauses (length (now (calendar .entry))) (length (now (events .entry))) (length (now (lines .entry))))) (listingOf (now (calendar .entry)) (now (events .entry))) (now (lines .entry))) ⌝ }
+    ensures { λ r.
+        let cause = firstOf (listingCauses (length (now (calendar .entry))) (length (now (events .entry))) (length (now (lines .entry)))) in
+        ⌜ (r ≡ numberOf cause)
+        × (now (lines .exit) ≡ writtenBy cause (listingOf (now (calendar .entry)) (now (events .entry))) (now (lines .entry))) ⌝ }
 {
     book::listing::run_listing(calendar, events, lines)
 }

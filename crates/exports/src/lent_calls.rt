@@ -22,7 +22,12 @@ pub extern "C" fn lent_apply(
     table: &mut [u64],
     event: &[u8],
 ) -> Left
-    ensures { λ r. ⌜ (outcome (r .answer) (bookIn (lent (deskOn (r .slate)) (now (held .exit)) (now (kinds .exit)) (now (units .exit)) (now (table .exit)))) (tableIn (lent (deskOn (r .slate)) (now (held .exit)) (now (kinds .exit)) (now (units .exit)) (now (table .exit)))) ≡ stepIn (now (calendar .entry)) (lent (deskOn slate) (now (held .entry)) (now (kinds .entry)) (now (units .entry)) (now (table .entry))) (decoded (now (event .entry)))) × (r .slate ≡ slateOf (deskOn (r .slate))) × (isWhole (lent (deskOn slate) (now (held .entry)) (now (kinds .entry)) (now (units .entry)) (now (table .entry))) ≡ false → lent (deskOn (r .slate)) (now (held .exit)) (now (kinds .exit)) (now (units .exit)) (now (table .exit)) ≡ lent (deskOn slate) (now (held .entry)) (now (kinds .entry)) (now (units .entry)) (now (table .entry))) ⌝ }
+    ensures { λ r.
+        let before = lent (deskOn slate) (now (held .entry)) (now (kinds .entry)) (now (units .entry)) (now (table .entry)) in
+        let after = lent (deskOn (r .slate)) (now (held .exit)) (now (kinds .exit)) (now (units .exit)) (now (table .exit)) in
+        ⌜ (outcome (r .answer) (bookIn after) (tableIn after) ≡ stepIn (now (calendar .entry)) before (decoded (now (event .entry))))
+        × (r .slate ≡ slateOf (deskOn (r .slate)))
+        × (isWhole before ≡ false → after ≡ before) ⌝ }
 {
     let desk = slate::desk_on(slate);
     let entry = decoder::entry::decode(event);
@@ -40,7 +45,9 @@ pub extern "C" fn lent_cover(
     units: &[u64],
     table: &[u64],
 ) -> Cover
-    ensures { λ r. ⌜ r ≡ coverIn (now (calendar .entry)) (lent (deskOn slate) (now (held .entry)) (now (kinds .entry)) (now (units .entry)) (now (table .entry))) ⌝ }
+    ensures { λ r.
+        let before = lent (deskOn slate) (now (held .entry)) (now (kinds .entry)) (now (units .entry)) (now (table .entry)) in
+        ⌜ r ≡ coverIn (now (calendar .entry)) before ⌝ }
 {
     core::lent::cover(calendar, slate::desk_on(slate), held, kinds, units, table)
 }
@@ -57,7 +64,13 @@ pub extern "C" fn lent_run(
     events: &[u8],
     lines: &mut [u64],
 ) -> RunLeft
-    ensures { λ r. ⌜ (record { ran = record { number = r .number; book = bookIn (lent (deskOn (r .slate)) (now (held .exit)) (now (kinds .exit)) (now (units .exit)) (now (table .exit))) }; table = tableIn (lent (deskOn (r .slate)) (now (held .exit)) (now (kinds .exit)) (now (units .exit)) (now (table .exit))); lines = now (lines .exit) } ≡ runIn (now (calendar .entry)) (lent (deskOn slate) (now (held .entry)) (now (kinds .entry)) (now (units .entry)) (now (table .entry))) (now (events .entry)) (now (lines .entry))) × (r .slate ≡ slateOf (deskOn (r .slate))) × (isWhole (lent (deskOn slate) (now (held .entry)) (now (kinds .entry)) (now (units .entry)) (now (table .entry))) ≡ false → lent (deskOn (r .slate)) (now (held .exit)) (now (kinds .exit)) (now (units .exit)) (now (table .exit)) ≡ lent (deskOn slate) (now (held .entry)) (now (kinds .entry)) (now (units .entry)) (now (table .entry))) ⌝ }
+    ensures { λ r.
+        let before = lent (deskOn slate) (now (held .entry)) (now (kinds .entry)) (now (units .entry)) (now (table .entry)) in
+        let after = lent (deskOn (r .slate)) (now (held .exit)) (now (kinds .exit)) (now (units .exit)) (now (table .exit)) in
+        ⌜ (record { ran = record { number = r .number; book = bookIn after }; table = tableIn after; lines = now (lines .exit) }
+        ≡ runIn (now (calendar .entry)) before (now (events .entry)) (now (lines .entry)))
+        × (r .slate ≡ slateOf (deskOn (r .slate)))
+        × (isWhole before ≡ false → after ≡ before) ⌝ }
 {
     let desk = slate::desk_on(slate);
     let ended = core::lent::run(calendar, desk, held, kinds, units, table, events, lines);

@@ -46,7 +46,10 @@ fn put_lines(text: &mut [u8], lines: &[u64], count: usize)
 // The lines of `count` events, where the text has room for all of them.
 fn write_lines(text: &mut [u8], lines: &[u64], count: usize) -> Written
     requires { ⌜ (count ≤ 1500) × (count * 7 ≤ length (now lines)) ⌝ }
-    ensures { λ r. ⌜ (r ≡ answerOf (linesText count (now (lines .entry))) (now (text .entry))) × (now (text .exit) ≡ textAfter (linesText count (now (lines .entry))) (now (text .entry))) ⌝ }
+    ensures { λ r.
+        let written = linesText count (now (lines .entry)) in
+        ⌜ (r ≡ answerOf written (now (text .entry)))
+        × (now (text .exit) ≡ textAfter written (now (text .entry))) ⌝ }
 {
     let length = lines_length(lines, count);
     if text.len() < length {
@@ -62,7 +65,10 @@ fn write_lines(text: &mut [u8], lines: &[u64], count: usize) -> Written
 // The lines of some events' bytes, run on a fresh book.
 fn write_run(calendar: &[u32], events: &[u8], text: &mut [u8]) -> Written
     requires { ⌜ (length (now calendar) ≤ 1200) × (length (now events) % 40 ≡ 0) × (length (now events) / 40 ≤ 1500) ⌝ }
-    ensures { λ r. ⌜ (r ≡ answerOf (linesText (length (now (events .entry)) / 40) (listingOf (now (calendar .entry)) (now (events .entry)))) (now (text .entry))) × (now (text .exit) ≡ textAfter (linesText (length (now (events .entry)) / 40) (listingOf (now (calendar .entry)) (now (events .entry)))) (now (text .entry))) ⌝ }
+    ensures { λ r.
+        let written = linesText (length (now (events .entry)) / 40) (listingOf (now (calendar .entry)) (now (events .entry))) in
+        ⌜ (r ≡ answerOf written (now (text .entry)))
+        × (now (text .exit) ≡ textAfter written (now (text .entry))) ⌝ }
 {
     let mut lines = [0; 10500];
     book::listing::run_listing(calendar, events, &mut lines);
@@ -85,7 +91,10 @@ fn write_refused(text: &mut [u8]) -> Written
 
 // The listing of any bytes, in front of a lent text.
 pub fn write_listing(journal: &[u8], text: &mut [u8]) -> Written
-    ensures { λ r. ⌜ (r ≡ answerOf (listingText (now (journal .entry))) (now (text .entry))) × (now (text .exit) ≡ textAfter (listingText (now (journal .entry))) (now (text .entry))) ⌝ }
+    ensures { λ r.
+        let written = listingText (now (journal .entry)) in
+        ⌜ (r ≡ answerOf written (now (text .entry)))
+        × (now (text .exit) ≡ textAfter written (now (text .entry))) ⌝ }
 {
     let Sections::Both(words, events) = sections::sections_of(journal) else {
         return write_refused(text);

@@ -45,7 +45,9 @@ fn put_spaced(text: &mut [u8], at: usize, number: u64) -> usize
 // A headroom: its sign, 0 where there is none, and its size.
 fn put_signed(text: &mut [u8], at: usize, negative: u64, size: u64) -> usize
     requires { ⌜ at + length (signed negative size) ≤ length (now text) ⌝ }
-    ensures { λ r. ⌜ (r ≡ at + length (signed negative size)) × (now (text .exit) ≡ placed (now (text .entry)) at (signed negative size)) ⌝ }
+    ensures { λ r.
+        ⌜ (r ≡ at + length (signed negative size))
+        × (now (text .exit) ≡ placed (now (text .entry)) at (signed negative size)) ⌝ }
 {
     if negative == 0 {
         return put_spaced(text, at, size);
