@@ -3,14 +3,18 @@
 
 Changes one thing in a definition of crates/CRATE/specs (a constant, a comparison, a sign, a connective, a field, an order),
 checks the crate with `rt dev`, and puts the file back. Works in a copy of the repository, FOLDER, and never in the repository
-itself. A wrong rule that the crate still proves is a survivor: `mutate.py CRATE FOLDER --on UPPER LIST` tries those of a saved
-list against a crate above. NUMBER/OF takes every OF-th, from NUMBER on, so that two copies can share the work.
+itself. NUMBER/OF takes every OF-th, from NUMBER on, so that two copies can share the work.
+
+A wrong rule that the crate still proves is a survivor. `mutate.py CRATE FOLDER --on UPPER LIST` tries those of a saved list
+against a crate above. Where that takes minutes, `mutate.py CRATE FOLDER --together UPPER ROUNDS` makes all changes of a line of
+ROUNDS at once, labels with `;;` between them, and tells which functions and laws then fail: choose changes for a line that no
+function has to do with two of.
 """
 import os, re, subprocess, sys
 
 SWAPS = [
     ("ltb", "leb"), ("leb", "ltb"), ("eqb", "leb"),
-    ("_&&_", None), ("&&", "||"), ("||", "&&"),
+    ("&&", "||"), ("||", "&&"),
     ("+ℤ", "-ℤ"), ("-ℤ", "+ℤ"), ("+", "-"), ("-", "+"), ("*", "+"), ("/", "*"), ("%", "/"), ("min", "max"), ("max", "min"),
     ("true", "false"), ("false", "true"),
     ("Normal", "Suspended"), ("Suspended", "Terminated"), ("Terminated", "Normal"),
@@ -49,8 +53,6 @@ def mutants(path):
             at = start + m.start()
             yield n, at, m.group(), str(int(m.group()) + 1)
         for old, new in SWAPS:
-            if new is None:
-                continue
             pattern = r"%s(?!\w)" % re.escape(old) if old.startswith(".") else (EDGE % re.escape(old) if re.match(r"\w", old) else r"(?<= )%s(?= )" % re.escape(old))
             for m in re.finditer(pattern, text[start:]):
                 yield n, start + m.start(), old, new
@@ -62,36 +64,50 @@ def mutants(path):
             yield n, -1, "order", "order"
 
 
-def changed(text, mutant):
-    n, at, old, new = mutant
+def with_use(lines, home, name):
+    """The lines with a name of a library in scope."""
+    for i, line in enumerate(lines):
+        if line.startswith("use %s.{" % home):
+            names = [x.strip() for x in line[line.index("{") + 1:line.rindex("}")].split(",")]
+            if name not in names:
+                lines[i] = line[:line.rindex("}")] + ", " + name + "}"
+            return
+    lines.insert(next(i for i, line in enumerate(lines) if line.startswith("use ")), "use %s.{%s}" % (home, name))
+
+
+def changed(text, changes):
     lines = text.split("\n")
-    if at < 0:
-        lines[n], lines[n + 1] = lines[n + 1], lines[n]
-        return "\n".join(lines)
-    lines[n] = lines[n][:at] + new + lines[n][at + len(old):]
-    home = HOMES.get(new)
-    name = new if re.match(r"\w", new) else "_%s_" % new
-    if home:
-        for i, line in enumerate(lines):
-            if line.startswith("use %s.{" % home):
-                names = [x.strip() for x in line[line.index("{") + 1:line.rindex("}")].split(",")]
-                if name not in names:
-                    lines[i] = line[:line.rindex("}")] + ", " + name + "}"
-                break
+    for n, at, old, new in sorted(changes, key=lambda m: (m[0], -m[1])):
+        if at < 0:
+            lines[n], lines[n + 1] = lines[n + 1], lines[n]
         else:
-            first = next(i for i, line in enumerate(lines) if line.startswith("use "))
-            lines.insert(first, "use %s.{%s}" % (home, name))
+            lines[n] = lines[n][:at] + new + lines[n][at + len(old):]
+    for n, at, old, new in changes:
+        if new in HOMES:
+            with_use(lines, HOMES[new], new if re.match(r"\w", new) else "_%s_" % new)
     return "\n".join(lines)
 
 
-def verdict(folder, crate):
+def check(folder, crate):
     done = subprocess.run(["rt", "dev", crate], cwd=folder, capture_output=True, text=True, errors="replace")
-    said = done.stdout + done.stderr
-    if done.returncode == 0:
+    return done.returncode, done.stdout + done.stderr
+
+
+def verdict(folder, crate):
+    code, said = check(folder, crate)
+    if code == 0:
         return "survived"
     if re.search(r"specs/\S+\.antt:\d+:\d+: (error|unsolved)", said) or "logic=not-proved" not in said:
         return "ill-formed"
     return "refused"
+
+
+def unproved(folder, crate):
+    """The functions that are not proved for a reason of their own, and the files in which something fails."""
+    code, said = check(folder, crate)
+    functions = re.findall(r"^fn (\S+): (?:not proved|no proof)(?!.*it calls)", said, re.M)
+    files = sorted(set(re.findall(r"crates/(\w+/proofs/\S+\.antt):\d+:\d+: error", said)))
+    return " ".join(functions or ["none"]) + "\t" + " ".join(files)
 
 
 def label(name, mutant):
@@ -99,30 +115,42 @@ def label(name, mutant):
     return "%s:%d:%d %s -> %s" % (name, n + 1, at + 1, old, new.strip() or "nothing")
 
 
+def tried(folder, found, labels, judge):
+    """Makes the labelled changes at once, asks the judge, and puts the files back."""
+    paths = {}
+    for text in labels:
+        path, mutant = found[text]
+        paths.setdefault(path, []).append(mutant)
+    before = {path: open(path, encoding="utf-8").read() for path in paths}
+    for path, changes in paths.items():
+        open(path, "w", encoding="utf-8").write(changed(before[path], changes))
+    try:
+        return judge()
+    finally:
+        for path, text in before.items():
+            open(path, "w", encoding="utf-8").write(text)
+
+
 def main():
     crate, folder = sys.argv[1:3]
-    upper, listed, part, of = None, None, 0, 1
-    if len(sys.argv) > 3 and sys.argv[3] == "--on":
-        upper = sys.argv[4]
-        listed = {line.split("\t")[1].strip() for line in open(sys.argv[5], encoding="utf-8") if line.startswith("survived")}
-    elif len(sys.argv) > 3:
-        part, of = (int(x) for x in sys.argv[3].split("/"))
     specs = os.path.join(folder, "crates", crate, "specs")
-    tried = 0
-    for name in sorted(os.listdir(specs)):
-        path = os.path.join(specs, name)
-        if name == "Lib.antt":
-            continue
-        text = open(path, encoding="utf-8").read()
-        for mutant in mutants(path):
-            tried += 1
-            if (listed is not None and label(name, mutant) not in listed) or tried % of != part:
-                continue
-            open(path, "w", encoding="utf-8").write(changed(text, mutant))
-            try:
-                print("%s\t%s" % (verdict(folder, upper or crate), label(name, mutant)), flush=True)
-            finally:
-                open(path, "w", encoding="utf-8").write(text)
+    names = [name for name in sorted(os.listdir(specs)) if name != "Lib.antt"]
+    found = {label(name, m): (os.path.join(specs, name), m) for name in names for m in mutants(os.path.join(specs, name))}
+    way = sys.argv[3] if len(sys.argv) > 3 else "0/1"
+    if way == "--together":
+        for line in open(sys.argv[5], encoding="utf-8"):
+            labels = [text.strip() for text in line.split(";;")]
+            print("%s\t%s" % (tried(folder, found, labels, lambda: unproved(folder, sys.argv[4])), " ;; ".join(labels)), flush=True)
+        return
+    if way == "--on":
+        upper = sys.argv[4]
+        labels = [line.split("\t")[1].strip() for line in open(sys.argv[5], encoding="utf-8") if line.startswith("survived")]
+    else:
+        upper = crate
+        part, of = (int(x) for x in way.split("/"))
+        labels = [text for i, text in enumerate(found) if i % of == part]
+    for text in labels:
+        print("%s\t%s" % (tried(folder, found, [text], lambda: verdict(folder, upper)), text), flush=True)
 
 
 main()
