@@ -1,4 +1,5 @@
--- The evening: securities that arrive one after another, an application's test by its parts, one kind looked at and written back, what each application keeps, and headroom's tests.
+-- The evening: securities that arrive one after another, an application's test by its parts, one kind looked at and written back, and what
+-- each application keeps.
 -- Assumes nothing.
 use mathlib.Core.Path.{_≡_, refl, sym, ap, _∙_}
 use mathlib.Core.Bool.{Bool, true, false, cond, _&&_}

@@ -24,7 +24,7 @@ use Rattle.rules.specs.Freeze.{frozen}
 use Rattle.rules.specs.Withdraw.{withdrawn}
 use Rattle.rules.specs.Initial.{initialCauses, begun, initialBook, initialTable}
 use Rattle.rules.specs.Early.{earlyCauses, earlyBook, earlyTable}
-use Rattle.rules.specs.Pay.{fails, paidBook}
+use Rattle.rules.specs.Pay.{fails, afterPay}
 use Rattle.rules.specs.Close.{closeAnswer}
 use Rattle.rules.specs.Step.{eventCauses, entryCauses, causes, act, actOn, refuseOr, step, accepted}
 use Rattle.rules.specs.Cover.{counted}
@@ -70,7 +70,7 @@ module _ (calendar : Calendar) (book : Book) (table : List Trade) (fits : fit ca
   -- an event that is done; only a payment that fails has another number than 0
   done-moves : (event : Event) → firstOf (eventCauses calendar book table event) ≡ none
       → MovedBy (Known event) (act calendar book table event .answer .number) (figuresOf book table) (figuresOf (act calendar book table event .book) (act calendar book table event .table))
-  unfolding eventCauses act openedBook fundedIn fundedOut sized rated pledged frozen withdrawn initialBook earlyBook paidBook closeAnswer
+  unfolding eventCauses act openedBook fundedIn fundedOut sized rated pledged frozen withdrawn initialBook earlyBook afterPay closeAnswer
   done-moves Open e = (never, λ _. refl)
   done-moves (FundIn account amount) e = (never, λ _. refl)
   done-moves (FundOut account amount) e = (never, λ _. refl)
@@ -83,7 +83,7 @@ module _ (calendar : Calendar) (book : Book) (table : List Trade) (fits : fit ca
   done-moves (Early contract count price) e = (never, λ _. (early-takes contract count price e, refl))
   done-moves Pay e = (λ _. paid (fails book), λ _. paid (fails book))
     where
-      paid : (b : Bool) → figuresOf (paidBook b book) table ≡ figuresOf book table
+      paid : (b : Bool) → figuresOf (afterPay b book) table ≡ figuresOf book table
       paid true = refl
       paid false = refl
   done-moves Close e = (never, λ _. tt)

@@ -13,17 +13,17 @@ use lib.Seq.{sets}
 use lib.Signed.{ltZ}
 use Rattle.rules.specs.Step.{Outcome}
 use Rattle.rules.specs.Cover.{counted}
-use Rattle.rules.specs.Listing.{isNegative, lineOf}
+use Rattle.rules.specs.Listing.{signOf, lineOf}
 use Rattle.core.specs.Types.{Trade, Applied, Cover}
 use Rattle.core.specs.Flat.{appliedOf}
 
 -- ---- headroom's sign and size
 
-pub signed-below : (z : ℤ) → ltZ z (pos 0) ≡ true → 1 ≡ isNegative z
+pub signed-below : (z : ℤ) → ltZ z (pos 0) ≡ true → 1 ≡ signOf z
 signed-below (pos n) h = absurd (omega (arith, ltb-true n 0 h))
 signed-below (negsuc n) h = refl
 
-pub unsigned-from : (z : ℤ) → ltZ z (pos 0) ≡ false → 0 ≡ isNegative z
+pub unsigned-from : (z : ℤ) → ltZ z (pos 0) ≡ false → 0 ≡ signOf z
 unsigned-from (pos n) h = refl
 unsigned-from (negsuc n) h = absurd (false≢true (sym h))
 
@@ -44,6 +44,6 @@ seven-in-a-row l at a b c d e f g =
 
 -- its line, from what the code has of it
 pub line-told : (left : Outcome) (applied : Applied) (table : List Trade) {cover : Cover} → applied ≡ appliedOf left → table ≡ left .table → cover ≡ counted (applied .book) table
-    → (applied .answer .number ∷ isNegative (cover .headroom) ∷ natAbs (cover .headroom) ∷ cover .outstanding .0 ∷ applied .book .cash .own .0 ∷ applied .book .cash .client .0 ∷ (applied .book .vault .guarantee .effective .0 + applied .book .vault .guarantee .arriving .0) ∷ []) ≡ lineOf left
+    → (applied .answer .number ∷ signOf (cover .headroom) ∷ natAbs (cover .headroom) ∷ cover .outstanding .0 ∷ applied .book .cash .own .0 ∷ applied .book .cash .client .0 ∷ (applied .book .vault .guarantee .effective .0 + applied .book .vault .guarantee .arriving .0) ∷ []) ≡ lineOf left
 unfolding lineOf
 line-told left applied table e t c = rw (c, e, t)

@@ -1,4 +1,5 @@
--- How the core lays out its table, four numbers a trade, and its book, a desk and rows: what private contracts read them by. No rule of document 01 stands here.
+-- How the core lays out its table, four numbers a trade, and its book, a desk and rows: what `Lent` reads numbers by. The second half, from
+-- "what the core may rely on", serves private contracts. No rule of document 01 stands here.
 -- Assumes nothing.
 use Prim.Native.Nat.{ℕ, zero, suc, _+_, _*_, _/_, _%_, _≤_}
 use mathlib.Core.Path.{_≡_}
@@ -12,7 +13,7 @@ use Rattle.money.specs.Units.{sheets, ticks}
 use Rattle.money.specs.Days.{Calendar}
 use Rattle.rules.specs.Limits.{capacityLimit}
 use Rattle.rules.specs.Book.{answer}
-use Rattle.rules.specs.Pay.{fails, paidBook, payNumber}
+use Rattle.rules.specs.Pay.{fails, afterPay, payNumber}
 use Rattle.rules.specs.Close.{Evening, closeAnswer, closedBook}
 use Rattle.rules.specs.Step.{Outcome}
 use Rattle.rules.specs.Trades.{same}
@@ -162,7 +163,7 @@ appliedBy cause before after = givenBy cause before (record { answer = answer 0;
 
 -- Pay answers 99 where it fails, and then changes the book too
 abbrev pub paidBy : Option ℕ → Book → Applied
-paidBy cause before = givenBy cause before (record { answer = answer (payNumber (fails before)); book = paidBook (fails before) before })
+paidBy cause before = givenBy cause before (record { answer = answer (payNumber (fails before)); book = afterPay (fails before) before })
 
 -- Close carries its figures in the answer
 abbrev pub closedBy : Option ℕ → Calendar → Book → List Trade → Applied

@@ -1,4 +1,4 @@
--- How the core names and lays out its data, for private contracts; no rule stands here.
+-- How the core names and lays out its data, and what its calls give; no rule stands here.
 pub mod Types
 pub mod Flat
 pub mod Figures

@@ -5,7 +5,7 @@ ghost use Prim.Native.Nat.{_+_, _≤_};
 ghost use lib.IntN.{natAbs};
 ghost use lib.ListN.{length};
 ghost use lib.Seq.{sets};
-ghost use Rattle.rules.specs.Listing.{isNegative};
+ghost use Rattle.rules.specs.Listing.{signOf};
 use crate::nets;
 use rules::answer::Cover;
 use rules::book::Cash;
@@ -13,7 +13,7 @@ use rules::book::Guarantee;
 
 // 1 where it is negative.
 fn sign_of(headroom: i64) -> u64
-    ensures { λ r. ⌜ r ≡ isNegative headroom ⌝ }
+    ensures { λ r. ⌜ r ≡ signOf headroom ⌝ }
 {
     if headroom < 0 {
         return 1;
@@ -36,7 +36,7 @@ pub fn write_line(
         ⌜ now (lines .exit)
         ≡ sets (now (lines .entry)) at
         (number
-        ∷ isNegative (cover .headroom)
+        ∷ signOf (cover .headroom)
         ∷ natAbs (cover .headroom)
         ∷ cover .outstanding .0
         ∷ cash .own .0

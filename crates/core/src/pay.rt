@@ -6,7 +6,7 @@ ghost use lib.Dec.{ltb};
 ghost use lib.IntN.{natAbs};
 ghost use Rattle.money.specs.Causes.{firstOf, numberOf};
 ghost use Rattle.rules.specs.Fit.{netFit, netsFit, cashFit};
-ghost use Rattle.rules.specs.Pay.{payerHolds, moved, failedMore, payCauses, paidStanding, paidBook};
+ghost use Rattle.rules.specs.Pay.{payerHolds, moved, failedMore, payCauses, paidStanding, afterPay};
 ghost use Rattle.core.specs.Flat.{Rows, bookOf, paidBy, appliedAt};
 use crate::nets;
 use desk::done;
@@ -97,7 +97,7 @@ fn paid_standing(standing: Standing, failed: FailedRun) -> Standing
 
 // Nothing moves, and the failed run grows.
 fn unpaid(desk: Desk) -> Desk
-    ensures { λ r. ⌜ ((rows : Rows) → bookOf r rows ≡ paidBook true (bookOf desk rows)) ⌝ }
+    ensures { λ r. ⌜ ((rows : Rows) → bookOf r rows ≡ afterPay true (bookOf desk rows)) ⌝ }
 {
     let standing = desk.standing;
     let failed = standing.failed;
@@ -110,7 +110,7 @@ fn paid(desk: Desk) -> Desk
     requires { ⌜ (netFit (desk .nets .cleared) ≡ true)
         × (natAbs (desk .nets .cleared) ≤ payerHolds (desk .nets .cleared) (desk .cash))
         × (desk .cash .own .0 + desk .cash .client .0 ≤ 10000000000000000) ⌝ }
-    ensures { λ r. ⌜ ((rows : Rows) → bookOf r rows ≡ paidBook false (bookOf desk rows)) ⌝ }
+    ensures { λ r. ⌜ ((rows : Rows) → bookOf r rows ≡ afterPay false (bookOf desk rows)) ⌝ }
 {
     let nets = desk.nets;
     let cash = desk.cash;

@@ -1,4 +1,4 @@
-// 4 Pledge: units arrive, and count from the next close.
+// 6 Pledge: units arrive, and count from the next close.
 ghost use mathlib.Core.Path.{_≡_};
 ghost use mathlib.Core.Bool.{true};
 ghost use mathlib.Core.List.{List};

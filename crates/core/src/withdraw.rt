@@ -15,7 +15,8 @@ use desk::done::Done;
 use desk::standing;
 use desk::state::Desk;
 
-// Whether the units, with those frozen and applied for, are above the effective. The units are tested first: any number may be applied for, and the sum of the three is then below 2^64.
+// Whether the units, with those frozen and applied for, are above the effective. The units are tested first: any number may be applied for,
+// and the sum of the three is then below 2^64.
 fn lacks(desk: Desk, held: &[u64], kinds: &[u8], units: &[u64], kind: u8, amount: u64) -> bool
     requires { ⌜ (length (now held) ≡ 128) × (length (now kinds) ≡ 128) × (length (now units) ≡ 128) × (kind ≤ 32) ⌝ }
     requires { let book = bookOf desk (rowsOf (now held) (now kinds) (now units)) in

@@ -1,4 +1,4 @@
-// What an event leaves beside the rows and the table. Answers are made here only.
+// What an event leaves beside the rows and the table. The core's answers are made here only.
 ghost use mathlib.Core.Path.{_≡_};
 ghost use Rattle.money.specs.Units.{sheets};
 ghost use Rattle.rules.specs.Book.{answer};

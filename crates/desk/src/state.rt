@@ -2,6 +2,7 @@
 ghost use mathlib.Core.Path.{_≡_};
 ghost use Prim.Native.Nat.{_/_};
 ghost use lib.Dec.{leb, ltb};
+ghost use Rattle.money.specs.Limits.{calendarLimit};
 ghost use Rattle.desk.specs.Desk.{withTrades};
 use money::units::Sheets;
 use rules::book::Cash;
@@ -39,7 +40,7 @@ pub fn is_full(numbers: usize, trades: usize) -> bool
 
 // Whether a calendar has more words than any may have.
 pub fn is_too_long(words: usize) -> bool
-    ensures { λ r. ⌜ r ≡ ltb 1200 words ⌝ }
+    ensures { λ r. ⌜ r ≡ ltb calendarLimit words ⌝ }
 {
     words > 1_200
 }

@@ -12,7 +12,7 @@ use lib.ListN.{length}
 use Rattle.money.specs.Causes.{Cause, firstOf, numberOf}
 use Rattle.money.proofs.Refusals.{hit, skip, clear, failed}
 use Rattle.rules.proofs.Answers.{numbers, number-passes}
-use Rattle.journal.specs.Sections.{sectionNumber, sectionsNumber, Whole, Malformed, Both, Refused, countAt, sectionEnd, sectionCauses, sectionBy, sectionAt, wordCount, eventCount, eventsAt, journalCauses, sectionsBy, sectionsOf}
+use Rattle.journal.specs.Sections.{Section, Sections, sectionNumber, sectionsNumber, IsSectionAt, AreSectionsOf, Whole, Malformed, Both, Refused, countAt, sectionEnd, sectionCauses, sectionBy, sectionAt, wordCount, eventCount, eventsAt, journalCauses, sectionsBy, sectionsOf}
 
 -- ---- causes in a row
 
@@ -219,3 +219,11 @@ sections-number bytes = go (firstOf (journalCauses bytes)) refl
     go : (o : Option ℕ) → firstOf (journalCauses bytes) ≡ o → sectionsNumber (sectionsBy o (wordCount bytes) (eventCount bytes)) ≡ numberOf o
     go none e = refl
     go (some n) e = sym (all-18 _ refl n e)
+
+-- ---- what is promised of an answer follows from which it is
+
+pub told : (limit width at : ℕ) (bytes : List ℕ) {section : Section} → section ≡ sectionAt limit width at bytes → IsSectionAt limit width at bytes section
+told limit width at bytes e = (e, rw e (section-number limit width at bytes))
+
+pub both-told : (bytes : List ℕ) {sections : Sections} → sections ≡ sectionsOf bytes → AreSectionsOf bytes sections
+both-told bytes e = (e, rw e (sections-number bytes))

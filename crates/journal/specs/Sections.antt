@@ -1,15 +1,17 @@
 -- Which bytes are a journal, its calendar and its events' bytes. (01, The journal)
 -- Assumes nothing.
+use mathlib.Core.Path.{_≡_}
 use Prim.Native.Nat.{ℕ, zero, suc, _+_, _*_}
 use mathlib.Core.List.{List, [], _∷_, _++_}
 use mathlib.Core.Option.{Option, none, some}
 use lib.Dec.{ltb}
 use lib.ListN.{length, drop}
 use Rattle.money.specs.Limits.{calendarLimit}
-use Rattle.money.specs.Causes.{Cause, _⇒_, firstOf}
+use Rattle.money.specs.Causes.{Cause, _⇒_, firstOf, numberOf}
 use Rattle.money.specs.Days.{Calendar}
 use Rattle.rules.specs.Entry.{numberAt}
-use Rattle.rules.specs.Listing.{eventLimit, eventBytes}
+use Rattle.rules.specs.Entry.{eventBytes}
+use Rattle.rules.specs.Listing.{eventLimit}
 pub use Rattle.journal.specs.declared.section.Section.{Section}
 pub use Rattle.journal.specs.declared.section.Section.the-variants.{Whole, Malformed}
 pub use Rattle.journal.specs.declared.sections.Sections.{Sections}
@@ -80,6 +82,11 @@ abbrev pub sectionNumber : Section → ℕ
 sectionNumber (Whole count) = 0
 sectionNumber Malformed = 18
 
+-- what is promised of a section that is read: which it is, and its number
+abbrev pub IsSectionAt : (limit width at : ℕ) → List ℕ → Section → Type 0
+IsSectionAt limit width at bytes section =
+    (section ≡ sectionAt limit width at bytes) × (sectionNumber section ≡ numberOf (firstOf (sectionCauses limit width at bytes)))
+
 -- what reading both answers: their counts, or that the journal is malformed
 unfoldable pub sectionsBy : Option ℕ → (words events : ℕ) → Sections
 sectionsBy none words events = Both words events
@@ -91,3 +98,7 @@ sectionsOf bytes = sectionsBy (firstOf (journalCauses bytes)) (wordCount bytes) 
 abbrev pub sectionsNumber : Sections → ℕ
 sectionsNumber (Both words events) = 0
 sectionsNumber Refused = 18
+
+-- what is promised of both
+abbrev pub AreSectionsOf : List ℕ → Sections → Type 0
+AreSectionsOf bytes sections = (sections ≡ sectionsOf bytes) × (sectionsNumber sections ≡ numberOf (firstOf (journalCauses bytes)))

@@ -1,7 +1,7 @@
 // A reader over the lent journal keeps its place. Each function over it is thin: it takes the reader apart and leaves the
 // work to `section_at`.
 ghost use mathlib.Core.Path.{_≡_};
-ghost use Rattle.journal.specs.Sections.{sectionAt};
+ghost use Rattle.journal.specs.Sections.{IsSectionAt};
 use crate::section::Section;
 use crate::section::section_at;
 
@@ -29,14 +29,14 @@ pub fn moved<'a>(reader: Reader<'a>, at: usize) -> Reader<'a>
 
 // The section at the reader's place.
 pub fn section<'a>(reader: Reader<'a>, limit: u32, width: u32) -> Section
-    ensures { λ s. ⌜ s ≡ sectionAt limit width (reader .entry .at) (now (reader .entry .journal)) ⌝ }
+    ensures { λ s. ⌜ IsSectionAt limit width (reader .entry .at) (now (reader .entry .journal)) s ⌝ }
 {
     section_at(reader.journal, reader.at, limit, width)
 }
 
 // The section at a place, for callers that hold no reader.
 pub fn section_from(journal: &[u8], at: usize, limit: u32, width: u32) -> Section
-    ensures { λ s. ⌜ s ≡ sectionAt limit width at (now (journal .entry)) ⌝ }
+    ensures { λ s. ⌜ IsSectionAt limit width at (now (journal .entry)) s ⌝ }
 {
     section(moved(new(journal), at), limit, width)
 }

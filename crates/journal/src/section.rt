@@ -3,7 +3,7 @@ ghost use mathlib.Core.Path.{_≡_};
 ghost use Prim.Native.Nat.{_+_, _≤_, _<_};
 ghost use lib.ListN.{length};
 ghost use Rattle.rules.specs.Entry.{numberAt};
-ghost use Rattle.journal.specs.Sections.{sectionAt};
+ghost use Rattle.journal.specs.Sections.{IsSectionAt};
 
 // A section with how many pieces it has.
 pub enum Section {
@@ -35,7 +35,7 @@ pub(crate) fn number4(bytes: &[u8], at: usize) -> u32
 
 // The section that starts at a place, its pieces `width` bytes each.
 pub fn section_at(journal: &[u8], at: usize, limit: u32, width: u32) -> Section
-    ensures { λ r. ⌜ r ≡ sectionAt limit width at (now (journal .entry)) ⌝ }
+    ensures { λ r. ⌜ IsSectionAt limit width at (now (journal .entry)) r ⌝ }
 {
     if journal.len() < at {
         return Section::Malformed;

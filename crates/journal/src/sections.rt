@@ -1,6 +1,6 @@
 // A journal's two sections, read one after the other, and the end after them.
 ghost use mathlib.Core.Path.{_≡_};
-ghost use Rattle.journal.specs.Sections.{sectionsOf};
+ghost use Rattle.journal.specs.Sections.{AreSectionsOf};
 use crate::reader;
 use crate::section::Section;
 
@@ -12,7 +12,7 @@ pub enum Sections {
 
 // Both sections and the end after them.
 pub fn sections_of(journal: &[u8]) -> Sections
-    ensures { λ r. ⌜ r ≡ sectionsOf (now (journal .entry)) ⌝ }
+    ensures { λ r. ⌜ AreSectionsOf (now (journal .entry)) r ⌝ }
 {
     let Section::Whole(words) = reader::section_from(journal, 0, 1_200, 4) else {
         return Sections::Refused;

@@ -1,5 +1,5 @@
 -- The relation between a book with its table and the tally, and what is to be shown of each entry.
--- For demand 3: Kept shows it of each accepted event, Demand3Proof of a list. Assumes nothing.
+-- For demand 3: EventsAgree shows it of each accepted event, Demand3Proof of a list. Assumes nothing.
 use mathlib.Core.Path.{_≡_, refl, ap, _∙_}
 use mathlib.Core.Bool.{false}
 use mathlib.Core.List.{List, []}

@@ -3,7 +3,7 @@
 use mathlib.Core.Path.{_≡_, refl}
 use mathlib.Core.List.{List, [], _∷_, map}
 use Prim.Native.Nat.{ℕ, _+_}
-use lib.IntN.{ℤ, pos, natAbs}
+use lib.IntN.{natAbs}
 use lib.ListN.{replicate}
 use Rattle.money.specs.Units.{fen, sheets, ticks}
 use Rattle.money.specs.Causes.{firstOf}
@@ -14,7 +14,7 @@ use Rattle.rules.specs.Folds.{sumBelow, allBelow, inTurn, every}
 use Rattle.rules.specs.Book.{Status, Normal, Suspended, Terminated, Book, Answer, freshBook}
 use Rattle.rules.specs.Days.{following, paymentDay, followed}
 use Rattle.rules.specs.Trades.{Trade, noTrade, total, outstanding, onTable, differ, remaining}
-use Rattle.rules.specs.Vault.{value, headroom, outstandingOf}
+use Rattle.rules.specs.Vault.{value, headroom}
 use Rattle.rules.specs.Fit.{capacityFit, securitiesFit, cashFit, allTrades, sizeFit, netsFit, withdrawalsFit, fit}
 use Rattle.rules.specs.Entry.{Own, Client, Open, FundIn, FundOut, Size, Rate, Pledge, Initial, Pay, Close, Entry, Known}
 use Rattle.rules.specs.Open.{openCauses, openedBook, openedTable, statusAtOpen, turnsTerminated}
@@ -23,11 +23,12 @@ use Rattle.rules.specs.Size.{sizeCauses, sized}
 use Rattle.rules.specs.Rate.{rateCauses, rated}
 use Rattle.rules.specs.Pledge.{pledgeCauses, pledged}
 use Rattle.rules.specs.Initial.{initialCauses, initialBook, initialTable}
-use Rattle.rules.specs.Pay.{payCauses, paidBook}
+use Rattle.rules.specs.Pay.{payCauses, afterPay}
 use Rattle.rules.specs.Close.{maturedTrades, maturedSheets, maturedAmount, closeCauses, allArrived, applications, evening, closedTable, isShortClose, closedBook, closeAnswer}
 use Rattle.rules.specs.Step.{eventCauses, causes, act, step}
-use Rattle.rules.specs.Run.{Seen, run, lastBook, lastTable}
+use Rattle.rules.specs.Run.{run, lastBook, lastTable}
 use Rattle.rules.specs.Demand3.{seenFrom}
+use Rattle.rules.specs.Listing.{lineOf}
 
 -- ---- the journal of document 01
 
@@ -67,35 +68,29 @@ journal =
     then (initial 100 7 3650 1000 4 ∷ Known Pay ∷ Known Close ∷ Known Open ∷ [])
     then (initial 90 8 3650 1000 6 ∷ Known Pay ∷ Known Close ∷ [])
 
--- a line of the listing: answer, headroom, O, own, client, guarantee cash
-abbrev Line : Type 0
-Line = ℕ × ℤ × ℕ × ℕ × ℕ × ℕ
-
-abbrev lineOf : Seen → Line
-lineOf seen = (seen .left .answer .number, headroom (seen .left .book) (seen .left .table), outstandingOf (seen .left .book) (seen .left .table), seen .left .book .cash .own .0, seen .left .book .cash .client .0, seen .left .book .vault .guarantee .effective .0 + seen .left .book .vault .guarantee .arriving .0)
-
-abbrev listing : List Line
+-- of each event: answer, headroom's sign and size, O, own, client, guarantee cash
+abbrev listing : List (List ℕ)
 listing =
-    (0, pos 0, 0, 0, 0, 0)
-    ∷ (0, pos 0, 0, 5000000, 0, 0)
-    ∷ (0, pos 0, 0, 5000000, 3000000, 0)
-    ∷ (0, pos 0, 0, 5000000, 3000000, 0)
-    ∷ (0, pos 0, 0, 5000000, 3000000, 0)
-    ∷ (0, pos 0, 0, 5000000, 3000000, 0)
-    ∷ (0, pos 0, 0, 5000000, 3000000, 0)
-    ∷ (0, pos 180, 0, 5000000, 3000000, 0)
-    ∷ (0, pos 180, 0, 5000000, 3000000, 0)
-    ∷ (0, pos 80, 100, 5000000, 3000000, 0)
-    ∷ (0, pos 80, 100, 5000000, 3000000, 0)
-    ∷ (0, pos 80, 100, 5000000, 3000000, 0)
-    ∷ (0, pos 80, 100, 5000000, 3000000, 0)
-    ∷ (12, pos 80, 100, 5000000, 3000000, 0)
-    ∷ (0, pos 80, 100, 6000000, 2000000, 0)
-    ∷ (0, pos 80, 100, 6000000, 2000000, 0)
+    (0 ∷ 0 ∷ 0 ∷ 0 ∷ 0 ∷ 0 ∷ 0 ∷ [])
+    ∷ (0 ∷ 0 ∷ 0 ∷ 0 ∷ 5000000 ∷ 0 ∷ 0 ∷ [])
+    ∷ (0 ∷ 0 ∷ 0 ∷ 0 ∷ 5000000 ∷ 3000000 ∷ 0 ∷ [])
+    ∷ (0 ∷ 0 ∷ 0 ∷ 0 ∷ 5000000 ∷ 3000000 ∷ 0 ∷ [])
+    ∷ (0 ∷ 0 ∷ 0 ∷ 0 ∷ 5000000 ∷ 3000000 ∷ 0 ∷ [])
+    ∷ (0 ∷ 0 ∷ 0 ∷ 0 ∷ 5000000 ∷ 3000000 ∷ 0 ∷ [])
+    ∷ (0 ∷ 0 ∷ 0 ∷ 0 ∷ 5000000 ∷ 3000000 ∷ 0 ∷ [])
+    ∷ (0 ∷ 0 ∷ 180 ∷ 0 ∷ 5000000 ∷ 3000000 ∷ 0 ∷ [])
+    ∷ (0 ∷ 0 ∷ 180 ∷ 0 ∷ 5000000 ∷ 3000000 ∷ 0 ∷ [])
+    ∷ (0 ∷ 0 ∷ 80 ∷ 100 ∷ 5000000 ∷ 3000000 ∷ 0 ∷ [])
+    ∷ (0 ∷ 0 ∷ 80 ∷ 100 ∷ 5000000 ∷ 3000000 ∷ 0 ∷ [])
+    ∷ (0 ∷ 0 ∷ 80 ∷ 100 ∷ 5000000 ∷ 3000000 ∷ 0 ∷ [])
+    ∷ (0 ∷ 0 ∷ 80 ∷ 100 ∷ 5000000 ∷ 3000000 ∷ 0 ∷ [])
+    ∷ (12 ∷ 0 ∷ 80 ∷ 100 ∷ 5000000 ∷ 3000000 ∷ 0 ∷ [])
+    ∷ (0 ∷ 0 ∷ 80 ∷ 100 ∷ 6000000 ∷ 2000000 ∷ 0 ∷ [])
+    ∷ (0 ∷ 0 ∷ 80 ∷ 100 ∷ 6000000 ∷ 2000000 ∷ 0 ∷ [])
     ∷ []
 
-pub journal-gives-its-listing : map lineOf (seenFrom week noTrades journal) ≡ listing
-unfolding freshBook run step causes eventCauses act firstOf fit every capacityFit securitiesFit allBelow cashFit allTrades sizeFit netsFit differ withdrawalsFit followed following paymentDay trades firstTrading atOrAfter nextAfter earliest sizeCauses sized fundInCauses fundedIn rateCauses rated openCauses openedBook openedTable statusAtOpen turnsTerminated pledgeCauses pledged payCauses paidBook closeCauses closedBook closedTable closeAnswer maturedTrades maturedSheets maturedAmount evening applications inTurn allArrived isShortClose total outstanding remaining value sumBelow kindValue headroom initialCauses initialBook initialTable onTable principal redemption income
+pub journal-gives-its-listing : map (λ seen. lineOf (seen .left)) (seenFrom week noTrades journal) ≡ listing
+unfolding lineOf freshBook run step causes eventCauses act firstOf fit every capacityFit securitiesFit allBelow cashFit allTrades sizeFit netsFit differ withdrawalsFit followed following paymentDay trades firstTrading atOrAfter nextAfter earliest sizeCauses sized fundInCauses fundedIn rateCauses rated openCauses openedBook openedTable statusAtOpen turnsTerminated pledgeCauses pledged payCauses afterPay closeCauses closedBook closedTable closeAnswer maturedTrades maturedSheets maturedAmount evening applications inTurn allArrived isShortClose total outstanding remaining value sumBelow kindValue headroom initialCauses initialBook initialTable onTable principal redemption income
 journal-gives-its-listing = refl
 
 -- ---- M1 to M10
@@ -179,5 +174,5 @@ cases =
     ∷ []
 
 pub worked-cases : map (λ (c : Case). c .gives) cases ≡ map (λ (c : Case). c .says) cases
-unfolding redemptionAmount kindWorth freshBook lastBook lastTable step causes eventCauses act firstOf fit every capacityFit securitiesFit allBelow cashFit allTrades sizeFit netsFit differ withdrawalsFit followed following paymentDay trades firstTrading atOrAfter nextAfter earliest sizeCauses sized fundInCauses fundedIn fundOutCauses fundedOut rateCauses rated openCauses openedBook openedTable statusAtOpen turnsTerminated pledgeCauses pledged payCauses paidBook closeCauses closedBook closedTable closeAnswer maturedTrades maturedSheets maturedAmount evening applications inTurn allArrived isShortClose total outstanding remaining value sumBelow kindValue headroom initialCauses initialBook initialTable onTable principal redemption income
+unfolding redemptionAmount kindWorth freshBook lastBook lastTable step causes eventCauses act firstOf fit every capacityFit securitiesFit allBelow cashFit allTrades sizeFit netsFit differ withdrawalsFit followed following paymentDay trades firstTrading atOrAfter nextAfter earliest sizeCauses sized fundInCauses fundedIn fundOutCauses fundedOut rateCauses rated openCauses openedBook openedTable statusAtOpen turnsTerminated pledgeCauses pledged payCauses afterPay closeCauses closedBook closedTable closeAnswer maturedTrades maturedSheets maturedAmount evening applications inTurn allArrived isShortClose total outstanding remaining value sumBelow kindValue headroom initialCauses initialBook initialTable onTable principal redemption income
 worked-cases = refl

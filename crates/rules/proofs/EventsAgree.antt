@@ -29,7 +29,7 @@ use Rattle.rules.specs.Freeze.{frozen}
 use Rattle.rules.specs.Withdraw.{withdrawn}
 use Rattle.rules.specs.Initial.{begun, initialCauses, initialBook, initialTable}
 use Rattle.rules.specs.Early.{earlyCauses, earlyBook, earlyTable}
-use Rattle.rules.specs.Pay.{fails, paidBook, payNumber}
+use Rattle.rules.specs.Pay.{fails, afterPay, payNumber}
 use Rattle.rules.specs.Close.{maturedTrades, maturedAmount, closedBook, closedTable, closeAnswer}
 use Rattle.rules.specs.Step.{eventCauses, causes, act, outcome}
 use Rattle.rules.specs.Tally.{Tally, dayAfter, paidOn, withFunds, opened, saysTerminated, counted, tell}
@@ -144,10 +144,10 @@ module _ (calendar : Calendar) (book : Book) (table : List Trade) (t : Tally) (i
   net-due = rw (i .cleared) (+ℤ-negℤ-cancel (book .nets .cleared) (t .paid))
 
   pub at-pay : Right calendar t (acted calendar book table Pay)
-  unfolding act counted tell paidBook
+  unfolding act counted tell afterPay
   at-pay = go (fails book) refl
     where
-      go : (b : Bool) → fails book ≡ b → Right calendar t (record { book = book; table = table; entry = Known Pay; left = outcome (answer (payNumber b)) (paidBook b book) table })
+      go : (b : Bool) → fails book ≡ b → Right calendar t (record { book = book; table = table; entry = Known Pay; left = outcome (answer (payNumber b)) (afterPay b book) table })
       go true e = record {
         agrees = i;
         initial = λ h a. absurd h;

@@ -28,7 +28,7 @@ use Rattle.rules.specs.Fit.{tradeFit, dayFit}
 use Rattle.rules.specs.Open.{turnsTerminated, netWithFallbacks, openCauses, openedBook, openedTable}
 use Rattle.rules.specs.Initial.{netLess, initialCauses, begun, initialBook, initialTable}
 use Rattle.rules.specs.Early.{netWithEarly, earlyCauses, earlyBook, earlyTable}
-use Rattle.rules.specs.Pay.{payerHolds, moved, fails, payCauses, paidBook}
+use Rattle.rules.specs.Pay.{payerHolds, moved, fails, payCauses, afterPay}
 use Rattle.rules.specs.Close.{today, maturedTrades, netWithMatured, clearedAtClose, closeCauses, closedBook, closedTable}
 use Rattle.rules.proofs.FoldLaws.{neither, every-of}
 use Rattle.rules.proofs.TradeLaws.{outstanding-append, outstanding-one, length-takeOff, take-over, length-over, take-packed, length-packed, take-begun}
@@ -167,8 +167,8 @@ module _ (calendar : Calendar) (book : Book) (table : List Trade) (f : Fit calen
 
   -- ---- 11 Pay
 
-  pub paid-fits : firstOf (payCauses book) ≡ none → Fit calendar (paidBook (fails book) book) table
-  unfolding payCauses paidBook
+  pub paid-fits : firstOf (payCauses book) ≡ none → Fit calendar (afterPay (fails book) book) table
+  unfolding payCauses afterPay
   paid-fits e = go (fails book) refl
     where
       day : dayFit calendar (book .standing .day) Paid (inUse (book .trades) table) (book .trades) ≡ true
@@ -176,10 +176,10 @@ module _ (calendar : Calendar) (book : Book) (table : List Trade) (f : Fit calen
           same-day calendar (book .standing .day) (book .standing .phase) Paid (inUse (book .trades) table) (inUse (book .trades) table) (book .trades) (book .trades)
           (trading-not-closed (book .standing .phase) (failed (payCauses book) e 4 .0 refl)) (λ b. b) (f .day)
 
-      go : (failing : Bool) → fails book ≡ failing → Fit calendar (paidBook failing book) table
-      go true b = lessened-fits (paidBook true book) table (same-lessens (book .trades) table) refl (f .securities) (f .cash) (f .nets) (f .withdrawals) day
+      go : (failing : Bool) → fails book ≡ failing → Fit calendar (afterPay failing book) table
+      go true b = lessened-fits (afterPay true book) table (same-lessens (book .trades) table) refl (f .securities) (f .cash) (f .nets) (f .withdrawals) day
       go false b =
-          lessened-fits (paidBook false book) table (same-lessens (book .trades) table) refl (f .securities)
+          lessened-fits (afterPay false book) table (same-lessens (book .trades) table) refl (f .securities)
           (moved-fits (book .nets .cleared) (book .cash) (book .vault .guarantee) (f .cash) b)
           (record { today = f .nets .today; cleared = omega arith }) (f .withdrawals) day
 

@@ -26,7 +26,7 @@ use Rattle.rules.specs.Freeze.{freezeCauses, frozen}
 use Rattle.rules.specs.Withdraw.{withdrawCauses, withdrawn, applied}
 use Rattle.rules.specs.Initial.{initialCauses, initialBook, initialTable}
 use Rattle.rules.specs.Early.{earlyCauses, earlyBook, earlyTable}
-use Rattle.rules.specs.Pay.{payCauses, paidBook, failedMore}
+use Rattle.rules.specs.Pay.{payCauses, afterPay, failedMore}
 use Rattle.rules.specs.Close.{shortMore, maturedTrades, maturedSheets, maturedAmount, closeCauses, allArrived, takenOut, covered, mayGo, applications, evening, closedTable, isShortClose, closedBook, closeAnswer}
 use Rattle.rules.specs.Step.{eventCauses, causes, act, step}
 use Rattle.rules.specs.Run.{Seen, run}
@@ -73,7 +73,7 @@ rowOf seen =
 
 -- the rows of some entries after others; who opens this opens every rule, so that it computes
 unfoldable pub rowsAfter : Calendar → (earlier entries : List Entry) → List (List ℕ)
-unfolding freshBook run step causes eventCauses act firstOf fit every capacityFit securitiesFit allBelow cashFit allTrades sizeFit netsFit differ withdrawalsFit followed following paymentDay trades firstTrading atOrAfter nextAfter earliest sizeCauses sized fundInCauses fundedIn fundOutCauses fundedOut rateCauses rated openCauses openedBook openedTable statusAtOpen turnsTerminated pledgeCauses pledged payCauses paidBook closeCauses closedBook closedTable closeAnswer maturedTrades maturedSheets maturedAmount evening applications inTurn allArrived isShortClose total outstanding remaining value sumBelow kindValue headroom initialCauses initialBook initialTable onTable principal redemption income freezeCauses frozen withdrawCauses withdrawn applied earlyCauses earlyBook earlyTable tradeOf takeOff takenOut covered mayGo
+unfolding freshBook run step causes eventCauses act firstOf fit every capacityFit securitiesFit allBelow cashFit allTrades sizeFit netsFit differ withdrawalsFit followed following paymentDay trades firstTrading atOrAfter nextAfter earliest sizeCauses sized fundInCauses fundedIn fundOutCauses fundedOut rateCauses rated openCauses openedBook openedTable statusAtOpen turnsTerminated pledgeCauses pledged payCauses afterPay closeCauses closedBook closedTable closeAnswer maturedTrades maturedSheets maturedAmount evening applications inTurn allArrived isShortClose total outstanding remaining value sumBelow kindValue headroom initialCauses initialBook initialTable onTable principal redemption income freezeCauses frozen withdrawCauses withdrawn applied earlyCauses earlyBook earlyTable tradeOf takeOff takenOut covered mayGo
 rowsAfter calendar earlier entries = map rowOf (drop (length earlier) (seenFrom calendar noTrades (earlier then entries)))
 
 abbrev early : (contract : ℕ) → Entry

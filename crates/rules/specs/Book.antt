@@ -107,7 +107,7 @@ freshBook = record {
   trades = 0;
 }
 
--- ---- answers: the number of one that carries nothing else, and what counts as accepted
+-- ---- an answer that carries its number alone
 
 abbrev pub answer : ℕ → Answer
 answer number = record { number = number; matured = sheets 0; done = 0; dropped = 0 }

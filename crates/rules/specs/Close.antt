@@ -1,4 +1,4 @@
--- "12 Close, in Paid, or in Trading if terminated": its parts (a) to (f). (arts. 52, 53, 60, 61)
+-- "12 Close, in Paid, or in Trading if terminated": its parts (a) to (f). (arts. 52, 53, 60, 61, 69)
 -- Assumes nothing.
 use Prim.Native.Nat.{ℕ, _+_, _-_}
 use mathlib.Core.Bool.{Bool, true, false, cond, not, _&&_, _||_}
@@ -165,4 +165,9 @@ closedBook calendar book table = record {
 
 -- "The answer carries sheets matured, applications done and dropped"
 unfoldable pub closeAnswer : Book → List Trade → Answer
-closeAnswer book table = record { number = 0; matured = sheets (maturedSheets book table); done = evening book table .done; dropped = evening book table .dropped }
+closeAnswer book table = record {
+  number = 0;
+  matured = sheets (maturedSheets book table);
+  done = evening book table .done;
+  dropped = evening book table .dropped;
+}

@@ -22,7 +22,7 @@ abbrev pub dayNumber : Day → ℕ
 dayNumber Never = 0
 dayNumber (On day) = day
 
--- "The payment day of a trading day is the next one (art. 61)."
+-- "The payment day of a trading day is the next one (art. 61)." Of no day it would be the earliest; a book without a day has no trade.
 unfoldable pub paymentDay : Calendar → Day → ℕ
 paymentDay calendar day = dayOr0 (following calendar day)
 

@@ -34,7 +34,11 @@ abbrev pub number : Seen → ℕ
 number seen = seen .left .answer .number
 
 abbrev pub told : Seen → Told
-told seen = record { entry = seen .entry; number = number seen; status = cond (isOpen (seen .entry)) (some (seen .left .book .standing .status)) none }
+told seen = record {
+  entry = seen .entry;
+  number = number seen;
+  status = cond (isOpen (seen .entry)) (some (seen .left .book .standing .status)) none;
+}
 
 -- ---- the claims about one entry
 
@@ -42,15 +46,26 @@ told seen = record { entry = seen .entry; number = number seen; status = cond (i
 abbrev pub InitialCovered : Seen → Type 0
 InitialCovered seen = T (isInitial (seen .entry)) → T (accepted (number seen)) → pos 0 ≤ℤ headroom (seen .left .book) (seen .left .table)
 
--- "Exactly when the payer held at least its size, the answer was 0, own fell by the net and client rose by it; otherwise 99, and neither changed."
+-- "Exactly when the payer held at least its size, the answer was 0, own fell by the net and client rose by it; otherwise 99, and neither
+-- changed."
 pub record WholeOrNothing (net : ℤ) (before after : Cash) (number : ℕ) : Type 0 where
-  pub whole : natAbs net ≤ payerHolds net before → (number ≡ 0) × (pos (after .own .0) ≡ pos (before .own .0) -ℤ net) × (pos (after .client .0) ≡ pos (before .client .0) +ℤ net)
-  pub nothing : payerHolds net before < natAbs net → (number ≡ 99) × (after .own .0 ≡ before .own .0) × (after .client .0 ≡ before .client .0)
+  pub whole :
+      natAbs net ≤ payerHolds net before
+      → (number ≡ 0)
+      × (pos (after .own .0) ≡ pos (before .own .0) -ℤ net)
+      × (pos (after .client .0) ≡ pos (before .client .0) +ℤ net)
+  pub nothing :
+      payerHolds net before < natAbs net
+      → (number ≡ 99)
+      × (after .own .0 ≡ before .own .0)
+      × (after .client .0 ≡ before .client .0)
 
 -- "The net due at an accepted Pay is cleared less paid before it"
 abbrev pub PaymentRight : Tally → Seen → Type 0
 PaymentRight before seen =
-    T (isPay (seen .entry)) → T (accepted (number seen)) → WholeOrNothing (before .cleared -ℤ before .paid) (seen .book .cash) (seen .left .book .cash) (number seen)
+    T (isPay (seen .entry))
+    → T (accepted (number seen))
+    → WholeOrNothing (before .cleared -ℤ before .paid) (seen .book .cash) (seen .left .book .cash) (number seen)
 
 -- ---- the claims about the list
 
@@ -65,7 +80,9 @@ AllBeside calendar claim t (seen ∷ more) = claim t seen × AllBeside calendar 
 
 -- "The money moved, own before less own after over accepted Pays"
 abbrev pub movedAt : Seen → ℤ
-movedAt seen = cond (isPay (seen .entry) && accepted (number seen)) (pos (seen .book .cash .own .0) -ℤ pos (seen .left .book .cash .own .0)) (pos 0)
+movedAt seen =
+    let own = seen .book .cash .own .0 in
+    cond (isPay (seen .entry) && accepted (number seen)) (pos own -ℤ pos (seen .left .book .cash .own .0)) (pos 0)
 
 unfoldable pub moneyMoved : List Seen → ℤ
 moneyMoved [] = pos 0
@@ -79,16 +96,21 @@ abbrev pub tallyBeside : Calendar → List Trade → List Entry → Tally
 tallyBeside calendar table entries = tallyOf calendar blank (map told (seenFrom calendar table entries))
 
 abbrev pub cashAfter : Calendar → List Trade → List Entry → ℕ
-cashAfter calendar table entries = allCash (lastBook calendar freshBook table entries .cash) (lastBook calendar freshBook table entries .vault .guarantee)
+cashAfter calendar table entries =
+    let last = lastBook calendar freshBook table entries in
+    allCash (last .cash) (last .vault .guarantee)
 
 abbrev pub outstandingAfter : Calendar → List Trade → List Entry → ℕ
-outstandingAfter calendar table entries = outstandingOf (lastBook calendar freshBook table entries) (lastTable calendar freshBook table entries)
+outstandingAfter calendar table entries =
+    outstandingOf (lastBook calendar freshBook table entries) (lastTable calendar freshBook table entries)
 
 pub record Demand3 (calendar : Calendar) (table : List Trade) (entries : List Entry) : Type 0 where
   -- "the three kinds of cash, arriving included, together equal funds"
   pub cash-is-funds : pos (cashAfter calendar table entries) ≡ tallyBeside calendar table entries .funds
   -- "and O equals begun less redeemed"
-  pub outstanding-is-begun-less-redeemed : pos (outstandingAfter calendar table entries) ≡ pos (tallyBeside calendar table entries .begun) -ℤ pos (tallyBeside calendar table entries .redeemed)
+  pub outstanding-is-begun-less-redeemed :
+      pos (outstandingAfter calendar table entries)
+      ≡ pos (tallyBeside calendar table entries .begun) -ℤ pos (tallyBeside calendar table entries .redeemed)
   pub initials-covered : All InitialCovered (seenFrom calendar table entries)
   pub payments-whole-or-nothing : AllBeside calendar PaymentRight blank (seenFrom calendar table entries)
   -- "sums to paid"

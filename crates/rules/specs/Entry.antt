@@ -23,7 +23,8 @@ littleEndian (byte ∷ bytes) = byte + 256 * littleEndian bytes
 abbrev pub numberAt : (from width : ℕ) → List ℕ → ℕ
 numberAt from width bytes = littleEndian (take width (drop from bytes))
 
--- "Byte 0 code; 1 kind or account; 8 to 15 amount, rate or size; 16 to 23 contract; 24 to 27 price; 28 to 31 fallback price; 32 to 35 due day; others 0."
+-- "Byte 0 code; 1 kind or account; 8 to 15 amount, rate or size; 16 to 23 contract; 24 to 27 price; 28 to 31 fallback price; 32 to 35 due
+-- day; others 0."
 abbrev pub fieldsOf : List ℕ → Fields
 fieldsOf bytes = record {
   code = getD bytes 0 0;
@@ -52,7 +53,13 @@ abbrev pub restOf : Fields → List ℕ
 restOf f = f .spare ∷ f .contract ∷ f .price ∷ f .fallback ∷ f .due ∷ f .last ∷ []
 
 abbrev pub termsOf : Fields → Terms
-termsOf f = record { contract = record { 0 = f .contract }; sheets = sheets (f .amount); price = ticks (f .price); fallback = ticks (f .fallback); due = f .due }
+termsOf f = record {
+  contract = record { 0 = f .contract };
+  sheets = sheets (f .amount);
+  price = ticks (f .price);
+  fallback = ticks (f .fallback);
+  due = f .due;
+}
 
 -- "code not 1 to 12" is number 2; each code with the fields that it does not use
 unfoldable pub entryOf : Fields → Entry
@@ -66,14 +73,18 @@ entryOf f =
     (cond (eqb (f .code) 7) (unless (Freeze (f .kind) (f .amount)) (restOf f))
     (cond (eqb (f .code) 8) (unless (Withdraw (f .kind) (f .amount)) (restOf f))
     (cond (eqb (f .code) 9) (unless (Initial (termsOf f)) (f .kind ∷ f .spare ∷ f .last ∷ []))
-    (cond (eqb (f .code) 10) (unless (Early (record { 0 = f .contract }) (sheets (f .amount)) (ticks (f .price))) (f .kind ∷ f .spare ∷ f .fallback ∷ f .due ∷ f .last ∷ []))
+    (cond (eqb (f .code) 10) (unless (Early (record { 0 = f .contract }) (sheets (f .amount)) (ticks (f .price)))
+    (f .kind ∷ f .spare ∷ f .fallback ∷ f .due ∷ f .last ∷ []))
     (cond (eqb (f .code) 11) (unless Pay (f .amount ∷ f .kind ∷ restOf f))
     (cond (eqb (f .code) 12) (unless Close (f .amount ∷ f .kind ∷ restOf f))
     Undecodable)))))))))))
 
 -- "events of 40 bytes"
+abbrev pub eventBytes : ℕ
+eventBytes = 40
+
 unfoldable pub decoded : List ℕ → Entry
-decoded bytes = cond (eqb (length bytes) 40) (entryOf (fieldsOf bytes)) Undecodable
+decoded bytes = cond (eqb (length bytes) eventBytes) (entryOf (fieldsOf bytes)) Undecodable
 
 -- an event's code, 0 for what does not decode
 abbrev pub codeOf : Entry → ℕ

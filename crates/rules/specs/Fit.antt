@@ -7,6 +7,7 @@ use mathlib.Core.Option.{some}
 use lib.Dec.{leb, eqb}
 use lib.IntN.{ℤ, natAbs}
 use lib.ListN.{length, getD}
+use Rattle.money.specs.Collateral.{cashKind}
 use Rattle.money.specs.Limits.{unitLimit, rateLimit, cashLimit, tradeLimit, priceLimit}
 use Rattle.money.specs.Days.{Calendar, trades}
 use Rattle.rules.specs.Folds.{allBelow, every}
@@ -62,7 +63,7 @@ netsFit nets = netFit (nets .today) && netFit (nets .cleared)
 
 -- "applications name kinds to 32 and at most 10^16 units"
 abbrev pub applicationFit : (kind units : ℕ) → Bool
-applicationFit kind units = leb kind 32 && leb units cashLimit
+applicationFit kind units = leb kind cashKind && leb units cashLimit
 
 unfoldable pub withdrawalsFit : Withdrawals → Bool
 withdrawalsFit withdrawals =

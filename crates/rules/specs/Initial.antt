@@ -1,4 +1,4 @@
--- "9 Initial, in Trading: a new last trade; 10,000q is taken from today's net." (arts. 33, 43, 44)
+-- "9 Initial, in Trading: a new last trade; 10,000q is taken from today's net." (arts. 21, 33, 43, 44)
 -- Assumes nothing.
 use Prim.Native.Nat.{ℕ, _+_, _%_}
 use mathlib.Core.Bool.{Bool, not, _||_}
@@ -12,7 +12,7 @@ use Rattle.money.specs.Limits.{tradeLimit, priceLimit}
 use Rattle.money.specs.Causes.{Cause, _⇒_}
 use Rattle.money.specs.Days.{Calendar, atOrAfter}
 use Rattle.money.specs.Money.{principal}
-use Rattle.rules.specs.Limits.{netLimit, termLimit}
+use Rattle.rules.specs.Limits.{netLimit, aheadLimit}
 use Rattle.rules.specs.Book.{Book, isTrading, isTerminated, isSuspended, withNets, withTrades}
 use Rattle.rules.specs.Days.{dayNumber, paymentDay, followed}
 use Rattle.rules.specs.Trades.{Terms, Trade, inUse, onTable}
@@ -24,7 +24,7 @@ badCount count = eqb count 0 || not (eqb (count % 10) 0) || ltb tradeLimit count
 
 -- "due not 1 to 365 days ahead"
 abbrev pub offTerm : (today due : ℕ) → Bool
-offTerm today due = leb due today || ltb (today + termLimit) due
+offTerm today due = leb due today || ltb (today + aheadLimit) due
 
 -- "or no trading day at or after it with another following"
 abbrev pub noMaturity : Calendar → (due : ℕ) → Bool

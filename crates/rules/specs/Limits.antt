@@ -19,5 +19,5 @@ abbrev pub applicationLimit : ℕ
 applicationLimit = 128
 
 -- "due not 1 to 365 days ahead"
-abbrev pub termLimit : ℕ
-termLimit = 365
+abbrev pub aheadLimit : ℕ
+aheadLimit = 365

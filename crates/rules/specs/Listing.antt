@@ -14,16 +14,13 @@ use Rattle.rules.specs.Book.{Book, freshBook}
 use Rattle.rules.specs.declared.answer.Ran.{Ran}
 use Rattle.rules.specs.Trades.{Trade, noTrade}
 use Rattle.rules.specs.Vault.{outstandingOf, headroom}
-use Rattle.rules.specs.Entry.{Entry, decoded}
+use Rattle.rules.specs.Entry.{Entry, eventBytes, decoded}
 use Rattle.rules.specs.Step.{Outcome, unfit}
 use Rattle.rules.specs.Run.{Seen, run, lastBook, lastTable}
 
 -- "a 32-bit count (to 1,500) and events of 40 bytes"
 abbrev pub eventLimit : ℕ
 eventLimit = 1500
-
-abbrev pub eventBytes : ℕ
-eventBytes = 40
 
 -- "on a fresh book with capacity 1,024"
 abbrev pub journalTable : List Trade
@@ -38,15 +35,15 @@ abbrev pub entriesIn : List ℕ → List Entry
 entriesIn bytes = entriesOf (length bytes / eventBytes) bytes
 
 -- "a minus sign before a negative headroom"
-abbrev pub isNegative : ℤ → ℕ
-isNegative (pos n) = 0
-isNegative (negsuc n) = 1
+abbrev pub signOf : ℤ → ℕ
+signOf (pos n) = 0
+signOf (negsuc n) = 1
 
 -- "answer, headroom, O, own, client, guarantee cash (effective and arriving)": headroom is told as its sign and its size
 unfoldable pub lineOf : Outcome → List ℕ
 lineOf left =
     left .answer .number
-    ∷ isNegative (headroom (left .book) (left .table))
+    ∷ signOf (headroom (left .book) (left .table))
     ∷ natAbs (headroom (left .book) (left .table))
     ∷ outstandingOf (left .book) (left .table)
     ∷ left .book .cash .own .0
@@ -108,4 +105,6 @@ refuseRun none book table buffer done = done
 refuseRun (some number) book table buffer done = record { ran = record { number = number; book = book }; table = table; lines = buffer }
 
 unfoldable pub runOutcome : Calendar → Book → List Trade → (bytes buffer : List ℕ) → RunOutcome
-runOutcome calendar book table bytes buffer = refuseRun (firstOf (runCauses calendar book table (length bytes) (length buffer))) book table buffer (runDone calendar book table bytes buffer)
+runOutcome calendar book table bytes buffer =
+    let cause = firstOf (runCauses calendar book table (length bytes) (length buffer)) in
+    refuseRun cause book table buffer (runDone calendar book table bytes buffer)

@@ -47,19 +47,27 @@ netWithFallbacks calendar book table =
 -- "for Open, 14 doesn't apply where 16 does"
 unfoldable pub openCauses : Calendar → Book → List Trade → List Cause
 openCauses calendar book table =
+    let found = followed calendar (following calendar (book .standing .day)) in
     (not (isClosed (book .standing .phase)) ⇒ 4)
-    ∷ (followed calendar (following calendar (book .standing .day)) && turnsTerminated (book .standing) && ltb netLimit (natAbs (netWithFallbacks calendar book table)) ⇒ 14)
-    ∷ (not (followed calendar (following calendar (book .standing .day))) ⇒ 16)
+    ∷ (found && turnsTerminated (book .standing) && ltb netLimit (natAbs (netWithFallbacks calendar book table)) ⇒ 14)
+    ∷ (not found ⇒ 16)
     ∷ []
 
 -- "Then Trading."
 abbrev pub openedStanding : Calendar → Standing → Standing
-openedStanding calendar standing = record { day = nextDay calendar standing; phase = Trading; status = nextStatus standing; failed = standing .failed; short = standing .short }
+openedStanding calendar standing = record {
+  day = nextDay calendar standing;
+  phase = Trading;
+  status = nextStatus standing;
+  failed = standing .failed;
+  short = standing .short;
+}
 
 unfoldable pub openedBook : Calendar → Book → List Trade → Book
 openedBook calendar book table =
-    withStanding (openedStanding calendar (book .standing))
-    (withNets (record { today = book .nets .today; cleared = cond (turnsTerminated (book .standing)) (netWithFallbacks calendar book table) (book .nets .cleared) }) book)
+    let cleared = cond (turnsTerminated (book .standing)) (netWithFallbacks calendar book table) (book .nets .cleared) in
+    withStanding (openedStanding calendar (book .standing)) (withNets (record { today = book .nets .today; cleared = cleared }) book)
 
 unfoldable pub openedTable : Book → List Trade → List Trade
-openedTable book table = cond (turnsTerminated (book .standing)) (over (book .trades) (map emptied (inUse (book .trades) table)) table) table
+openedTable book table =
+    cond (turnsTerminated (book .standing)) (over (book .trades) (map emptied (inUse (book .trades) table)) table) table

@@ -39,12 +39,12 @@ abbrev pub paidStanding : FailedRun → Standing → Standing
 paidStanding failed standing = record { day = standing .day; phase = Paid; status = standing .status; failed = failed; short = standing .short }
 
 -- "N waits for the next Pay with whatever is cleared since"; "Otherwise N and that run become 0."
-unfoldable pub paidBook : Bool → Book → Book
-paidBook true book = withStanding (paidStanding (failedMore (book .standing .failed)) (book .standing)) book
-paidBook false book =
+unfoldable pub afterPay : (failing : Bool) → Book → Book
+afterPay true book = withStanding (paidStanding (failedMore (book .standing .failed)) (book .standing)) book
+afterPay false book =
     withStanding (paidStanding NotFailed (book .standing))
     (withNets (record { today = book .nets .today; cleared = pos 0 }) (withCash (moved (book .nets .cleared) (book .cash)) book))
 
-abbrev pub payNumber : Bool → ℕ
+abbrev pub payNumber : (failing : Bool) → ℕ
 payNumber true = 99
 payNumber false = 0

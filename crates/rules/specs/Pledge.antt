@@ -1,4 +1,4 @@
--- "6 Pledge, in Trading: units arrive; cash moves from own into arriving. They count from the next close." (arts. 43, 47)
+-- "6 Pledge, in Trading: units arrive; cash moves from own into arriving. They count from the next close." (arts. 43, 47, 52)
 -- Assumes nothing.
 use Prim.Native.Nat.{ℕ, _+_, _-_}
 use mathlib.Core.Bool.{cond, not, _&&_}

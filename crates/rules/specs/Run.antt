@@ -20,14 +20,18 @@ see calendar book table entry = record { book = book; table = table; entry = ent
 unfoldable pub run : Calendar → Book → List Trade → List Entry → List Seen
 run calendar book table [] = []
 run calendar book table (entry ∷ entries) =
-    see calendar book table entry
-    ∷ run calendar (step calendar book table entry .book) (step calendar book table entry .table) entries
+    let next = step calendar book table entry in
+    see calendar book table entry ∷ run calendar (next .book) (next .table) entries
 
 -- the book and the table after the list
 unfoldable pub lastBook : Calendar → Book → List Trade → List Entry → Book
 lastBook calendar book table [] = book
-lastBook calendar book table (entry ∷ entries) = lastBook calendar (step calendar book table entry .book) (step calendar book table entry .table) entries
+lastBook calendar book table (entry ∷ entries) =
+    let next = step calendar book table entry in
+    lastBook calendar (next .book) (next .table) entries
 
 unfoldable pub lastTable : Calendar → Book → List Trade → List Entry → List Trade
 lastTable calendar book table [] = table
-lastTable calendar book table (entry ∷ entries) = lastTable calendar (step calendar book table entry .book) (step calendar book table entry .table) entries
+lastTable calendar book table (entry ∷ entries) =
+    let next = step calendar book table entry in
+    lastTable calendar (next .book) (next .table) entries

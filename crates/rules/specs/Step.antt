@@ -22,7 +22,7 @@ use Rattle.rules.specs.Freeze.{freezeCauses, frozen}
 use Rattle.rules.specs.Withdraw.{withdrawCauses, withdrawn}
 use Rattle.rules.specs.Initial.{initialCauses, initialBook, initialTable}
 use Rattle.rules.specs.Early.{earlyCauses, earlyBook, earlyTable}
-use Rattle.rules.specs.Pay.{payCauses, fails, paidBook, payNumber}
+use Rattle.rules.specs.Pay.{payCauses, fails, afterPay, payNumber}
 use Rattle.rules.specs.Close.{closeCauses, closeAnswer, closedBook, closedTable}
 
 -- what a call leaves: its answer, the book and the table
@@ -72,12 +72,14 @@ act calendar book table (Pledge kind units) = outcome (answer 0) (pledged book k
 act calendar book table (Freeze kind units) = outcome (answer 0) (frozen book kind units) table
 act calendar book table (Withdraw kind units) = outcome (answer 0) (withdrawn book kind units) table
 act calendar book table (Initial terms) = outcome (answer 0) (initialBook book terms) (initialTable calendar book table terms)
-act calendar book table (Early contract count price) = outcome (answer 0) (earlyBook calendar book table contract count price) (earlyTable book table contract count)
-act calendar book table Pay = outcome (answer (payNumber (fails book))) (paidBook (fails book) book) table
+act calendar book table (Early contract count price) =
+    outcome (answer 0) (earlyBook calendar book table contract count price) (earlyTable book table contract count)
+act calendar book table Pay = outcome (answer (payNumber (fails book))) (afterPay (fails book) book) table
 act calendar book table Close = outcome (closeAnswer book table) (closedBook calendar book table) (closedTable book table)
 
 abbrev pub actOn : Calendar → Book → List Trade → Entry → Outcome
 actOn calendar book table (Known event) = act calendar book table event
+-- never asked: 2 applies
 actOn calendar book table Undecodable = outcome (answer 0) book table
 
 -- a refused call leaves the book and the table as they were

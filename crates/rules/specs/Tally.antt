@@ -94,7 +94,16 @@ withFunds funds t = record { day = t .day; rows = t .rows; funds = funds; begun 
 
 -- "Open moves the day by its rule; if terminated, it takes each row whole at its fallback price", into cleared
 abbrev pub opened : (terminated : Bool) → Calendar → Tally → Tally
-opened false calendar t = record { day = dayAfter calendar (t .day); rows = t .rows; funds = t .funds; begun = t .begun; redeemed = t .redeemed; running = t .running; cleared = t .cleared; paid = t .paid }
+opened false calendar t = record {
+  day = dayAfter calendar (t .day);
+  rows = t .rows;
+  funds = t .funds;
+  begun = t .begun;
+  redeemed = t .redeemed;
+  running = t .running;
+  cleared = t .cleared;
+  paid = t .paid;
+}
 opened true calendar t = record {
   day = dayAfter calendar (t .day);
   rows = takenFrom whole (t .rows);
@@ -106,11 +115,22 @@ opened true calendar t = record {
   paid = t .paid;
 }
 
--- "Initial adds its sheets to begun and a row, and takes 10,000q from running."
+-- the fields of a trade's record
+abbrev pub rowOf : Terms → (first : ℕ) → Row
+rowOf terms first = record {
+  contract = terms .contract;
+  sheets = terms .sheets;
+  price = terms .price;
+  fallback = terms .fallback;
+  first = first;
+  due = terms .due;
+}
+
+-- "Initial adds its sheets to begun and a row (a record's fields), and takes 10,000q from running."
 abbrev pub began : Calendar → Terms → Tally → Tally
 began calendar terms t = record {
   day = t .day;
-  rows = withoutEmpty (t .rows ++ (record { contract = terms .contract; sheets = terms .sheets; price = terms .price; fallback = terms .fallback; first = paidOn calendar (t .day); due = terms .due } ∷ []));
+  rows = withoutEmpty (t .rows ++ (rowOf terms (paidOn calendar (t .day)) ∷ []));
   funds = t .funds;
   begun = t .begun + terms .sheets .0;
   redeemed = t .redeemed;

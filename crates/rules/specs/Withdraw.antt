@@ -1,4 +1,4 @@
--- "8 Withdraw, in Trading: puts an application down." It is looked at in the evening. (arts. 50 to 53)
+-- "8 Withdraw, in Trading: puts an application down." It is looked at in the evening. (arts. 45, 50 to 53)
 -- Assumes nothing.
 use Prim.Native.Nat.{ℕ, _+_}
 use mathlib.Core.Bool.{cond, not}

@@ -6,7 +6,7 @@ use lib.IntN.{natAbs}
 use mir.Val.{toZ, ofZ}
 use mir.Syntax.{w64}
 use mir.ValLaws.{toZ-ofZ}
-use Rattle.rules.specs.Listing.{isNegative}
+use Rattle.rules.specs.Listing.{signOf}
 use lib.ListN.{length-set}
 use Rattle.core.proofs.LineLaws.{seven-in-a-row}
 use Rattle.core.proofs.line.write_line.Statement.{statement}
@@ -96,7 +96,7 @@ returns c =
       rw (read (sized .before .before .before)) at (sized .before .before .sign-of .ensures),
       rw (read (sized .before .before .before)) at (sized .size-of .ensures),
     )
-    (seven-in-a-row (a .lines .now) (a .at) (a .number) (isNegative (a .cover .headroom)) (natAbs (a .cover .headroom)) (a .cover .outstanding .0) (a .cash .own .0) (a .cash .client .0) (a .guarantee .effective .0 + a .guarantee .arriving .0))
+    (seven-in-a-row (a .lines .now) (a .at) (a .number) (signOf (a .cover .headroom)) (natAbs (a .cover .headroom)) (a .cover .outstanding .0) (a .cash .own .0) (a .cash .client .0) (a .guarantee .effective .0 + a .guarantee .arriving .0))
 
 pub write-line-spec : {M : Type 1} → statement M
 write-line-spec =

@@ -1,5 +1,5 @@
 use borrow.Author.Needs.{needs}
-use Rattle.rules.specs.Pay.{paidBook}
+use Rattle.rules.specs.Pay.{afterPay}
 use Rattle.core.proofs.pay.paid.Statement.{statement}
 use Rattle.core.proofs.pay.paid.Tie as tie
 
@@ -13,7 +13,7 @@ paid-standing-requires : tie.Need-paid-standing-requires
 paid-standing-requires c κs = search needs
 
 returns : tie.Need-returns
-unfolding paidBook
+unfolding afterPay
 returns c rows = rw (c .paid-standing .ensures, c .before .cash-moved .ensures, c .before .before .settled .ensures)
 
 pub paid-spec : {M : Type 1} → statement M

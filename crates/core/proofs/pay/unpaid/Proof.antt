@@ -1,5 +1,5 @@
 use borrow.Author.Needs.{needs}
-use Rattle.rules.specs.Pay.{paidBook}
+use Rattle.rules.specs.Pay.{afterPay}
 use Rattle.core.proofs.pay.unpaid.Statement.{statement}
 use Rattle.core.proofs.pay.unpaid.Tie as tie
 
@@ -10,7 +10,7 @@ paid-standing-requires : tie.Need-paid-standing-requires
 paid-standing-requires c κs = search needs
 
 returns : tie.Need-returns
-unfolding paidBook
+unfolding afterPay
 returns c rows = rw (c .paid-standing .ensures, c .before .failed-more .ensures)
 
 pub unpaid-spec : {M : Type 1} → statement M

@@ -12,7 +12,7 @@ use Rattle.journal.proofs.listing.write_listing.Statement.{statement}
 use Rattle.journal.proofs.listing.write_listing.Tie as tie
 
 is-journal : (c : tie.After-words) → Journal (c .before .before .before .before .before .args .journal .now) (c .words .given .0 .0) (c .words .given .0 .1 .0)
-is-journal c = journal _ _ _ (sym (c .before .before .sections-of .ensures) ∙ c .words .given .1)
+is-journal c = journal _ _ _ (sym (c .before .before .sections-of .ensures .0) ∙ c .words .given .1)
 
 calendar-read : (c : tie.After-read-words) → take (c .before .before .before .words .given .0 .0) (c .read-words .last .1 .1 .1 .0) ≡ calendarOf (c .before .before .before .before .before .before .before .before .args .journal .now)
 calendar-read c = words-taken _ _ _ (is-journal (c .before .before .before)) _ _ (c .read-words .ensures)
@@ -33,7 +33,7 @@ same-length : tie.Need-same-length
 same-length c = search needs
 
 returns : tie.Need-returns
-returns c = rw (refused-text _ (no-journal _ (sym (c .before .before .before .before .before .before .sections-of .ensures) ∙ c .before .before .before .before .enum-told .given .1) .first)) at (c .before .before .write-refused .ensures)
+returns c = rw (refused-text _ (no-journal _ (sym (c .before .before .before .before .before .before .sections-of .ensures .0) ∙ c .before .before .before .before .enum-told .given .1) .first)) at (c .before .before .write-refused .ensures)
 
 slice-aggregate-read-words : tie.Need-slice-aggregate-read-words
 slice-aggregate-read-words c = search needs

@@ -1,7 +1,7 @@
 -- `reader::section_from` meets its contract: a walk of its MIR, by hand. A reader that `new` returns is held in a local and passed to `moved`, and what that returns to `section`. All that the proof knows of the three is that each meets its contract.
 -- The machine values that `new` and `moved` return are stored and passed on as they are. In a local of a body MIR erases the lifetime of the struct's type, so the value is shown to have the type at `erased`: what the struct owns does not say the lifetime's name.
 -- Assumes nothing.
-use mathlib.Core.Path.{_≡_, refl, ap, _∙_}
+use mathlib.Core.Path.{_≡_, refl, subst, _∙_}
 use Prim.Native.Nat.{ℕ, _<_, _^_}
 use mathlib.Core.List.{List, [], _∷_}
 use lib.ListN.{length}
@@ -38,7 +38,7 @@ use denote.Triple.Table.{entered, cited}
 use denote.Triple.Walked.{says, Stays, stay-none, stay-none-slice, walkOf, goes-none, goes-none-slice, Walks, ends-at, walked, walk-meets}
 use denote.Exit.{yes}
 use denote.Triple.Clauses.{ensured, lasts}
-use Rattle.journal.specs.Sections.{sectionAt}
+use Rattle.journal.specs.Sections.{IsSectionAt}
 use Rattle.journal.specs.declared.reader.Reader.{Reader}
 use Rattle.journal.specs.declared.section.Section.{Section}
 use Rattle.journal.proofs.reader.Reader as T
@@ -88,8 +88,8 @@ module _ {M : Type 1} (𝓤 : URA M) (H : Heap 𝓤) (A : Atoms 𝓤) (W : Given
   abbrev at : Vals whole.signature (κ, tt)
   at = (v ∷ [], (vint w64 n ∷ [], (vint w32 limit ∷ [], (vint w32 width ∷ [], tt))))
 
-  abbrev found : Section
-  found = sectionAt limit width n (now s)
+  abbrev Found : Section → Type 0
+  Found t = IsSectionAt limit width n (now s) t
 
   -- the struct's type as a local of a body has it
   abbrev αᵉ : NamedLft
@@ -133,10 +133,10 @@ module _ {M : Type 1} (𝓤 : URA M) (H : Heap 𝓤) (A : Atoms 𝓤) (W : Given
   goes-section : (r : Reader) (u : Val) → ent 𝓤 (⋆ 𝓤 H A (‵ (B (κ, tt) .own r (u ∷ [])) ∷ (‵ (flft κ q) ⊛ ‵ ftrue) ∷ [])) (Section′ 𝓤 H A mem run .pre (to-section r u))
   goes-section r u = qed W (‵ (B (κ, tt) .own r (u ∷ [])) ∷ (‵ (flft κ q) ⊛ ‵ ftrue) ∷ []) ∵ nothing ! $ owned ! u32 (Is u32) (uint-makes 𝓤 H A W w32) width _ (refl, width-fits) $ fjoin ! $ owned ! u32 (Is u32) (uint-makes 𝓤 H A W w32) limit _ (refl, limit-fits) $ fjoin ! $ move ! (1 ∷ 0 ∷ []) $ fjoin ! $ move ! (1 ∷ 0 ∷ []) $ join ! $ frame ! $ done !
 
-  section-said : (r : Reader) (t : Section) → ent 𝓤 (ensured 𝓤 H A section.ended (section.clauses 𝓤 H A mem run) (κ, tt) (r, (limit, (width, tt))) tt t) (fact 𝓤 (t ≡ sectionAt limit width (r .at) (now (r .journal))))
-  section-said r t = exE 𝓤 _ (λ ws. snd∗ 𝓤 (sem 𝓤 H A (lasts section.ended (κ, tt) (r, (limit, (width, tt))) ws)) (fact 𝓤 (t ≡ sectionAt limit width (r .at) (now (r .journal)))))
+  section-said : (r : Reader) (t : Section) → ent 𝓤 (ensured 𝓤 H A section.ended (section.clauses 𝓤 H A mem run) (κ, tt) (r, (limit, (width, tt))) tt t) (fact 𝓤 (IsSectionAt limit width (r .at) (now (r .journal)) t))
+  section-said r t = exE 𝓤 _ (λ ws. snd∗ 𝓤 (sem 𝓤 H A (lasts section.ended (κ, tt) (r, (limit, (width, tt))) ws)) (fact 𝓤 (IsSectionAt limit width (r .at) (now (r .journal)) t)))
 
-  exits : (t : Section) (u : Val) → t ≡ found → ent 𝓤 (⋆ 𝓤 H A (‵ (S.the-row .own t (u ∷ [])) ∷ (‵ (flft κ q) ⊛ ‵ ftrue) ∷ ‵ Own ∷ [])) (Post u)
+  exits : (t : Section) (u : Val) → Found t → ent 𝓤 (⋆ 𝓤 H A (‵ (S.the-row .own t (u ∷ [])) ∷ (‵ (flft κ q) ⊛ ‵ ftrue) ∷ ‵ Own ∷ [])) (Post u)
   exits t u e =
       qed W (‵ (S.the-row .own t (u ∷ [])) ∷ (‵ (flft κ q) ⊛ ‵ ftrue) ∷ ‵ Own ∷ []) ∵
       suffices ! _ (ends-at 𝓤 H A whole.ended stayed (whole.clauses 𝓤 H A mem run) W (((κ, tt), (q, tt), tt, (s, (n, (limit, (width, tt)))), at), tt) u t (tt, (tt, (tt, (tt, tt)))) (tt, (tt, (tt, (tt, tt))))) $ says ! e $
@@ -164,13 +164,13 @@ module _ {M : Type 1} (𝓤 : URA M) (H : Heap 𝓤) (A : Atoms 𝓤) (W : Given
         use2 W (raw (Section′ 𝓤 H A mem run .pre (to-section r₂ u₂))) (goes-section r₂ u₂) $
         calls-at ! fm (Section′ 𝓤 H A mem run) known-section (to-section r₂ u₂) (and-then ! (load ! (from ! (stop !)) (look ! 4 refl)) (and-then ! (load ! (from ! (stop !)) (look ! 8 refl)) (and-then ! (load ! (from ! (stop !)) (look ! 6 refl)) (no-more !)))) (λ u′.
         use1 W (later (some (λ (t : Section). ((‵ (flft κ q) ⊛ ‵ ftrue) ⊛ ‵ (S.the-row .own t (u′ ∷ []))) ⊛ raw (ensured 𝓤 H A section.ended (section.clauses 𝓤 H A mem run) (κ, tt) (r₂, (limit, (width, tt))) tt t)))) (id⊢ 𝓤 _) $ await ! tt $ pick ! (λ t.
-        split ! $ move ! (1 ∷ []) $ use1 W (raw (fact 𝓤 (t ≡ sectionAt limit width (r₂ .at) (now (r₂ .journal))))) (section-said r₂ t) $ heard ! (t ≡ sectionAt limit width (r₂ .at) (now (r₂ .journal))) (λ e′. split ! $ move ! (1 ∷ []) $
+        split ! $ move ! (1 ∷ []) $ use1 W (raw (fact 𝓤 (IsSectionAt limit width (r₂ .at) (now (r₂ .journal)) t))) (section-said r₂ t) $ heard ! (IsSectionAt limit width (r₂ .at) (now (r₂ .journal)) t) (λ e′. split ! $ move ! (1 ∷ []) $
         -- [the result; the token; what s owns; _6; …; _5; …; _4; …; _3; …; _2; …; _1; …; room for _0; …]
         peeks ! S.the-row (Is S.the-row) (shows 𝓤 H A S.the-row) t (u′ ∷ []) (λ is′.
         land ! (from ! (stop !)) (init ! 15 refl (EL.lawful S.the-type S′.the-laws 𝓤 H A W tt .typed t _ is′ .0)) $
         returns ! (look ! 15 refl) $ forget ! 3 refl $ forget ! 5 refl $ forget ! 7 refl $ forget ! 9 refl $ forget ! 11 refl $ forget ! 13 refl $ forget ! 15 refl $
         move ! (15 ∷ 16 ∷ []) $ free1 ! $ move ! (13 ∷ 14 ∷ []) $ free1 ! $ move ! (11 ∷ 12 ∷ []) $ free1 ! $ move ! (9 ∷ 10 ∷ []) $ free1 ! $ move ! (7 ∷ 8 ∷ []) $ free1 ! $ move ! (5 ∷ 6 ∷ []) $ free1 ! $ move ! (3 ∷ 4 ∷ []) $ free1 ! $ free0 ! $
-        by ! (exits t u′ (e′ ∙ (ap (λ (x : RefT (List ℕ)). sectionAt limit width (r₂ .at) (now x)) (e₂ .0 ∙ e .0) ∙ ap (λ (k : ℕ). sectionAt limit width k (now s)) (e₂ .1)))))))))))))))))))))))
+        by ! (exits t u′ (subst (λ (k : ℕ). IsSectionAt limit width k (now s) t) (e₂ .1) (subst (λ (x : RefT (List ℕ)). IsSectionAt limit width (r₂ .at) (now x) t) (e₂ .0 ∙ e .0) e′))))))))))))))))))))))
 
 module _ {M : Type 1} (𝓤 : URA M) (H : Heap 𝓤) (A : Atoms 𝓤) (W : Given 𝓤 H A) (mem : Memory → SProp 𝓤) (run : Routine → Fun 𝓤) where
   section-from-walks : (C : Calls 𝓤 H) (Λ : Loops 𝓤 H) → FmC 𝓤 H (W .laws) C → Triple 𝓤 (C #journal·new) (New 𝓤 H A mem run) → Triple 𝓤 (C #journal·moved) (Moved 𝓤 H A mem run) → Triple 𝓤 (C #journal·section) (Section′ 𝓤 H A mem run)

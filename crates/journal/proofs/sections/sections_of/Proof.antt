@@ -2,15 +2,15 @@ use mathlib.Core.Path.{sym, _∙_}
 use Prim.Native.Nat.{_+_, _*_}
 use native.Mathlib.Omega.{arith}
 use borrow.Author.Needs.{needs}
-use Rattle.journal.proofs.SectionLaws.{Read, read, calendar-cut, events-cut, left-over, ended}
+use Rattle.journal.proofs.SectionLaws.{Read, read, calendar-cut, events-cut, left-over, ended, both-told}
 use Rattle.journal.proofs.sections.sections_of.Statement.{statement}
 use Rattle.journal.proofs.sections.sections_of.Tie as tie
 
 abbrev calendar-read : (c : tie.After-words) → Read 1200 4 0 (c .before .before .before .before .args .journal .now) (c .words .given .0 .0)
-calendar-read c = read _ _ _ _ _ (sym (c .before .before .section-from .ensures) ∙ c .words .given .1)
+calendar-read c = read _ _ _ _ _ (sym (c .before .before .section-from .ensures .0) ∙ c .words .given .1)
 
 abbrev events-read : (c : tie.After-events) → Read 1500 40 (4 + c .before .before .before .before .words .given .0 .0 * 4) (c .before .before .before .before .before .before .before .before .args .journal .now) (c .events .given .0 .0)
-events-read c = read _ _ _ _ _ (sym (c .before .before .section-from2 .ensures) ∙ c .events .given .1)
+events-read c = read _ _ _ _ _ (sym (c .before .before .section-from2 .ensures .0) ∙ c .events .given .1)
 
 section-from-requires : tie.Need-section-from-requires
 section-from-requires c κs = search needs
@@ -22,7 +22,7 @@ enum-told : tie.Need-enum-told
 enum-told c = search needs
 
 returns : tie.Need-returns
-returns c = calendar-cut _ (sym (c .before .before .section-from .ensures) ∙ c .enum-told .given .1)
+returns c = both-told _ (calendar-cut _ (sym (c .before .before .section-from .ensures .0) ∙ c .enum-told .given .1))
 
 mul-at : tie.Need-mul-at
 mul-at c = omega (arith, calendar-read (c .before) .high)
@@ -40,7 +40,7 @@ enum-told-2 : tie.Need-enum-told-2
 enum-told-2 c = search needs
 
 returns-2 : tie.Need-returns-2
-returns-2 c = events-cut _ _ (calendar-read (c .before .before .before .before)) (sym (c .before .before .section-from2 .ensures) ∙ c .enum-told2 .given .1)
+returns-2 c = both-told _ (events-cut _ _ (calendar-read (c .before .before .before .before)) (sym (c .before .before .section-from2 .ensures .0) ∙ c .enum-told2 .given .1))
 
 add-if1 : tie.Need-add-if1
 add-if1 c = omega (arith, calendar-read (c .before .before .before .before .before) .high, events-read (c .before) .high)
@@ -52,10 +52,10 @@ add-if1-2 : tie.Need-add-if1-2
 add-if1-2 c = omega (arith, calendar-read (c .before .before .before .before .before) .high, events-read (c .before) .high)
 
 returns-3 : tie.Need-returns-3
-returns-3 c = left-over _ _ (calendar-read (c .before .before .before .before .before .before)) _ (events-read (c .before .before)) (c .if1 .taken)
+returns-3 c = both-told _ (left-over _ _ (calendar-read (c .before .before .before .before .before .before)) _ (events-read (c .before .before)) (c .if1 .taken))
 
 returns-4 : tie.Need-returns-4
-returns-4 c = ended _ _ (calendar-read (c .before .before .before .before .before .before)) _ (events-read (c .before .before)) (c .if1 .left)
+returns-4 c = both-told _ (ended _ _ (calendar-read (c .before .before .before .before .before .before)) _ (events-read (c .before .before)) (c .if1 .left))
 
 pub sections-of-spec : {M : Type 1} → statement M
 sections-of-spec =
