@@ -1,8 +1,19 @@
--- A book in plain numbers: no enum crosses to C, so each of its cases is told by its place, from 0. A number past the last place is read as the last.
+-- A book in plain numbers: no enum crosses to C, so each of its cases is told by its place, from 0. A page whose marks tell no case tells no book.
 -- Assumes nothing.
 use Prim.Native.Nat.{ℕ}
-use mathlib.Core.Bool.{Bool, true, false, cond}
-use lib.Dec.{eqb}
+use mathlib.Core.Bool.{Bool, true, false, cond, _||_}
+use mathlib.Core.List.{List, [], _∷_}
+use lib.Dec.{leb, eqb}
+use Rattle.money.specs.Days.{Calendar}
+use Rattle.rules.specs.Folds.{every}
+use Rattle.rules.specs.Book.{answer}
+use Rattle.rules.specs.Step.{Outcome, step}
+use Rattle.rules.specs.Cover.{uncounted, coverOf}
+use Rattle.rules.specs.Listing.{RunOutcome, runOutcome}
+use Rattle.rules.specs.declared.answer.Answer.{Answer}
+use Rattle.rules.specs.declared.answer.Cover.{Cover}
+use Rattle.rules.specs.declared.event.Entry.{Entry}
+use Rattle.rules.specs.declared.trade.Trade.{Trade}
 use Rattle.rules.specs.declared.book.Book.{Book}
 use Rattle.rules.specs.declared.book.Standing.{Standing}
 use Rattle.rules.specs.declared.book.Day.{Day}
@@ -17,6 +28,19 @@ use Rattle.rules.specs.declared.book.ShortRun.{ShortRun}
 use Rattle.rules.specs.declared.book.ShortRun.the-variants.{NotShort, ShortOnce, ShortTwice, ShortThrice}
 use Rattle.exports.specs.declared.page.Marks.{Marks}
 use Rattle.exports.specs.declared.page.Page.{Page}
+
+-- ---- the pages that tell a book
+
+-- "a phase (Closed, Trading, Paid); a status (normal, suspended, terminated)", "a run of failed payments (0 to 2) and of short closes (0 to 3)"; a day has its number only where there is one
+unfoldable pub isTold : Marks → Bool
+isTold marks =
+    every
+    (leb (marks .phase) 2
+    ∷ leb (marks .status) 2
+    ∷ leb (marks .failed) 2
+    ∷ leb (marks .short) 3
+    ∷ (marks .dated || eqb (marks .day) 0)
+    ∷ [])
 
 -- ---- a book from its page
 
@@ -106,3 +130,34 @@ pageOf book = record {
   withdrawals = book .withdrawals;
   trades = book .trades;
 }
+
+-- ---- what a call on a page gives: a page that tells no book tells none that is fit, so the answer is 1, and all is as it was
+
+pub record PageOutcome : Type 0 where
+  pub answer : Answer
+  pub page : Page
+  pub table : List Trade
+
+abbrev pub onPage : Outcome → PageOutcome
+onPage left = record { answer = left .answer; page = pageOf (left .book); table = left .table }
+
+unfoldable pub stepOn : Calendar → Page → List Trade → Entry → PageOutcome
+stepOn calendar page table entry =
+    cond (isTold (page .marks)) (onPage (step calendar (bookOn page) table entry)) (record { answer = answer 1; page = page; table = table })
+
+unfoldable pub coverOn : Calendar → Page → List Trade → Cover
+coverOn calendar page table = cond (isTold (page .marks)) (coverOf calendar (bookOn page) table) uncounted
+
+pub record PageRun : Type 0 where
+  pub number : ℕ
+  pub page : Page
+  pub table : List Trade
+  pub lines : List ℕ
+
+abbrev pub runOnPage : RunOutcome → PageRun
+runOnPage left = record { number = left .ran .number; page = pageOf (left .ran .book); table = left .table; lines = left .lines }
+
+unfoldable pub runOn : Calendar → Page → List Trade → (bytes buffer : List ℕ) → PageRun
+runOn calendar page table bytes buffer =
+    cond (isTold (page .marks)) (runOnPage (runOutcome calendar (bookOn page) table bytes buffer))
+    (record { number = 1; page = page; table = table; lines = buffer })

@@ -3,17 +3,15 @@ ghost use mathlib.Core.Path.{_≡_};
 ghost use lib.ListN.{length};
 ghost use Rattle.money.specs.Causes.{firstOf, numberOf};
 ghost use Rattle.rules.specs.Entry.{decoded};
-ghost use Rattle.rules.specs.Step.{step};
-ghost use Rattle.rules.specs.Cover.{coverOf};
-ghost use Rattle.rules.specs.Listing.{listingOf, listingCauses, writtenBy, runOutcome};
-ghost use Rattle.exports.specs.Page.{bookOn, pageOf};
+ghost use Rattle.rules.specs.Listing.{listingOf, listingCauses, writtenBy};
+ghost use Rattle.exports.specs.Page.{stepOn, coverOn, runOn};
 use crate::page;
 use crate::page::Page;
 use rules::answer::Answer;
 use rules::answer::Cover;
 use rules::trade::Trade;
 
-// One event, as its 40 bytes, on any book and any table.
+// One event, as its 40 bytes, on any page and any table.
 #[no_mangle]
 pub extern "C" fn book_apply(
     calendar: &[u32],
@@ -22,20 +20,20 @@ pub extern "C" fn book_apply(
     event: &[u8],
 ) -> Answer
     ensures { λ r.
-        let book = bookOn (now (page .entry)) in
-        let next = step (now (calendar .entry)) book (now (table .entry)) (decoded (now (event .entry))) in
+        let next = stepOn (now (calendar .entry)) (now (page .entry)) (now (table .entry)) (decoded (now (event .entry))) in
         ⌜ (r ≡ next .answer)
-        × (now (page .exit) ≡ pageOf (next .book))
+        × (now (page .exit) ≡ next .page)
         × (now (table .exit) ≡ next .table) ⌝ }
 {
-    let book = page::book_on(*page);
+    let before = *page;
+    let book = page::book_given(before);
     let entry = decoder::entry::decode(event);
     let applied = book::table::apply(calendar, book, table, entry);
-    *page = page::page_after(applied);
+    *page = page::page_after(before, applied);
     page::answer_of(applied)
 }
 
-// Encoded events, 40 bytes each, on any book and any table, and a line of seven numbers for each.
+// Encoded events, 40 bytes each, on any page and any table, and a line of seven numbers for each.
 #[no_mangle]
 pub extern "C" fn book_run(
     calendar: &[u32],
@@ -45,25 +43,25 @@ pub extern "C" fn book_run(
     lines: &mut [u64],
 ) -> u8
     ensures { λ r.
-        let book = bookOn (now (page .entry)) in
-        let ended = runOutcome (now (calendar .entry)) book (now (table .entry)) (now (events .entry)) (now (lines .entry)) in
-        ⌜ (r ≡ ended .ran .number)
-        × (now (page .exit) ≡ pageOf (ended .ran .book))
+        let ended = runOn (now (calendar .entry)) (now (page .entry)) (now (table .entry)) (now (events .entry)) (now (lines .entry)) in
+        ⌜ (r ≡ ended .number)
+        × (now (page .exit) ≡ ended .page)
         × (now (table .exit) ≡ ended .table)
         × (now (lines .exit) ≡ ended .lines) ⌝ }
 {
-    let book = page::book_on(*page);
+    let before = *page;
+    let book = page::book_given(before);
     let ran = book::table::run(calendar, book, table, events, lines);
-    *page = page::page_ran(ran);
+    *page = page::page_ran(before, ran);
     page::number_of(ran)
 }
 
-// Headroom and O of any book over any table.
+// Headroom and O of any page over any table.
 #[no_mangle]
 pub extern "C" fn book_cover(calendar: &[u32], page: &Page, table: &[Trade]) -> Cover
-    ensures { λ r. ⌜ r ≡ coverOf (now (calendar .entry)) (bookOn (now (page .entry))) (now (table .entry)) ⌝ }
+    ensures { λ r. ⌜ r ≡ coverOn (now (calendar .entry)) (now (page .entry)) (now (table .entry)) ⌝ }
 {
-    let book = page::book_on(*page);
+    let book = page::book_given(*page);
     book::table::cover(calendar, book, table)
 }
 

@@ -1,6 +1,7 @@
 // A book in plain numbers, and back: no enum crosses to C, so each of its cases is told by its place, from 0.
 ghost use mathlib.Core.Path.{_≡_};
-ghost use Rattle.exports.specs.Page.{dayAt, phaseAt, statusAt, failedAt, shortAt, standingAt, bookOn, isDated, dayNumber, phaseNumber, statusNumber, failedNumber, shortNumber, marksOf, pageOf};
+ghost use Rattle.exports.specs.Page.{isTold, dayAt, phaseAt, statusAt, failedAt, shortAt, standingAt, isDated, dayNumber, phaseNumber, statusNumber, failedNumber, shortNumber, marksOf, pageOf};
+ghost use Rattle.exports.specs.Given.{tradesGiven, bookGiven, pageAfter};
 use money::units::Sheets;
 use rules::answer::Answer;
 use rules::answer::Applied;
@@ -37,6 +38,28 @@ pub struct Page {
     pub marks: Marks,
     pub withdrawals: Withdrawals,
     pub trades: usize,
+}
+
+// Whether each mark tells a case, and a day has its number only where there is one.
+pub fn is_told(marks: Marks) -> bool
+    ensures { λ r. ⌜ r ≡ isTold marks ⌝ }
+{
+    if marks.phase > 2 {
+        return false;
+    }
+    if marks.status > 2 {
+        return false;
+    }
+    if marks.failed > 2 {
+        return false;
+    }
+    if marks.short > 3 {
+        return false;
+    }
+    if marks.dated {
+        return true;
+    }
+    marks.day == 0
 }
 
 fn day_at(dated: bool, day: u32) -> Day
@@ -101,8 +124,19 @@ pub fn standing_at(marks: Marks) -> Standing
     }
 }
 
-pub fn book_on(page: Page) -> Book
-    ensures { λ r. ⌜ r ≡ bookOn page ⌝ }
+// For a page that tells no book, one more than a table may have slots.
+fn trades_given(marks: Marks, trades: usize) -> usize
+    ensures { λ r. ⌜ r ≡ tradesGiven marks trades ⌝ }
+{
+    if is_told(marks) {
+        return trades;
+    }
+    4_097
+}
+
+// The page's book; for a page that tells none, one that is not fit.
+pub fn book_given(page: Page) -> Book
+    ensures { λ r. ⌜ r ≡ bookGiven page ⌝ }
 {
     let nets = page.nets;
     let cash = page.cash;
@@ -116,7 +150,7 @@ pub fn book_on(page: Page) -> Book
         size,
         standing: standing_at(page.marks),
         withdrawals,
-        trades: page.trades,
+        trades: trades_given(page.marks, page.trades),
     }
 }
 
@@ -217,12 +251,21 @@ fn page_of(book: Book) -> Page
     }
 }
 
+fn page_left(page: Page, book: Book) -> Page
+    ensures { λ r. ⌜ r ≡ pageAfter page book ⌝ }
+{
+    if is_told(page.marks) {
+        return page_of(book);
+    }
+    page
+}
+
 // What an event and a run leave, in two parts: the proofs of the calls over a lent table only hand it on.
-pub fn page_after(applied: Applied) -> Page
-    ensures { λ r. ⌜ r ≡ pageOf (applied .book) ⌝ }
+pub fn page_after(page: Page, applied: Applied) -> Page
+    ensures { λ r. ⌜ r ≡ pageAfter page (applied .book) ⌝ }
 {
     let book = applied.book;
-    page_of(book)
+    page_left(page, book)
 }
 
 pub fn answer_of(applied: Applied) -> Answer
@@ -231,11 +274,11 @@ pub fn answer_of(applied: Applied) -> Answer
     applied.answer
 }
 
-pub fn page_ran(ran: Ran) -> Page
-    ensures { λ r. ⌜ r ≡ pageOf (ran .book) ⌝ }
+pub fn page_ran(page: Page, ran: Ran) -> Page
+    ensures { λ r. ⌜ r ≡ pageAfter page (ran .book) ⌝ }
 {
     let book = ran.book;
-    page_of(book)
+    page_left(page, book)
 }
 
 pub fn number_of(ran: Ran) -> u8

@@ -1,13 +1,16 @@
 // What is small of a book, in plain numbers: its securities, its applications and its table are lent as rows of numbers.
 ghost use mathlib.Core.Path.{_≡_};
-ghost use Rattle.exports.specs.Slate.{deskOn, slateOf};
+ghost use Rattle.rules.specs.Cover.{uncounted};
+ghost use Rattle.exports.specs.Slate.{deskOn, slateOf, refused, refusedRun};
 use crate::page;
 use crate::page::Marks;
 use core::lent::Ended;
+use desk::done;
 use desk::done::Done;
 use desk::state::Desk;
 use money::units::Sheets;
 use rules::answer::Answer;
+use rules::answer::Cover;
 use rules::book::Cash;
 use rules::book::Guarantee;
 use rules::book::Nets;
@@ -90,5 +93,30 @@ pub fn left_by_run(ended: Ended) -> RunLeft
     RunLeft {
         number: ended.number,
         slate: slate_of(ended.desk),
+    }
+}
+
+// What the calls answer to a slate that tells no book.
+pub fn refused(slate: Slate) -> Left
+    ensures { λ r. ⌜ r ≡ refused slate ⌝ }
+{
+    let done = done::answered(1, desk_on(slate));
+    let answer = done.answer;
+    Left { answer, slate }
+}
+
+pub fn refused_run(slate: Slate) -> RunLeft
+    ensures { λ r. ⌜ r ≡ refusedRun slate ⌝ }
+{
+    RunLeft { number: 1, slate }
+}
+
+pub fn uncounted() -> Cover
+    ensures { λ r. ⌜ r ≡ uncounted ⌝ }
+{
+    Cover {
+        number: 1,
+        headroom: 0,
+        outstanding: Sheets(0),
     }
 }

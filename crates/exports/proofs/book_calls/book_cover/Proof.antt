@@ -51,13 +51,14 @@ use Rattle.book.proofs.table.cover.Symbol as cover-def
 use Rattle.book.proofs.table.cover.Symbol.{name as #cover}
 use Rattle.book.proofs.table.cover.Met as cover-thm
 use Rattle.exports.specs.declared.page.Page.{Page}
-use Rattle.exports.specs.Page.{bookOn}
+use Rattle.exports.specs.Given.{bookGiven}
 use Rattle.exports.proofs.page.Page as Pg
 use Rattle.exports.proofs.page.Page.Laws as Pg′
-use Rattle.exports.proofs.WalkPage.{page-val, book-val, BookOn, to-book-on, goes-book-on, GetsBook, gets-book}
-use Rattle.exports.proofs.page.book_on.Symbol as book-on-def
-use Rattle.exports.proofs.page.book_on.Symbol.{name as #book-on}
-use Rattle.exports.proofs.page.book_on.Met as book-on-thm
+use Rattle.exports.proofs.PageLaws.{cover-given}
+use Rattle.exports.proofs.WalkPage.{page-val, book-val, BookGiven, to-book-given, goes-book-given, GetsBook, gets-book}
+use Rattle.exports.proofs.page.book_given.Symbol as book-given-def
+use Rattle.exports.proofs.page.book_given.Symbol.{name as #book-given}
+use Rattle.exports.proofs.page.book_given.Met as book-given-thm
 use Rattle.exports.proofs.book_calls.book_cover.Key.{name as #book-cover}
 use Rattle.exports.proofs.book_calls.book_cover as f
 use Rattle.exports.proofs.book_calls.book_cover.Statement as stated
@@ -67,7 +68,7 @@ use Rattle.exports.proofs.book_calls.book_cover.Code.Mir as mirs
 abbrev stayed : Stays (f.ended .signature .params) (f.ended .kept)
 stayed = (stay-none-slice (0 ∷ []) tt (plain (λ _. u32)) yes, (stay-none-ref (1 ∷ []) tt (plain (λ _. Pg.the-row)) yes, (stay-none-slice (2 ∷ []) tt (plain (λ _. T.the-row)) yes, tt)))
 
--- the contract that the walk cites beside that of `book_on`
+-- the contract that the walk cites beside that of `book_given`
 abbrev Counts : {M : Type 1} (𝓤 : URA M) (H : Heap 𝓤) (A : Atoms 𝓤) (mem : Memory → SProp 𝓤) (run : Routine → Fun 𝓤) → Contract 𝓤
 Counts 𝓤 H A mem run = tripleOf 𝓤 H A cover.signature (cover.spec 𝓤 H A mem run)
 
@@ -79,7 +80,7 @@ module _ {M : Type 1} (𝓤 : URA M) (H : Heap 𝓤) (A : Atoms 𝓤) (W : Given
   x = (cal, (record { ptr = (b₁, o₁); name = γ₁; now = pg }, (table, tt)))
 
   abbrev bk : Book
-  bk = bookOn pg
+  bk = bookGiven pg
 
   -- what is answered
   abbrev answer : Cover
@@ -114,7 +115,7 @@ module _ {M : Type 1} (𝓤 : URA M) (H : Heap 𝓤) (A : Atoms 𝓤) (W : Given
   exits : Is Co.the-row answer (av ∷ []) → ent 𝓤 (⋆ 𝓤 H A (‵ (flft κ₁ q₁) ∷ Params [])) (Post av)
   exits ga =
       qed W (‵ (flft κ₁ q₁) ∷ Params []) ∵
-      suffices ! _ (ends-at 𝓤 H A f.ended stayed (f.clauses 𝓤 H A mem run) W (((κ, (κ₁, (κ₂, tt))), (q, (q₁, (q₂, tt))), tt, x, at), tt) av answer (tt, (tt, (tt, tt))) (tt, (tt, (tt, tt)))) $ says ! refl $
+      suffices ! _ (ends-at 𝓤 H A f.ended stayed (f.clauses 𝓤 H A mem run) W (((κ, (κ₁, (κ₂, tt))), (q, (q₁, (q₂, tt))), tt, x, at), tt) av answer (tt, (tt, (tt, tt))) (tt, (tt, (tt, tt)))) $ says ! (cover-given (now cal) pg (now table)) $
       nothing ! $ move ! (4 ∷ 0 ∷ []) $ join ! $ move ! (1 ∷ 0 ∷ []) $ join ! $ move ! (3 ∷ 0 ∷ []) $ join ! $ frame ! $
       -- [the fractured borrow; res; what the table owns; what calendar owns]
       nothing ! $ move ! (3 ∷ 0 ∷ []) $ fjoin ! $ move ! (2 ∷ 1 ∷ []) $ feqI ! (List Val) (vptr b₁ o₁ ∷ []) (vptr b₁ o₁ ∷ []) refl $ fjoin3 ! $ fjoin ! $ move ! (1 ∷ 0 ∷ []) $ fjoin ! $ frame ! $
@@ -140,7 +141,7 @@ module _ {M : Type 1} (𝓤 : URA M) (H : Heap 𝓤) (A : Atoms 𝓤) (W : Given
   cover-said : (r : Cover) → ent 𝓤 (ensured 𝓤 H A cover.ended (cover.clauses 𝓤 H A mem run) (κ, (κ₂, tt)) args tt r) (fact 𝓤 (r ≡ answer))
   cover-said r = exE 𝓤 _ (λ ws. snd∗ 𝓤 (sem 𝓤 H A (lasts cover.ended (κ, (κ₂, tt)) args ws)) (fact 𝓤 (r ≡ answer)))
 
-  module _ (C : Calls 𝓤 H) (Λ : Loops 𝓤 H) (fm : FmC 𝓤 H (W .laws) C) (known-book-on : Triple 𝓤 (C #book-on) (BookOn 𝓤 H A mem run)) (known-cover : Triple 𝓤 (C #cover) (Counts 𝓤 H A mem run)) (l₀ l₁ l₂ l₃ l₄ l₅ : ℕ) where
+  module _ (C : Calls 𝓤 H) (Λ : Loops 𝓤 H) (fm : FmC 𝓤 H (W .laws) C) (known-book-given : Triple 𝓤 (C #book-given) (BookGiven 𝓤 H A mem run)) (known-cover : Triple 𝓤 (C #cover) (Counts 𝓤 H A mem run)) (l₀ l₁ l₂ l₃ l₄ l₅ : ℕ) where
     abbrev calTy : Ty
     calTy = sliceTy (tyRef (named 0) imm (tyInt w32))
 
@@ -158,11 +159,11 @@ module _ {M : Type 1} (𝓤 : URA M) (H : Heap 𝓤) (A : Atoms 𝓤) (W : Given
     Locals five rest = five ∷ ‵ (fdies Pg′.mir l₅) ∷ ‵ (froom Bk′.mir l₄ 0) ∷ ‵ (fdies Bk′.mir l₄)
         ∷ ‵ (fat fullShare tabTy l₃ 0 tv) ∷ ‵ (fdies tabTy l₃) ∷ ‵ (fat fullShare pageTy l₂ 0 (vptr b₁ o₁)) ∷ ‵ (fdies pageTy l₂) ∷ ‵ (fat fullShare calTy l₁ 0 cv) ∷ ‵ (fdies calTy l₁) ∷ ‵ (froom Co′.mir l₀ 0) ∷ ‵ (fdies Co′.mir l₀) ∷ rest
 
-    -- from `book_on` on: [the page's token; the fractured borrow; res; the table's token; calendar's token; what the table owns; what calendar owns; _5 at 7; …; _i at 17 - 2 · i; …]
+    -- from `book_given` on: [the page's token; the fractured borrow; res; the table's token; calendar's token; what the table owns; what calendar owns; _5 at 7; …; _i at 17 - 2 · i; …]
     counts : Is Pg.the-row pg (page-val pg ∷ []) → Sq W (‵ (flft κ₁ q₁) ∷ Params (Locals (‵ (fat fullShare Pg′.mir l₅ 0 (page-val pg))) [])) (runs C Λ En mirs.t-2 (atRet En Post))
     counts gp =
-        nothing ! $ use1 W (raw (BookOn 𝓤 H A mem run .pre (to-book-on 𝓤 H A W mem run pg))) (goes-book-on 𝓤 H A W mem run pg gp) $
-        calls-at ! fm (BookOn 𝓤 H A mem run) known-book-on (to-book-on 𝓤 H A W mem run pg) (and-then ! (loads ! (from ! (stop !)) (look ! 8 refl)) (no-more !)) (λ w.
+        nothing ! $ use1 W (raw (BookGiven 𝓤 H A mem run .pre (to-book-given 𝓤 H A W mem run pg))) (goes-book-given 𝓤 H A W mem run pg gp) $
+        calls-at ! fm (BookGiven 𝓤 H A mem run) known-book-given (to-book-given 𝓤 H A W mem run pg) (and-then ! (loads ! (from ! (stop !)) (look ! 8 refl)) (no-more !)) (λ w.
         use1 W (later (GetsBook 𝓤 H A W mem run pg w)) (gets-book 𝓤 H A W mem run pg w) $ await ! tt $ learn ! (λ is. drop ! $
         land ! (from ! (stop !)) (init ! 9 refl (LL.lawful Bk.the-type Bk′.the-laws 𝓤 H A W .typed bk _ is .0)) $
         rewrite ! 9 (λ (v : Val). ‵ (fat fullShare Bk′.mir l₄ 0 v)) (ap only (LL.tells Bk.the-type Bk′.the-laws bk (w ∷ []) is)) refl $
@@ -206,22 +207,22 @@ module _ {M : Type 1} (𝓤 : URA M) (H : Heap 𝓤) (A : Atoms 𝓤) (W : Given
         shuts ! tt Pg.the-row s pg (page-val pg ∷ []) b₁ o₁ $ counts gp))
 
   module _ (C : Calls 𝓤 H) (Λ : Loops 𝓤 H) where
-    walk : FmC 𝓤 H (W .laws) C → Triple 𝓤 (C #book-on) (BookOn 𝓤 H A mem run) → Triple 𝓤 (C #cover) (Counts 𝓤 H A mem run) → Is (ShrSlice (named 0) κ u32) cal (cv ∷ []) → Is (ShrSlice (named 2) κ₂ T.the-row) table (tv ∷ [])
+    walk : FmC 𝓤 H (W .laws) C → Triple 𝓤 (C #book-given) (BookGiven 𝓤 H A mem run) → Triple 𝓤 (C #cover) (Counts 𝓤 H A mem run) → Is (ShrSlice (named 0) κ u32) cal (cv ∷ []) → Is (ShrSlice (named 2) κ₂ T.the-row) table (tv ∷ [])
         → ent 𝓤 (onEntry 𝓤 H A f.signature (κ, (κ₁, (κ₂, tt))) (q, (q₁, (q₂, tt))) x at) (WpFn 𝓤 H C Λ code.function (cv ∷ vptr b₁ o₁ ∷ tv ∷ []) Post)
-    walk fm known-book-on known-cover gc gt =
+    walk fm known-book-given known-cover gc gt =
         qed W ((‵ (flft κ q) ⊛ ‵ (flft κ₁ q₁) ⊛ ‵ (flft κ₂ q₂) ⊛ ‵ ftrue) ∷ ‵ (owns (ShrSlice (named 0) κ u32 ∷ ShrRef (named 1) κ₁ Pg.the-row ∷ ShrSlice (named 2) κ₂ T.the-row ∷ []) x at) ∷ []) ∵ enter ! C Λ code.function (cv ∷ vptr b₁ o₁ ∷ tv ∷ []) _ $
         alloc1 ! (λ l₀. alloc1 ! (λ l₁. alloc1 ! (λ l₂. alloc1 ! (λ l₃. alloc1 ! (λ l₄. alloc1 ! (λ l₅. alloc0 ! $ params1 ! $
         pass1 ! (init ! 8 refl (shr-slice-lawful 𝓤 H A W (named 0) κ u32 .typed cal (cv ∷ []) gc .0)) $ pass1 ! (init ! 6 refl (tt, tt)) $ pass1 ! (init ! 4 refl (shr-slice-lawful 𝓤 H A W (named 2) κ₂ T.the-row .typed table (tv ∷ []) gt .0)) $ pass0 ! $
-        starts C Λ fm known-book-on known-cover l₀ l₁ l₂ l₃ l₄ l₅))))))
+        starts C Λ fm known-book-given known-cover l₀ l₁ l₂ l₃ l₄ l₅))))))
 
-module _ {M : Type 1} (𝓤 : URA M) (H : Heap 𝓤) (A : Atoms 𝓤) (W : Given 𝓤 H A) (mem : Memory → SProp 𝓤) (run : Routine → Fun 𝓤) (𝓣 : Tables 𝓤 H) (known-book-on : Triple 𝓤 (𝓣 .C #book-on) (BookOn 𝓤 H A mem run)) (known-cover : Triple 𝓤 (𝓣 .C #cover) (Counts 𝓤 H A mem run)) where
+module _ {M : Type 1} (𝓤 : URA M) (H : Heap 𝓤) (A : Atoms 𝓤) (W : Given 𝓤 H A) (mem : Memory → SProp 𝓤) (run : Routine → Fun 𝓤) (𝓣 : Tables 𝓤 H) (known-book-given : Triple 𝓤 (𝓣 .C #book-given) (BookGiven 𝓤 H A mem run)) (known-cover : Triple 𝓤 (𝓣 .C #cover) (Counts 𝓤 H A mem run)) where
   book-cover-walks : Walks 𝓤 H A f.ended stayed (WpFn 𝓤 H (𝓣 .C) (𝓣 .Λ) code.function) (f.clauses 𝓤 H A mem run)
   book-cover-walks = walked 𝓤 H A f.ended stayed (f.clauses 𝓤 H A mem run) (WpFn 𝓤 H (𝓣 .C) (𝓣 .Λ) code.function)
       (λ κs. (slice-vals, (ptr-vals, (slice-vals, tt))))
       (λ κs. (shr-slice-tells (named 0) (κs .0) u32, (shr-tells (named 1) (κs .1 .0) Pg.the-row, (shr-slice-tells (named 2) (κs .1 .1 .0) T.the-row, tt))))
       (λ κs qs bounds a g are. via 𝓤 _ (fst∗ 𝓤 _ (emp 𝓤))
       (walk 𝓤 H A W mem run (κs .0) (κs .1 .0) (κs .1 .1 .0) (qs .0) (qs .1 .0) (qs .1 .1 .0) (a .0) (a .1 .0 .ptr .0) (a .1 .0 .ptr .1) (a .1 .0 .name) (a .1 .0 .now) (a .1 .1 .0)
-      (𝓣 .C) (𝓣 .Λ) (fmOf 𝓤 H (W .laws) 𝓣) known-book-on known-cover (are .0) (are .1 .1 .0)))
+      (𝓣 .C) (𝓣 .Λ) (fmOf 𝓤 H (W .laws) 𝓣) known-book-given known-cover (are .0) (are .1 .1 .0)))
 
   book-cover-meets : Meets 𝓤 H A f.signature (WpFn 𝓤 H (𝓣 .C) (𝓣 .Λ) code.function) (f.spec 𝓤 H A mem run)
   book-cover-meets =
@@ -234,5 +235,5 @@ book-cover-spec 𝓤 H 𝓜 𝓖 𝓡 =
     entered 𝓤 H (tripleOf 𝓤 H (𝓖 .A) f.signature (f.spec 𝓤 H (𝓖 .A) (𝓜 .mem) (𝓡 .run)))
     (tables 𝓤 H 𝓜 𝓡 code.env .C) (tables 𝓤 H 𝓜 𝓡 code.env .Λ) #book-cover code.function (code.unfolded 𝓤 H 𝓜 𝓡)
     (book-cover-meets 𝓤 H (𝓖 .A) (givenOf 𝓤 H 𝓜 𝓖) (𝓜 .mem) (𝓡 .run) (tablesOf 𝓤 H 𝓜 (tables 𝓤 H 𝓜 𝓡 code.env))
-    (cited 𝓤 H (BookOn 𝓤 H (𝓖 .A) (𝓜 .mem) (𝓡 .run)) 𝓜 𝓡 code.env #book-on book-on-def.routine code.calls-exports·page·book-on (book-on-thm.met 𝓤 H 𝓜 𝓖 𝓡))
+    (cited 𝓤 H (BookGiven 𝓤 H (𝓖 .A) (𝓜 .mem) (𝓡 .run)) 𝓜 𝓡 code.env #book-given book-given-def.routine code.calls-exports·page·book-given (book-given-thm.met 𝓤 H 𝓜 𝓖 𝓡))
     (cited 𝓤 H (Counts 𝓤 H (𝓖 .A) (𝓜 .mem) (𝓡 .run)) 𝓜 𝓡 code.env #cover cover-def.routine code.calls-book·table·cover (cover-thm.met 𝓤 H 𝓜 𝓖 𝓡)))

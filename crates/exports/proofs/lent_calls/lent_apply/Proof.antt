@@ -1,8 +1,21 @@
-use mathlib.Core.Path.{refl}
+use mathlib.Core.Path.{refl, sym, _∙_}
+use mathlib.Core.Bool.{false≢true}
 use borrow.Author.Needs.{needs}
+use Rattle.core.proofs.Fitting.{refuted, upheld}
 use Rattle.exports.proofs.SlateLaws.{desk-back}
 use Rattle.exports.proofs.lent_calls.lent_apply.Statement.{statement}
 use Rattle.exports.proofs.lent_calls.lent_apply.Tie as tie
+
+is-told-requires : tie.Need-is-told-requires
+is-told-requires c κs = search needs
+
+refused-requires : tie.Need-refused-requires
+refused-requires c κs = search needs
+
+returns : tie.Need-returns
+returns c =
+    let untold = refuted (c .before .before .is-told .ensures) (c .before .if1 .taken) in
+    (λ z. absurd (false≢true (sym untold ∙ z)), λ z. rw (c .refused .ensures) (refl, refl))
 
 desk-on-requires : tie.Need-desk-on-requires
 desk-on-requires c κs = search needs
@@ -28,15 +41,22 @@ same-length-3 c = search needs
 same-length-4 : tie.Need-same-length-4
 same-length-4 c = search needs
 
-returns : tie.Need-returns
-returns c =
+returns-2 : tie.Need-returns-2
+returns-2 c =
     let applied = c .before .before .before .before .before .before .before .before .before .apply in
-    rw (c .left-by .ensures, desk-back (applied .result .desk), ← (c .before .before .before .before .before .before .before .before .before .before .before .before .before .before .before .desk-on .ensures), ← (c .before .before .before .before .before .before .before .before .before .before .before .before .before .before .decode .ensures)) (applied .ensures .0, refl, applied .ensures .1)
+    let tested = c .before .before .before .before .before .before .before .before .before .before .before .before .before .before .before .before in
+    let told = upheld (tested .before .is-told .ensures) (tested .if1 .left) in (
+      λ z. rw (c .left-by .ensures, desk-back (applied .result .desk), ← (c .before .before .before .before .before .before .before .before .before .before .before .before .before .before .before .desk-on .ensures), ← (c .before .before .before .before .before .before .before .before .before .before .before .before .before .before .decode .ensures)) (applied .ensures .0, refl, applied .ensures .1),
+      λ z. absurd (false≢true (sym z ∙ told)),
+    )
 
 pub lent-apply-spec : {M : Type 1} → statement M
 lent-apply-spec =
     tie.close
     (tie.spec
+    is-told-requires
+    refused-requires
+    returns
     desk-on-requires
     decode-requires
     apply-requires
@@ -45,4 +65,4 @@ lent-apply-spec =
     same-length-2
     same-length-3
     same-length-4
-    returns)
+    returns-2)

@@ -1,8 +1,21 @@
-use mathlib.Core.Path.{refl}
+use mathlib.Core.Path.{refl, sym, _∙_}
+use mathlib.Core.Bool.{false≢true}
 use borrow.Author.Needs.{needs}
+use Rattle.core.proofs.Fitting.{refuted, upheld}
 use Rattle.exports.proofs.SlateLaws.{desk-back}
 use Rattle.exports.proofs.lent_calls.lent_run.Statement.{statement}
 use Rattle.exports.proofs.lent_calls.lent_run.Tie as tie
+
+is-told-requires : tie.Need-is-told-requires
+is-told-requires c κs = search needs
+
+refused-run-requires : tie.Need-refused-run-requires
+refused-run-requires c κs = search needs
+
+returns : tie.Need-returns
+returns c =
+    let untold = refuted (c .before .before .is-told .ensures) (c .before .if1 .taken) in
+    (λ z. absurd (false≢true (sym untold ∙ z)), λ z. rw (c .refused-run .ensures) (refl, refl, refl))
 
 desk-on-requires : tie.Need-desk-on-requires
 desk-on-requires c κs = search needs
@@ -28,15 +41,22 @@ same-length-4 c = search needs
 same-length-5 : tie.Need-same-length-5
 same-length-5 c = search needs
 
-returns : tie.Need-returns
-returns c =
+returns-2 : tie.Need-returns-2
+returns-2 c =
     let ran = c .before .before .before .before .before .before .before .before .before .before .before .run in
-    rw (c .left-by-run .ensures, desk-back (ran .result .desk), ← (c .before .before .before .before .before .before .before .before .before .before .before .before .before .before .before .before .before .desk-on .ensures)) (ran .ensures .0, refl, ran .ensures .1)
+    let tested = c .before .before .before .before .before .before .before .before .before .before .before .before .before .before .before .before .before .before in
+    let told = upheld (tested .before .is-told .ensures) (tested .if1 .left) in (
+      λ z. rw (c .left-by-run .ensures, desk-back (ran .result .desk), ← (c .before .before .before .before .before .before .before .before .before .before .before .before .before .before .before .before .before .desk-on .ensures)) (ran .ensures .0, refl, ran .ensures .1),
+      λ z. absurd (false≢true (sym z ∙ told)),
+    )
 
 pub lent-run-spec : {M : Type 1} → statement M
 lent-run-spec =
     tie.close
     (tie.spec
+    is-told-requires
+    refused-run-requires
+    returns
     desk-on-requires
     run-requires
     left-by-run-requires
@@ -45,4 +65,4 @@ lent-run-spec =
     same-length-3
     same-length-4
     same-length-5
-    returns)
+    returns-2)
