@@ -1,4 +1,5 @@
--- A book in plain numbers: no enum crosses to C, so each of its cases is told by its place, from 0. A page whose marks tell no case tells no book.
+-- A book in plain numbers: no enum crosses to C, so each of its cases is told by its place, from 0. A page whose marks tell no case tells
+-- no book.
 -- Assumes nothing.
 use Prim.Native.Nat.{ℕ}
 use mathlib.Core.Bool.{Bool, true, false, cond, _||_}
@@ -31,7 +32,8 @@ use Rattle.exports.specs.declared.page.Page.{Page}
 
 -- ---- the pages that tell a book
 
--- "a phase (Closed, Trading, Paid); a status (normal, suspended, terminated)", "a run of failed payments (0 to 2) and of short closes (0 to 3)"; a day has its number only where there is one
+-- "a phase (Closed, Trading, Paid); a status (normal, suspended, terminated)", "a run of failed payments (0 to 2) and of short closes (0 to
+-- 3)"; a day has its number only where there is one
 unfoldable pub isTold : Marks → Bool
 isTold marks =
     every
