@@ -52,7 +52,7 @@ pub fn trade(random: &mut Random, contract: u64, due: u32) -> Event {
     Event::Initial(Terms { contract, sheets, price, fallback: 300, due })
 }
 
-/// 62 days with 200 trades of one to 91 days; now and then an early
+/// 62 days with 201 trades of one to 91 days; now and then an early
 /// redemption, a withdrawal, a pledge, a new rate or funds.
 fn quarter() -> Vec<Event> {
     let mut random = Random::new(1);
