@@ -117,7 +117,7 @@ fn funds_size_rate_and_freeze_act_in_any_phase() {
     }
 }
 
-/// "a net of 0 is made": the failed run ends with it.
+/// The payer of a net of 0 holds at least 0: it is paid, and the failed run ends with it.
 #[test]
 fn a_net_of_nothing_is_paid() {
     let mut ledger = Ledger::second_day(&[u32::MAX]);
