@@ -15,6 +15,16 @@ fn row(number: u32, applies: bool) -> Option<u32> {
     applies.then_some(number)
 }
 
+/// The smallest cause; where there is none, 99 for a Pay with "the payer
+/// holding less than |N|", else 0.
+fn expected_number(ledger: &Ledger, event: Event) -> u32 {
+    let Book { cleared_net, own, client, .. } = ledger.book;
+    let payer_holds = if cleared_net < 0 { client } else { own };
+    let unpaid = event == Event::Pay && payer_holds < cleared_net.unsigned_abs();
+    let smallest = all_causes(ledger, event).into_iter().min();
+    smallest.unwrap_or(if unpaid { 99 } else { 0 })
+}
+
 fn all_causes(ledger: &Ledger, event: Event) -> Vec<u32> {
     let book = &ledger.book;
     let code = event.encode()[0];
@@ -150,12 +160,8 @@ fn the_smallest_cause_answers_and_refusals_leave_everything_untouched() {
         for bytes in journal.events {
             let before = ledger.clone();
             let answer = ledger.does_bytes(bytes);
-            let causes = match Event::decode(bytes) {
-                Ok(event) => all_causes(&before, event),
-                Err(_) => vec![2],
-            };
-            let accepted = if answer.number == 99 { 99 } else { 0 };
-            assert_eq!(answer.number, causes.into_iter().min().unwrap_or(accepted), "seed {seed}");
+            let number = Event::decode(bytes).map_or(2, |event| expected_number(&before, event));
+            assert_eq!(answer.number, number, "seed {seed}");
             assert!(answer.is_accepted() || ledger == before, "seed {seed}");
             assert!(ledger.is_fit(), "seed {seed}");
             let closes = bytes[0] == 12 && answer.number == 0;
