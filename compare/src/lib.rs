@@ -9,6 +9,20 @@ use model::coverage::Coverage;
 
 pub use proved::write_listing;
 
+/// Bytes of events and numbers of a buffer that no run takes: bytes that are no
+/// whole events, more than 1,500 events, a buffer shorter than seven numbers an event.
+pub const BAD_LENGTHS: [(usize, usize); 9] = [
+    (1, 7),
+    (39, 7),
+    (41, 14),
+    (40 * 1_501, 7 * 1_501),
+    (40 * 1_501 + 39, 7 * 1_502),
+    (40, 0),
+    (40, 6),
+    (80, 13),
+    (40 * 1_500, 7 * 1_500 - 1),
+];
+
 /// Shows how often each pair of event and answer was met, and fails where one
 /// that document 01 allows from a fresh book never was, or another was.
 pub fn judge(compared: &str, coverage: &Coverage) {

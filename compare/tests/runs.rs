@@ -1,7 +1,7 @@
 //! The proved run of a journal's events against the model's, number by number:
 //! answer, headroom, O, own, client and guarantee cash after every event.
 
-use compare::{judge, proved};
+use compare::{judge, proved, BAD_LENGTHS};
 use model::coverage::Coverage;
 use model::event::EVENT_BYTES;
 use model::generator::{corpus, generate_as, Profile};
@@ -51,14 +51,36 @@ fn every_prefix_of_some_journals_agrees() {
     }
 }
 
+/// What a buffer holds before the call; no line has it.
+const UNWRITTEN: u64 = 0xa5a5_a5a5_a5a5_a5a5;
+
 #[test]
 fn bad_lengths_are_refused_and_write_nothing() {
-    let event = [0_u8; EVENT_BYTES];
-    assert_eq!(proved::run_listing(&[], &event[..39]), Err(18));
-    assert_eq!(proved::run_listing(&[], &[0; 40 * 1_501]), Err(18));
-    assert_eq!(proved::run_listing(&[0; 1_201], &event), Err(1));
-    assert_eq!(proved::run_into(&[], &event, &mut [7; 6]), 18);
-    let mut lines = [7; 9];
-    assert_eq!(proved::run_into(&[], &event, &mut lines), 0);
-    assert_eq!(lines, [2, 0, 0, 0, 0, 0, 0, 7, 7]);
+    for (bytes, room) in BAD_LENGTHS {
+        let mut lines = vec![UNWRITTEN; room];
+        assert_eq!(proved::run_into(&[], &vec![0; bytes], &mut lines), 18, "{bytes} bytes, room {room}");
+        assert!(lines.iter().all(|&number| number == UNWRITTEN), "{bytes} bytes, room {room}");
+    }
+}
+
+/// 1 comes before 18.
+#[test]
+fn a_calendar_above_1200_words_is_refused_and_writes_nothing() {
+    for (bytes, room) in BAD_LENGTHS.into_iter().chain([(EVENT_BYTES, 9)]) {
+        let mut lines = vec![UNWRITTEN; room];
+        assert_eq!(proved::run_into(&[0; 1_201], &vec![0; bytes], &mut lines), 1);
+        assert!(lines.iter().all(|&number| number == UNWRITTEN), "{bytes} bytes, room {room}");
+    }
+}
+
+#[test]
+fn what_lies_past_the_lines_is_as_it_was() {
+    let line = [2, 0, 0, 0, 0, 0, 0];
+    for count in [0, 1, 3, 1_500] {
+        for spare in [0, 1, 9] {
+            let mut lines = vec![UNWRITTEN; 7 * count + spare];
+            assert_eq!(proved::run_into(&[], &vec![0; EVENT_BYTES * count], &mut lines), 0);
+            assert_eq!(lines, [line.repeat(count), vec![UNWRITTEN; spare]].concat());
+        }
+    }
 }
