@@ -4,11 +4,12 @@
 //! Bytes are parsed by `journal`, decoded by `event`, answered by `step`, and
 //! the book's own rules stand in `book` and `money`. `tally` is the second,
 //! coarser account of the same history; `generator` and `coverage` make
-//! journals and show which answers they met. `text` is how people write and
-//! read a journal.
+//! journals and show which answers they met, `cases` makes books that no
+//! journal leads to. `text` is how people write and read a journal.
 
 pub mod answer;
 pub mod book;
+pub mod cases;
 pub mod coverage;
 pub mod event;
 pub mod generator;

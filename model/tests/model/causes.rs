@@ -2,8 +2,8 @@
 //! event's answer is the smallest number that applies, and a refused event
 //! leaves everything untouched.
 
-use crate::ledger::Ledger;
 use model::book::{Book, Phase, Status, Trade};
+use model::cases::ledger::Ledger;
 use model::event::{Account, Event, Terms};
 use model::money::{earliest_trading_day, next_trading_day, redemption, trading_day_at_or_after};
 use model::{generator, journal};

@@ -1,7 +1,7 @@
 //! The evening: why applications are done or dropped, and what a Close may do.
 
-use crate::ledger::{trade, Ledger};
 use model::book::{Phase, Status};
+use model::cases::ledger::{trade, Ledger};
 use model::event::{Account, Event};
 
 /// The third day, with 30,000 fen of guarantee cash; V is 183, O 100.

@@ -1,7 +1,7 @@
 //! Demand 3: the tally beside the list, on random runs.
 
-use crate::ledger::Ledger;
 use model::answer::Answer;
+use model::cases::ledger::Ledger;
 use model::event::Event;
 use model::tally::Tally;
 use model::{generator, journal};

@@ -1,6 +1,6 @@
 //! Decoding: which bytes each event uses, and what is answer 2.
 
-use crate::ledger::{Ledger, WORKED_CALENDAR};
+use model::cases::ledger::{Ledger, WORKED_CALENDAR};
 use model::event::{Account, Event, Terms};
 
 /// The bytes beyond the code that each event uses, from the journal's section.

@@ -1,8 +1,8 @@
 //! Each way of being unfit is answered 1 by every event, and changes nothing.
 
-use crate::ledger::{trade, Ledger};
 use model::answer::Answer;
 use model::book::{Phase, Trade};
+use model::cases::ledger::{trade, Ledger};
 use model::event::{Account, Event, EVENT_BYTES};
 
 type Change = fn(&mut Ledger);

@@ -2,9 +2,9 @@
 
 use std::collections::{BTreeMap, HashSet};
 
-use crate::ledger::Ledger;
 use model::answer::Answer;
 use model::book::{Phase, Status};
+use model::cases::ledger::Ledger;
 use model::coverage::{allowed, Coverage, OUT_OF_REACH};
 use model::event::Event;
 use model::generator::{self, Profile};

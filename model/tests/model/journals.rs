@@ -1,6 +1,6 @@
 //! Parsing: malformed is only a count past its limit, an early end, or bytes left over.
 
-use crate::ledger::{FIRST_DAY, WORKED_CALENDAR};
+use model::cases::ledger::{FIRST_DAY, WORKED_CALENDAR};
 use model::event::Event;
 use model::journal::{listing, parse, write, JOURNAL_REFUSED};
 

@@ -1,8 +1,8 @@
 //! Answer 14 where a net would pass 4×10^18: out of a journal's reach, so the
 //! books are made by hand.
 
-use crate::ledger::{trade, Ledger, WORKED_CALENDAR};
 use model::book::{Phase, Status};
+use model::cases::ledger::{trade, Ledger, WORKED_CALENDAR};
 use model::event::Event;
 
 const NET: i64 = 4_000_000_000_000_000_000;

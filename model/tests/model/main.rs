@@ -7,7 +7,6 @@ mod events;
 mod fitness;
 mod generated;
 mod journals;
-mod ledger;
 mod limits;
 mod money;
 mod pencil;

@@ -1,7 +1,7 @@
 //! "Where the pencil slips": M1 to M10, the slips, and the cases that are run.
 
-use crate::ledger::{trade, Ledger, WORKED_CALENDAR};
 use model::book::{Phase, Status};
+use model::cases::ledger::{trade, Ledger, WORKED_CALENDAR};
 use model::event::{Account, Event, Terms};
 use model::money::{kind_value, redemption};
 

@@ -1,6 +1,6 @@
 //! The sixteen events of document 01, to the byte, and the files of `examples/`.
 
-use crate::ledger::{trade, FIRST_DAY, WORKED_CALENDAR};
+use model::cases::ledger::{trade, FIRST_DAY, WORKED_CALENDAR};
 use model::event::Event;
 use model::{journal, text};
 

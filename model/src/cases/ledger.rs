@@ -1,10 +1,10 @@
-//! A book with its calendar and table, for the tests to drive.
+//! A book with its calendar and table, for tests to drive.
 
-use model::answer::Answer;
-use model::book::{Book, Trade};
-use model::event::{Account, Event, Terms, EVENT_BYTES};
-use model::limits::JOURNAL_CAPACITY;
-use model::step;
+use crate::answer::Answer;
+use crate::book::{Book, Trade};
+use crate::event::{Account, Event, Terms, EVENT_BYTES};
+use crate::limits::JOURNAL_CAPACITY;
+use crate::step;
 
 /// Days 1, 2, 3, 6 and 7: the calendar of the worked example.
 pub const WORKED_CALENDAR: [u32; 1] = [206];
@@ -18,11 +18,13 @@ pub struct Ledger {
 
 impl Ledger {
     pub fn fresh(calendar: &[u32]) -> Ledger {
-        Ledger {
-            calendar: calendar.to_vec(),
-            book: Book::fresh(),
-            table: vec![Trade::default(); JOURNAL_CAPACITY],
-        }
+        Ledger::with_slots(calendar, JOURNAL_CAPACITY)
+    }
+
+    /// A fresh book and a table of so many slots.
+    pub fn with_slots(calendar: &[u32], slots: usize) -> Ledger {
+        let table = vec![Trade::default(); slots];
+        Ledger { calendar: calendar.to_vec(), book: Book::fresh(), table }
     }
 
     /// Day 1 of the worked calendar is over: funds, and 200 units at 9,000, so

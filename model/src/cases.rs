@@ -1,0 +1,4 @@
+//! Books made by hand, where no journal leads: for the model's own tests, and
+//! for the programs that are run against it.
+
+pub mod ledger;
