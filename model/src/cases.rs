@@ -2,3 +2,5 @@
 //! for the programs that are run against it.
 
 pub mod ledger;
+pub mod nets;
+pub mod unfit;
