@@ -1,8 +1,10 @@
 //! The evening: why applications are done or dropped, and what a Close may do.
 
-use model::book::{Phase, Status};
+use model::book::{Book, Phase, Status};
+use model::cases::evenings::evening;
 use model::cases::ledger::{trade, Ledger};
 use model::event::{Account, Event};
+use model::generator::random::Random;
 
 /// The third day, with 30,000 fen of guarantee cash; V is 183, O 100.
 fn with_cash_pledged() -> Ledger {
@@ -88,6 +90,51 @@ fn a_terminated_book_closes_from_trading_and_from_paid() {
     ledger.book.phase = Phase::Paid;
     assert_eq!(done_and_dropped(&mut ledger), (2, 0));
     assert_eq!(ledger.does(Event::Close).number, 4);
+}
+
+/// How many applications a Close does, and the book after them: V is counted
+/// anew after each, over all 33 kinds.
+fn settled(before: &Ledger) -> (u32, Book) {
+    let mut book = before.book.clone();
+    let outstanding = book.outstanding(&before.table);
+    for held in &mut book.holdings {
+        held.effective += std::mem::take(&mut held.arriving);
+    }
+    let done = (0..book.applications).filter(|&place| is_done(&mut book, place, outstanding)).count();
+    (done as u32, book)
+}
+
+/// Does an application if it may be done, and says whether.
+fn is_done(book: &mut Book, place: usize, outstanding: u64) -> bool {
+    let (kind, units) = (usize::from(book.application_kinds[place]), book.application_units[place]);
+    let mut afterwards = book.clone();
+    let held = &mut afterwards.holdings[kind];
+    if units > held.effective - held.frozen {
+        return false;
+    }
+    held.effective -= units;
+    afterwards.own += if kind == 32 { units } else { 0 };
+    let done = afterwards.value() >= outstanding;
+    if done {
+        *book = afterwards;
+    }
+    done
+}
+
+#[test]
+fn applications_are_weighed_by_the_whole_book_after_each() {
+    let mut random = Random::new(3);
+    let (mut done, mut dropped) = (0, 0);
+    for round in 0..2_000 {
+        let mut ledger = evening(&mut random);
+        let (expected, book) = settled(&ledger);
+        let applications = ledger.book.applications as u32;
+        let answer = ledger.does(Event::Close);
+        assert_eq!((answer.done, answer.dropped), (expected, applications - expected), "round {round}");
+        assert_eq!((ledger.book.own, ledger.book.holdings), (book.own, book.holdings), "round {round}");
+        (done, dropped) = (done + answer.done, dropped + answer.dropped);
+    }
+    assert!(done > 10_000 && dropped > 10_000, "{done} done and {dropped} dropped");
 }
 
 /// "These five fit any phase and act immediately."
