@@ -4,6 +4,7 @@
 //! the book and the table at the end. Slots past the trades in use hold strays.
 
 mod lengths;
+mod limits;
 mod sides;
 mod unfit;
 
