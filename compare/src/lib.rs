@@ -9,6 +9,9 @@ use model::coverage::Coverage;
 
 pub use proved::write_listing;
 
+/// What a lent buffer of numbers holds before a run; no line has it.
+pub const UNWRITTEN: u64 = 0xa5a5_a5a5_a5a5_a5a5;
+
 /// Bytes of events and numbers of a buffer that no run takes: bytes that are no
 /// whole events, more than 1,500 events, a buffer shorter than seven numbers an event.
 pub const BAD_LENGTHS: [(usize, usize); 9] = [

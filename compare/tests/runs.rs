@@ -1,7 +1,7 @@
 //! The proved run of a journal's events against the model's, number by number:
 //! answer, headroom, O, own, client and guarantee cash after every event.
 
-use compare::{judge, proved, BAD_LENGTHS};
+use compare::{judge, proved, BAD_LENGTHS, UNWRITTEN};
 use model::coverage::Coverage;
 use model::event::EVENT_BYTES;
 use model::generator::{corpus, generate_as, Profile};
@@ -50,9 +50,6 @@ fn every_prefix_of_some_journals_agrees() {
         }
     }
 }
-
-/// What a buffer holds before the call; no line has it.
-const UNWRITTEN: u64 = 0xa5a5_a5a5_a5a5_a5a5;
 
 #[test]
 fn bad_lengths_are_refused_and_write_nothing() {

@@ -107,6 +107,17 @@ impl Lengths {
     pub fn whole(table: &[Trade]) -> Lengths {
         Lengths { held: CASH_KIND * 4, kinds: APPLICATIONS, units: APPLICATIONS, table: table.len() * 4 }
     }
+
+    /// Fails where more is lent than there is.
+    fn assert_there(self, table: &[Trade]) {
+        let there = Lengths::whole(table);
+        assert!(
+            self.held <= there.held
+                && self.kinds <= there.kinds
+                && self.units <= there.units
+                && self.table <= there.table
+        );
+    }
 }
 
 /// One event on a book and its table.
@@ -127,13 +138,7 @@ pub fn apply_cut(
     lengths: Lengths,
     event: &[u8; EVENT_BYTES],
 ) -> answer::Answer {
-    let Lengths { held, kinds, units, table: numbers } = Lengths::whole(table);
-    assert!(
-        lengths.held <= held
-            && lengths.kinds <= kinds
-            && lengths.units <= units
-            && lengths.table <= numbers
-    );
+    lengths.assert_there(table);
     let Rows { slate, held, kinds, units } = rows;
     let left = unsafe {
         lent_apply(
@@ -158,6 +163,12 @@ pub fn apply_cut(
 
 /// Headroom and O of a book over its table, beside the number.
 pub fn cover(calendar: &[u32], rows: &Rows, table: &[Trade]) -> (u32, i64, u64) {
+    cover_cut(calendar, rows, table, Lengths::whole(table))
+}
+
+/// The same of rows and a table of which only so much is lent.
+pub fn cover_cut(calendar: &[u32], rows: &Rows, table: &[Trade], lengths: Lengths) -> (u32, i64, u64) {
+    lengths.assert_there(table);
     let Rows { slate, held, kinds, units } = rows;
     let cover = unsafe {
         lent_cover(
@@ -165,13 +176,13 @@ pub fn cover(calendar: &[u32], rows: &Rows, table: &[Trade]) -> (u32, i64, u64) 
             calendar.len(),
             *slate,
             held.as_ptr(),
-            held.len(),
+            lengths.held,
             kinds.as_ptr(),
-            kinds.len(),
+            lengths.kinds,
             units.as_ptr(),
-            units.len(),
+            lengths.units,
             table.as_ptr().cast(),
-            table.len() * 4,
+            lengths.table,
         )
     };
     cover.into()
@@ -185,6 +196,19 @@ pub fn run_into(
     events: &[u8],
     lines: &mut [u64],
 ) -> u8 {
+    run_into_cut(calendar, rows, table, Lengths::whole(table), events, lines)
+}
+
+/// The same on rows and a table of which only so much is lent.
+pub fn run_into_cut(
+    calendar: &[u32],
+    rows: &mut Rows,
+    table: &mut [Trade],
+    lengths: Lengths,
+    events: &[u8],
+    lines: &mut [u64],
+) -> u8 {
+    lengths.assert_there(table);
     let Rows { slate, held, kinds, units } = rows;
     let left = unsafe {
         lent_run(
@@ -192,13 +216,13 @@ pub fn run_into(
             calendar.len(),
             *slate,
             held.as_mut_ptr(),
-            held.len(),
+            lengths.held,
             kinds.as_mut_ptr(),
-            kinds.len(),
+            lengths.kinds,
             units.as_mut_ptr(),
-            units.len(),
+            lengths.units,
             table.as_mut_ptr().cast(),
-            table.len() * 4,
+            lengths.table,
             events.as_ptr(),
             events.len(),
             lines.as_mut_ptr(),

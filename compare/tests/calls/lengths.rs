@@ -1,26 +1,108 @@
-//! Lent lengths that no call takes: everything is left as it was.
+//! Lent lengths that no call takes: everything is left as it was, the buffer too.
 
-use compare::proved::book::table;
-use compare::proved::lent::{self, Lengths, Rows};
-use model::book::{Book, Trade};
-use model::event::Event;
+use crate::sides::{both_run, fill_spare_slots, Sides};
+use compare::proved::lent::{self, Lengths};
+use compare::proved::{book, LINE_NUMBERS};
+use compare::{BAD_LENGTHS, UNWRITTEN};
+use model::answer::Answer;
+use model::cases::ledger::Ledger;
+use model::cases::unfit::{busy_ledger, every_event};
+use model::event::{Account, Event, EVENT_BYTES};
+
+fn ledger() -> Ledger {
+    let mut ledger = busy_ledger();
+    fill_spare_slots(&mut ledger);
+    ledger
+}
+
+/// What a run of these bytes leaves, by page and by rows, and for each its
+/// number and a buffer of so many numbers.
+fn run(ledger: &Ledger, events: &[u8], room: usize) -> (Sides, [(u8, Vec<u64>); 2]) {
+    let mut sides = Sides::of(ledger);
+    let Sides { page, table, rows, lent_table } = &mut sides;
+    let (mut lines, mut lent_lines) = (vec![UNWRITTEN; room], vec![UNWRITTEN; room]);
+    let number = book::run_into(&ledger.calendar, page, table, events, &mut lines);
+    let lent_number = lent::run_into(&ledger.calendar, rows, lent_table, events, &mut lent_lines);
+    (sides, [(number, lines), (lent_number, lent_lines)])
+}
+
+/// An event that the book accepts.
+const FUND_IN: Event = Event::FundIn { account: Account::Own, fen: 1 };
+
+/// So many bytes of that event, over and over.
+fn funds(bytes: usize) -> Vec<u8> {
+    FUND_IN.encode().into_iter().cycle().take(bytes).collect()
+}
+
+fn assert_refused(ledger: &Ledger, (bytes, room): (usize, usize), number: u8) {
+    let refused = (number, vec![UNWRITTEN; room]);
+    let left = run(ledger, &funds(bytes), room);
+    assert!(left == (Sides::of(ledger), [refused.clone(), refused]), "{bytes} bytes, room {room}");
+}
 
 #[test]
-fn rows_that_are_not_whole_are_answered_1_and_left() {
-    let calendar = [u32::MAX];
-    let (book, mut slots) = (Book::fresh(), table(&[Trade::default(); 3]));
-    let mut rows = Rows::from(&book);
-    let whole = Lengths::whole(&slots);
-    let cuts = [
+fn runs_of_bad_lengths_are_refused_and_leave_everything() {
+    let ledger = ledger();
+    for lengths in BAD_LENGTHS {
+        assert_refused(&ledger, lengths, 18);
+    }
+}
+
+/// 1 comes before 18.
+#[test]
+fn runs_of_bad_lengths_on_an_unfit_book_are_answered_1() {
+    let mut ledger = ledger();
+    ledger.book.own = u64::MAX;
+    for lengths in BAD_LENGTHS {
+        assert_refused(&ledger, lengths, 1);
+    }
+}
+
+#[test]
+fn what_lies_past_the_lines_is_as_it_was() {
+    let (mut ledger, events) = (ledger(), every_event());
+    let needed = LINE_NUMBERS * events.len();
+    let (exact, [(_, lines), _]) = run(&ledger, events.as_flattened(), needed);
+    for spare in [0, 1, 9] {
+        let wanted = (0, [&lines[..], &vec![UNWRITTEN; spare]].concat());
+        let left = run(&ledger, events.as_flattened(), needed + spare);
+        assert!(left == (exact.clone(), [wanted.clone(), wanted]), "{spare} numbers to spare");
+    }
+    assert!(both_run(&mut ledger, &events).is_ok());
+    assert!(exact == Sides::of(&ledger));
+}
+
+/// Rows of securities or of applications, or a table, that end too soon.
+fn cuts(table: &[book::Trade]) -> [Lengths; 8] {
+    let whole = Lengths::whole(table);
+    [
+        Lengths { held: 0, ..whole },
         Lengths { held: whole.held - 1, ..whole },
         Lengths { kinds: 0, ..whole },
+        Lengths { kinds: whole.kinds - 1, ..whole },
+        Lengths { units: 0, ..whole },
         Lengths { units: whole.units - 1, ..whole },
         Lengths { table: whole.table - 1, ..whole },
-    ];
-    for cut in cuts {
-        let answer = lent::apply_cut(&calendar, &mut rows, &mut slots, cut, &Event::Open.encode());
-        assert_eq!(answer.number, 1);
-        assert_eq!((rows, &slots), (Rows::from(&book), &table(&[Trade::default(); 3])));
+        Lengths { table: whole.table - 3, ..whole },
+    ]
+}
+
+/// By every call, and for runs 1 comes before 18.
+#[test]
+fn rows_that_are_not_whole_are_answered_1_and_left() {
+    let ledger = ledger();
+    let (calendar, sides) = (&ledger.calendar, Sides::of(&ledger));
+    let Sides { mut rows, lent_table: mut table, .. } = sides.clone();
+    for cut in cuts(&sides.table) {
+        let answer = lent::apply_cut(calendar, &mut rows, &mut table, cut, &FUND_IN.encode());
+        assert_eq!(answer, Answer { number: 1, ..Answer::default() });
+        assert_eq!(lent::cover_cut(calendar, &rows, &table, cut), (1, 0, 0));
+        for (bytes, room) in BAD_LENGTHS.into_iter().chain([(EVENT_BYTES, LINE_NUMBERS)]) {
+            let (events, mut lines) = (funds(bytes), vec![UNWRITTEN; room]);
+            assert_eq!(lent::run_into_cut(calendar, &mut rows, &mut table, cut, &events, &mut lines), 1);
+            assert!(lines.iter().all(|&number| number == UNWRITTEN), "{bytes} bytes, room {room}");
+        }
+        assert!((rows, &table) == (sides.rows, &sides.lent_table));
     }
-    assert_eq!(lent::apply(&calendar, &mut rows, &mut slots, &Event::Open.encode()).number, 0);
+    assert_eq!(lent::apply(calendar, &mut rows, &mut table, &FUND_IN.encode()), Answer::DONE);
 }
