@@ -43,15 +43,16 @@ struct Vault {
     guarantee: Guarantee,
     securities: [Security; CASH_KIND],
 }
+/// Each case by its place, from 0; other numbers tell no book.
 #[repr(C)]
 #[derive(Clone, Copy, Debug, PartialEq, Eq)]
-pub(super) struct Marks {
-    dated: bool,
-    day: u32,
-    phase: u8,
-    status: u8,
-    failed: u8,
-    short: u8,
+pub struct Marks {
+    pub dated: bool,
+    pub day: u32,
+    pub phase: u8,
+    pub status: u8,
+    pub failed: u8,
+    pub short: u8,
 }
 #[repr(C)]
 #[derive(Clone, Copy, Debug, PartialEq, Eq)]
@@ -69,7 +70,7 @@ pub struct Page {
     cash: Cash,
     vault: Vault,
     size: Sheets,
-    marks: Marks,
+    pub marks: Marks,
     withdrawals: Withdrawals,
     trades: usize,
 }

@@ -45,6 +45,12 @@ pub struct Rows {
     units: [u64; APPLICATIONS],
 }
 
+impl Rows {
+    pub fn marks(&mut self) -> &mut Marks {
+        &mut self.slate.marks
+    }
+}
+
 extern "C" {
     fn lent_apply(
         calendar: *const u32,

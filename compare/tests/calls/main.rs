@@ -7,6 +7,7 @@ mod lengths;
 mod limits;
 mod sides;
 mod unfit;
+mod untold;
 
 use model::cases::ledger::Ledger;
 use model::generator::corpus;

@@ -44,7 +44,7 @@ pub fn every_event() -> Vec<[u8; EVENT_BYTES]> {
 }
 
 /// Of any fit book on a day with two trades or more.
-pub const UNFIT: [Change; 45] = [
+pub const UNFIT: [Change; 47] = [
     ("calendar above 1,200 words", |l| l.calendar.resize(1_201, 0)),
     ("capacity above 4,096", |l| l.table.resize(4_097, Trade::default())),
     ("more trades than capacity", |l| l.table.truncate(l.book.trades - 1)),
@@ -101,11 +101,9 @@ pub const UNFIT: [Change; 45] = [
     ("no day, but trades", |l| (l.book.day, l.book.phase) = (None, Phase::Closed)),
     ("no day, but Trading", |l| (l.book.day, l.book.phase, l.book.trades) = (None, Phase::Trading, 0)),
     ("no day, but Paid", |l| (l.book.day, l.book.phase, l.book.trades) = (None, Phase::Paid, 0)),
+    ("failed run above 2", |l| l.book.failed_run = 3),
+    ("short run above 3", |l| l.book.short_run = 4),
 ];
-
-/// "a run of failed payments (0 to 2) and of short closes (0 to 3)"
-pub const RUNS_PAST_THEIR_RANGE: [Change; 2] =
-    [("failed run above 2", |l| l.book.failed_run = 3), ("short run above 3", |l| l.book.short_run = 4)];
 
 /// What all cash together lacks to be one above 10^16.
 fn one_above_all_cash(ledger: &Ledger) -> u64 {

@@ -2,11 +2,11 @@
 
 use model::answer::Answer;
 use model::cases::ledger::Ledger;
-use model::cases::unfit::{busy_ledger, every_event, RUNS_PAST_THEIR_RANGE, STILL_FIT, UNFIT};
+use model::cases::unfit::{busy_ledger, every_event, STILL_FIT, UNFIT};
 
 #[test]
 fn every_way_of_being_unfit_is_answered_1() {
-    for (name, change) in UNFIT.into_iter().chain(RUNS_PAST_THEIR_RANGE) {
+    for (name, change) in UNFIT {
         let mut ledger = busy_ledger();
         change(&mut ledger);
         assert!(!ledger.is_fit(), "{name}");
