@@ -18,7 +18,7 @@ use rules::book::Status;
 use rules::book::Vault;
 use rules::book::Withdrawals;
 
-// Where the firm stands. `day` counts where `dated`.
+// Where the firm stands, each case by its place. `day` counts where `dated`, and is else 0.
 #[repr(C)]
 pub struct Marks {
     pub dated: bool,

@@ -1,4 +1,4 @@
--- `book_cover` meets its contract, by a walk of its MIR. The page is looked into and copied, the book is read off it, and `cover` gets the calendar and the table as they came.
+-- `book_cover` meets its contract, by a walk of its MIR. The page is looked into and copied, the copy gives the book, and `cover` gets the calendar and the table as they came.
 -- Assumes nothing.
 use mathlib.Core.Path.{_≡_, refl, ap, subst}
 use Prim.Native.Nat.{ℕ}

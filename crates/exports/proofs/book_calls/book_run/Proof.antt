@@ -1,4 +1,4 @@
--- `book_run` meets its contract, by a walk of its MIR. The page's borrow is opened, the book is read off it, `run` gets the table and the lines lent on, and the page of the book that it leaves is stored before the borrow is closed.
+-- `book_run` meets its contract, by a walk of its MIR. The page's borrow is opened and the page copied, the copy gives the book, `run` gets the table and the lines lent on, and the page that is left is stored before the borrow is closed.
 -- Assumes nothing.
 use mathlib.Core.Path.{_≡_, refl, ap, subst, _∙_}
 use Prim.Native.Nat.{ℕ}
@@ -19,7 +19,7 @@ use contract.Running.{givenOf, tables, tablesOf}
 use sound.WpLaws.{WpFn-mono, FmC, fmOf}
 use types.Kit.{Given, Item, Sq, runs, mean, given, learn, ‵, raw, _⊛_, some, later, ⋆, atRet, _$_, _∵_, !, qed, by, move, keep, use1, use3, drop, split, join, pick, check, show, rewrite, fsplit, fsplit3, fjoin, fjoin3, feqL, feqI, suffices, frame, await, updating, now as at-once, done}
 use types.Part.{agg, whole, sub, look-in}
-use types.Run.{look, look-raw, store, store-raw, init, forget, stop, hop, fld, from, load as loads, addr, no-more, and-then, of-opd, assigns, land, returns, enter, alloc1, alloc0, params1, pass1, pass0, free1, free0}
+use types.Run.{look, look-raw, store-raw, init, forget, stop, hop, fld, from, load as loads, addr, no-more, and-then, of-opd, assigns, land, returns, enter, alloc1, alloc0, params1, pass1, pass0, free1, free0}
 use types.SemTy.{Body}
 use denote.RattleType.{owns}
 use denote.Laws.{Is, shows}
