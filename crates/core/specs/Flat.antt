@@ -1,5 +1,5 @@
--- How the core lays out its table, four numbers a trade, and its book, a desk and rows: what `Lent` reads numbers by. The second half, from
--- "what the core may rely on", serves private contracts. No rule of document 01 stands here.
+-- How the core lays out its table, four numbers a trade, and its book, a desk and rows: what `Lent` reads numbers by. Promises of other calls
+-- cite this layout and `appliedOf`; all else serves private contracts. No rule of document 01 stands here.
 -- Assumes nothing.
 use Prim.Native.Nat.{ℕ, zero, suc, _+_, _*_, _/_, _%_, _≤_}
 use mathlib.Core.Path.{_≡_}

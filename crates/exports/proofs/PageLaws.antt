@@ -23,7 +23,7 @@ use Rattle.core.proofs.CoverLaws.{unfit-cover}
 use Rattle.core.proofs.RunLaws.{unfit-run}
 use Rattle.exports.specs.declared.page.Page.{Page}
 use Rattle.exports.specs.Page.{isTold, bookOn, pageOf, PageOutcome, onPage, stepOn, coverOn, PageRun, runOnPage, runOn}
-use Rattle.exports.specs.Given.{tradesGiven, bookGiven, pageAfter}
+use Rattle.exports.specs.Given.{tradesGiven, bookGiven, pageLeft}
 
 told-given : (page : Page) → isTold (page .marks) ≡ true → bookGiven page ≡ bookOn page
 unfolding tradesGiven bookGiven bookOn
@@ -35,10 +35,10 @@ no-room slots = by-test (λ x. (x && leb 4097 slots) ≡ false) (leb slots 4096)
 
 -- what is left of a step and of a run on the book that a page gives
 abbrev pub afterStep : Page → Outcome → PageOutcome
-afterStep page left = record { answer = left .answer; page = pageAfter page (left .book); table = left .table }
+afterStep page left = record { answer = left .answer; page = pageLeft page (left .book); table = left .table }
 
 abbrev pub afterRun : Page → RunOutcome → PageRun
-afterRun page left = record { number = left .ran .number; page = pageAfter page (left .ran .book); table = left .table; lines = left .lines }
+afterRun page left = record { number = left .ran .number; page = pageLeft page (left .ran .book); table = left .table; lines = left .lines }
 
 module _ (calendar : Calendar) (page : Page) (table : List Trade) where
   untold-unfit : isTold (page .marks) ≡ false → unfit calendar (bookGiven page) table ≡ true
@@ -46,7 +46,7 @@ module _ (calendar : Calendar) (page : Page) (table : List Trade) where
   untold-unfit e = rw (e, no-room (length table)) refl
 
   pub step-given : (entry : Entry) → afterStep page (step calendar (bookGiven page) table entry) ≡ stepOn calendar page table entry
-  unfolding stepOn pageAfter
+  unfolding stepOn pageLeft
   step-given entry =
       let left = step calendar (bookGiven page) table entry in
       by-test (λ told. record { answer = left .answer; page = cond told (pageOf (left .book)) page; table = left .table } ≡ cond told (onPage (step calendar (bookOn page) table entry)) (record { answer = answer 1; page = page; table = table }))
@@ -59,7 +59,7 @@ module _ (calendar : Calendar) (page : Page) (table : List Trade) where
       (isTold (page .marks)) (λ e. rw (told-given page e) refl) (λ e. unfit-cover calendar (bookGiven page) table (untold-unfit e))
 
   pub run-given : (bytes buffer : List ℕ) → afterRun page (runOutcome calendar (bookGiven page) table bytes buffer) ≡ runOn calendar page table bytes buffer
-  unfolding runOn pageAfter
+  unfolding runOn pageLeft
   run-given bytes buffer =
       let left = runOutcome calendar (bookGiven page) table bytes buffer in
       by-test (λ told. record { number = left .ran .number; page = cond told (pageOf (left .ran .book)) page; table = left .table; lines = left .lines } ≡ cond told (runOnPage (runOutcome calendar (bookOn page) table bytes buffer)) (record { number = 1; page = page; table = table; lines = buffer }))

@@ -12,7 +12,8 @@ use Rattle.rules.specs.declared.book.FailedRun.the-variants.{NotFailed, FailedO
 use Rattle.rules.specs.declared.book.ShortRun.{ShortRun}
 use Rattle.rules.specs.declared.book.ShortRun.the-variants.{NotShort, ShortOnce, ShortTwice, ShortThrice}
 use Rattle.desk.specs.declared.state.Desk.{Desk}
-use Rattle.exports.specs.Page.{dayAt, phaseAt, statusAt, failedAt, shortAt, isDated, dayNumber, phaseNumber, statusNumber, failedNumber, shortNumber}
+use Rattle.rules.specs.Days.{dayNumber}
+use Rattle.exports.specs.Page.{dayAt, phaseAt, statusAt, failedAt, shortAt, isDated, phaseNumber, statusNumber, failedNumber, shortNumber}
 use Rattle.exports.specs.Slate.{deskOn, slateOf}
 
 day-back : (day : Day) → dayAt (isDated day) (dayNumber day) ≡ day

@@ -18,7 +18,8 @@ use Rattle.rules.proofs.FoldLaws.{every-holds}
 use Rattle.exports.specs.declared.page.Marks.{Marks}
 use Rattle.exports.specs.declared.page.Page.{Page}
 use Rattle.exports.specs.declared.slate.Slate.{Slate}
-use Rattle.exports.specs.Page.{isTold, dayAt, phaseAt, statusAt, failedAt, shortAt, standingAt, bookOn, isDated, dayNumber, phaseNumber, statusNumber, failedNumber, shortNumber, marksOf, pageOf, stepOn}
+use Rattle.rules.specs.Days.{dayNumber}
+use Rattle.exports.specs.Page.{isTold, dayAt, phaseAt, statusAt, failedAt, shortAt, standingAt, bookOn, isDated, phaseNumber, statusNumber, failedNumber, shortNumber, marksOf, pageOf, stepOn}
 use Rattle.exports.specs.Slate.{deskOn, slateOf}
 
 dated-told : (dated : Bool) (day : ℕ) → isDated (dayAt dated day) ≡ dated

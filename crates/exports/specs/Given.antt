@@ -1,7 +1,8 @@
 -- What the calls on a page hand on, and what they write back. It states no rule.
 -- Assumes nothing.
-use Prim.Native.Nat.{ℕ}
+use Prim.Native.Nat.{ℕ, _+_}
 use mathlib.Core.Bool.{cond}
+use Rattle.rules.specs.Limits.{capacityLimit}
 use Rattle.rules.specs.declared.book.Book.{Book}
 use Rattle.exports.specs.declared.page.Marks.{Marks}
 use Rattle.exports.specs.declared.page.Page.{Page}
@@ -9,7 +10,7 @@ use Rattle.exports.specs.Page.{isTold, standingAt, pageOf}
 
 -- for a page that tells no book, one more than a table may have slots: such a book is not fit, whatever the table
 unfoldable pub tradesGiven : Marks → (trades : ℕ) → ℕ
-tradesGiven marks trades = cond (isTold marks) trades 4097
+tradesGiven marks trades = cond (isTold marks) trades (capacityLimit + 1)
 
 unfoldable pub bookGiven : Page → Book
 bookGiven page = record {
@@ -23,5 +24,5 @@ bookGiven page = record {
 }
 
 -- a page that tells no book stays as it is
-unfoldable pub pageAfter : Page → Book → Page
-pageAfter page book = cond (isTold (page .marks)) (pageOf book) page
+unfoldable pub pageLeft : Page → Book → Page
+pageLeft page book = cond (isTold (page .marks)) (pageOf book) page

@@ -8,6 +8,7 @@ use lib.Dec.{leb, eqb}
 use Rattle.money.specs.Days.{Calendar}
 use Rattle.rules.specs.Folds.{every}
 use Rattle.rules.specs.Book.{answer}
+use Rattle.rules.specs.Days.{dayNumber}
 use Rattle.rules.specs.Step.{Outcome, step}
 use Rattle.rules.specs.Cover.{uncounted, coverOf}
 use Rattle.rules.specs.Listing.{RunOutcome, runOutcome}
@@ -86,10 +87,6 @@ bookOn page = record {
 abbrev pub isDated : Day → Bool
 isDated Never = false
 isDated (On day) = true
-
-abbrev pub dayNumber : Day → ℕ
-dayNumber Never = 0
-dayNumber (On day) = day
 
 abbrev pub phaseNumber : Phase → ℕ
 phaseNumber Closed = 0

@@ -1,7 +1,8 @@
 // A book in plain numbers, and back: no enum crosses to C, so each of its cases is told by its place, from 0.
 ghost use mathlib.Core.Path.{_≡_};
-ghost use Rattle.exports.specs.Page.{isTold, dayAt, phaseAt, statusAt, failedAt, shortAt, standingAt, isDated, dayNumber, phaseNumber, statusNumber, failedNumber, shortNumber, marksOf, pageOf};
-ghost use Rattle.exports.specs.Given.{tradesGiven, bookGiven, pageAfter};
+ghost use Rattle.rules.specs.Days.{dayNumber};
+ghost use Rattle.exports.specs.Page.{isTold, dayAt, phaseAt, statusAt, failedAt, shortAt, standingAt, isDated, phaseNumber, statusNumber, failedNumber, shortNumber, marksOf, pageOf};
+ghost use Rattle.exports.specs.Given.{tradesGiven, bookGiven, pageLeft};
 use money::units::Sheets;
 use rules::answer::Answer;
 use rules::answer::Applied;
@@ -252,7 +253,7 @@ fn page_of(book: Book) -> Page
 }
 
 fn page_left(page: Page, book: Book) -> Page
-    ensures { λ r. ⌜ r ≡ pageAfter page book ⌝ }
+    ensures { λ r. ⌜ r ≡ pageLeft page book ⌝ }
 {
     if is_told(page.marks) {
         return page_of(book);
@@ -262,7 +263,7 @@ fn page_left(page: Page, book: Book) -> Page
 
 // What an event and a run leave, in two parts: the proofs of the calls over a lent table only hand it on.
 pub fn page_after(page: Page, applied: Applied) -> Page
-    ensures { λ r. ⌜ r ≡ pageAfter page (applied .book) ⌝ }
+    ensures { λ r. ⌜ r ≡ pageLeft page (applied .book) ⌝ }
 {
     let book = applied.book;
     page_left(page, book)
@@ -275,7 +276,7 @@ pub fn answer_of(applied: Applied) -> Answer
 }
 
 pub fn page_ran(page: Page, ran: Ran) -> Page
-    ensures { λ r. ⌜ r ≡ pageAfter page (ran .book) ⌝ }
+    ensures { λ r. ⌜ r ≡ pageLeft page (ran .book) ⌝ }
 {
     let book = ran.book;
     page_left(page, book)

@@ -67,7 +67,7 @@ use Rattle.book.proofs.table.apply.Symbol as apply-def
 use Rattle.book.proofs.table.apply.Symbol.{name as #apply}
 use Rattle.book.proofs.table.apply.Met as apply-thm
 use Rattle.exports.specs.declared.page.Page.{Page}
-use Rattle.exports.specs.Given.{bookGiven, pageAfter}
+use Rattle.exports.specs.Given.{bookGiven, pageLeft}
 use Rattle.exports.proofs.page.Page as Pg
 use Rattle.exports.proofs.page.Page.Laws as Pg′
 use Rattle.exports.proofs.PageLaws.{step-given}
@@ -130,7 +130,7 @@ module _ {M : Type 1} (𝓤 : URA M) (H : Heap 𝓤) (A : Atoms 𝓤) (W : Given
   result = appliedOf left
 
   abbrev pg′ : Page
-  pg′ = pageAfter pg (left .book)
+  pg′ = pageLeft pg (left .book)
 
   -- machine values
   abbrev cv : Val

@@ -55,7 +55,7 @@ use Rattle.book.proofs.table.run.Symbol as run-def
 use Rattle.book.proofs.table.run.Symbol.{name as #run}
 use Rattle.book.proofs.table.run.Met as run-thm
 use Rattle.exports.specs.declared.page.Page.{Page}
-use Rattle.exports.specs.Given.{bookGiven, pageAfter}
+use Rattle.exports.specs.Given.{bookGiven, pageLeft}
 use Rattle.exports.proofs.page.Page as Pg
 use Rattle.exports.proofs.page.Page.Laws as Pg′
 use Rattle.exports.proofs.PageLaws.{run-given}
@@ -115,7 +115,7 @@ module _ {M : Type 1} (𝓤 : URA M) (H : Heap 𝓤) (A : Atoms 𝓤) (W : Given
   result = left .ran
 
   abbrev pg′ : Page
-  pg′ = pageAfter pg (result .book)
+  pg′ = pageLeft pg (result .book)
 
   -- machine values
   abbrev cv : Val

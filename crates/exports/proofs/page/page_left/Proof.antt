@@ -1,6 +1,6 @@
 use mathlib.Core.Path.{refl, sym, _∙_}
 use borrow.Author.Needs.{needs}
-use Rattle.exports.specs.Given.{pageAfter}
+use Rattle.exports.specs.Given.{pageLeft}
 use Rattle.exports.proofs.page.page_left.Statement.{statement}
 use Rattle.exports.proofs.page.page_left.Tie as tie
 
@@ -11,11 +11,11 @@ page-of-requires : tie.Need-page-of-requires
 page-of-requires c κs = search needs
 
 returns : tie.Need-returns
-unfolding pageAfter
+unfolding pageLeft
 returns c = rw (sym (c .before .before .is-told .ensures) ∙ c .before .if1 .taken) (c .page-of .ensures)
 
 returns-2 : tie.Need-returns-2
-unfolding pageAfter
+unfolding pageLeft
 returns-2 c = rw (sym (c .before .is-told .ensures) ∙ c .if1 .left) refl
 
 pub page-left-spec : {M : Type 1} → statement M
