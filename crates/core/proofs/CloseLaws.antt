@@ -111,7 +111,7 @@ module _ (table after : List ℕ) (count day : ℕ) (kept : Kept table count) (s
   redeemed-kept = record {
     room = omega (arith, kept .room);
     few = kept .few;
-    within = rw redeemed-in-use (fewer-fit (matured-lessens day (tradesTo table count)) (kept .within));
+    within = rw redeemed-in-use (fewer-fit {last = 0} (matured-lessens day (tradesTo table count)) (kept .within));
   }
 
   -- spare slots keep their content
@@ -126,7 +126,7 @@ module _ (book : Book) (table after : List ℕ) (day : ℕ) (d : day ≡ today b
       ∙ (ap (λ n. map (matured n) (tradesTo table (book .trades))) d
       ∙ ap (map (matured (today book))) (sym (take-trades table (book .trades) (omega (arith, kept .room)))))
 
-  pub packed-after-maturity : packed (book .trades) (remaining (tradesTo after (book .trades))) (tradesOf after) ≡ closedTable book (tradesOf table)
+  pub packed-after-maturity : packed (book .trades) (remaining (tradesTo after (book .trades))) (tradesOf after) ≡ closedTable book (maturedTrades book (tradesOf table)) (tradesOf table)
   unfolding closedTable
   packed-after-maturity = rw (trades-after-maturity, spare-slots-kept table after (book .trades) day kept same redeemed)
 
@@ -143,23 +143,23 @@ module _ (book : Book) (s : securitiesFit (book .vault) ≡ true) (c : cashFit (
       record { securities = arrived .securities; free = arrived .cash .free; cash = omega (arith, arrived .cash .sum) }
 
   -- the vault that they leave has a value
-  pub evening-sound : (table : List Trade) → Sound (evening book table .vault)
+  pub evening-sound : (left : List Trade) → Sound (evening book left .vault)
   unfolding evening
-  evening-sound table = applications-sound (served (book .standing)) (outstanding (maturedTrades book table)) (book .withdrawals) (begun book) evening-begins
+  evening-sound left = applications-sound (served (book .standing)) (outstanding left) (book .withdrawals) (begun book) evening-begins
 
 -- ---- what Close gives back, refused and done
 
-module _ (calendar : Calendar) (desk : Desk) (rows : Rows) (table : List Trade) where
+module _ (calendar : Calendar) (desk : Desk) (rows : Rows) (left table : List Trade) where
   abbrev outcome : Option ℕ
   outcome = firstOf (closeCauses calendar (bookOf desk rows) table)
 
   pub close-refused : (n : ℕ) (r : Done) → outcome ≡ some n → r ≡ record { answer = answer n; desk = desk }
-      → (appliedAt r rows ≡ closedBy outcome calendar (bookOf desk rows) table) × (table ≡ tableBy outcome table (closedTable (bookOf desk rows) table))
-  close-refused n r e left = rw (e, left) (refl, refl)
+      → (appliedAt r rows ≡ closedBy outcome calendar (bookOf desk rows) left table) × (table ≡ tableBy outcome table (closedTable (bookOf desk rows) left table))
+  close-refused n r e same = rw (e, same) (refl, refl)
 
-pub close-done : (calendar : Calendar) (book : Book) (table : List Trade) (matured : ℕ) (evened : Evened) (securities : List Security) (desk : Desk) (rows : Rows)
-    → matured ≡ maturedSheets book table → eveningAt evened securities ≡ evening book table → bookOf desk rows ≡ closedBook calendar book table
-    → appliedAt (record { answer = record { number = 0; matured = sheets matured; done = evened .done; dropped = evened .dropped }; desk = desk }) rows ≡ closedBy none calendar book table
+pub close-done : (calendar : Calendar) (book : Book) (left table : List Trade) (matured : ℕ) (evened : Evened) (securities : List Security) (desk : Desk) (rows : Rows)
+    → matured ≡ maturedSheets book table → eveningAt evened securities ≡ evening book left → bookOf desk rows ≡ closedBook calendar book left table
+    → appliedAt (record { answer = record { number = 0; matured = sheets matured; done = evened .done; dropped = evened .dropped }; desk = desk }) rows ≡ closedBy none calendar book left table
 unfolding closeAnswer
-close-done calendar book table matured evened securities desk rows m end next =
+close-done calendar book left table matured evened securities desk rows m end next =
     rw (m, sym end, sym next)

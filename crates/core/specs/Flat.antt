@@ -165,9 +165,10 @@ appliedBy cause before after = givenBy cause before (record { answer = answer 0;
 abbrev pub paidBy : Option ℕ → Book → Applied
 paidBy cause before = givenBy cause before (record { answer = answer (payNumber (fails before)); book = afterPay (fails before) before })
 
--- Close carries its figures in the answer
-abbrev pub closedBy : Option ℕ → Calendar → Book → List Trade → Applied
-closedBy cause calendar before table = givenBy cause before (record { answer = closeAnswer before table; book = closedBook calendar before table })
+-- Close carries its figures in the answer; `left` are the trades in use as its part (b) begins
+abbrev pub closedBy : Option ℕ → Calendar → Book → (left table : List Trade) → Applied
+closedBy cause calendar before left table =
+    givenBy cause before (record { answer = closeAnswer before left table; book = closedBook calendar before left table })
 
 -- what a step gives back beside the table
 abbrev pub appliedOf : Outcome → Applied

@@ -103,7 +103,7 @@ fn clear(kinds: &mut [u8], units: &mut [u64])
     }
 }
 
-// The evening's end, with the sheets that are left after maturity.
+// The evening's end, with the sheets of the trades that part (a) leaves.
 fn evening_end(desk: Desk, held: &mut [u64], kinds: &[u8], units: &[u64], left: u64) -> Evened
     requires { ⌜ (length (now held) ≡ 128) × (length (now kinds) ≡ 128) × (length (now units) ≡ 128) ⌝ }
     requires { let book = bookOf desk (rowsOf (now held) (now kinds) (now units)) in
@@ -112,8 +112,7 @@ fn evening_end(desk: Desk, held: &mut [u64], kinds: &[u8], units: &[u64], left: 
         × (cashFit (desk .cash) (desk .guarantee) ≡ true) ⌝ }
     ensures { λ r.
         let book = bookOf desk (rowsOf (now (held .entry)) (now (kinds .entry)) (now (units .entry))) in
-        ⌜ ((table : List Trade) →
-        left ≡ outstanding (maturedTrades book table) → eveningAt r (securitiesOf (now (held .exit))) ≡ eveningOf book table) ⌝ }
+        ⌜ ((trades : List Trade) → left ≡ outstanding trades → eveningAt r (securitiesOf (now (held .exit))) ≡ eveningOf book trades) ⌝ }
 {
     let standing = desk.standing;
     let guarantee = desk.guarantee;
@@ -149,14 +148,13 @@ fn closed_desk(
         × (evened .guarantee .frozen .0 ≤ evened .guarantee .effective .0)
         × (evened .guarantee .effective .0 ≤ 10000000000000000) ⌝ }
     ensures { λ r.
-        ⌜ ((calendar : Calendar) (rows : Rows) (table : List Trade) →
+        ⌜ ((calendar : Calendar) (rows : Rows) (trades table : List Trade) →
         let book = bookOf desk rows in
-        let matured = maturedTrades book table in
         cleared ≡ record { today = pos 0; cleared = clearedAtClose calendar book table }
-        → eveningAt evened (securitiesOf (now (held .entry))) ≡ eveningOf book table
-        → left ≡ outstanding matured
-        → kept ≡ length (remaining matured)
-        → bookOf r (rowsOf (now (held .entry)) (noApplications .kinds) (noApplications .units)) ≡ closedBook calendar book table) ⌝ }
+        → eveningAt evened (securitiesOf (now (held .entry))) ≡ eveningOf book trades
+        → left ≡ outstanding trades
+        → kept ≡ length (remaining trades)
+        → bookOf r (rowsOf (now (held .entry)) (noApplications .kinds) (noApplications .units)) ≡ closedBook calendar book trades table) ⌝ }
 {
     let standing = desk.standing;
     let short = standing.short;
@@ -194,11 +192,12 @@ fn closed(
     ensures { λ r.
         let book = bookOf desk (rowsOf (now (held .entry)) (now (kinds .entry)) (now (units .entry))) in
         let trades = tradesOf (now (table .entry)) in
+        let remains = maturedTrades book trades in
         ⌜ ((calendar : Calendar) →
         matured ≡ maturedSheets book trades
         → cleared ≡ record { today = pos 0; cleared = clearedAtClose calendar book trades }
-        → appliedAt r (rowsOf (now (held .exit)) (now (kinds .exit)) (now (units .exit))) ≡ closedBy none calendar book trades)
-        × (tradesOf (now (table .exit)) ≡ closedTable book trades) ⌝ }
+        → appliedAt r (rowsOf (now (held .exit)) (now (kinds .exit)) (now (units .exit))) ≡ closedBy none calendar book remains trades)
+        × (tradesOf (now (table .exit)) ≡ closedTable book remains trades) ⌝ }
 {
     let standing = desk.standing;
     let day = standing.day;
@@ -229,10 +228,11 @@ pub fn close(
     ensures { λ r.
         let book = bookOf desk (rowsOf (now (held .entry)) (now (kinds .entry)) (now (units .entry))) in
         let trades = tradesOf (now (table .entry)) in
+        let remains = maturedTrades book trades in
         let left = rowsOf (now (held .exit)) (now (kinds .exit)) (now (units .exit)) in
         let cause = firstOf (closeCauses (now (calendar .entry)) book trades) in
-        ⌜ (appliedAt r left ≡ closedBy cause (now (calendar .entry)) book trades)
-        × (tradesOf (now (table .exit)) ≡ tableBy cause trades (closedTable book trades)) ⌝ }
+        ⌜ (appliedAt r left ≡ closedBy cause (now (calendar .entry)) book remains trades)
+        × (tradesOf (now (table .exit)) ≡ tableBy cause trades (closedTable book remains trades)) ⌝ }
 {
     let standing = desk.standing;
     if !may_close(standing) {

@@ -1,21 +1,23 @@
 -- The relation between a book with its table and the tally, and what is to be shown of each entry.
 -- For demand 3: EventsAgree shows it of each accepted event, Demand3Proof of a list. Assumes nothing.
 use mathlib.Core.Path.{_≡_, refl, ap, _∙_}
-use mathlib.Core.Bool.{false}
+use mathlib.Core.Bool.{Bool, true, not, _||_}
 use mathlib.Core.List.{List, []}
 use mathlib.Core.Option.{Option, none, some}
 use Prim.Native.Nat.{ℕ, _+_}
+use borrow.Author.Tests.{not-true}
 use lib.Dec.{T}
 use lib.IntN.{ℤ, pos, _+ℤ_, +ℤ-idr}
 use Rattle.money.specs.Days.{Calendar, dayOr0}
 use Rattle.rules.specs.Book.{Day, Status, Normal, Suspended, Terminated, Book, isTerminated}
 use Rattle.rules.specs.Days.{following, toDay, dayNumber, paymentDay}
 use Rattle.rules.specs.Trades.{Trade, inUse, outstanding, remaining}
-use Rattle.rules.specs.Entry.{Event, Known}
+use Rattle.rules.specs.Entry.{Event, Entry, Known}
 use Rattle.rules.specs.Step.{act}
 use Rattle.rules.specs.Run.{Seen}
 use Rattle.rules.specs.Tally.{Tally, dayAfter, paidOn, saysTerminated, tell}
 use Rattle.rules.specs.Demand3.{told, isInitial, isPay, InitialCovered, PaymentRight, movedAt}
+use Rattle.rules.proofs.FoldLaws.{neither}
 use Rattle.rules.proofs.CashKept.{cashOf}
 
 -- ---- the relation
@@ -56,15 +58,20 @@ pub record Right (calendar : Calendar) (t : Tally) (seen : Seen) : Type 0 where
   pub payment : PaymentRight t seen
   pub moves : t .paid +ℤ movedAt seen ≡ tell calendar t (told seen) .paid
 
--- an entry that is neither Initial nor Pay
-pub right : (calendar : Calendar) (t : Tally) (seen : Seen) → isInitial (seen .entry) ≡ false → isPay (seen .entry) ≡ false → t .paid ≡ tell calendar t (told seen) .paid
+-- an entry that demand 3 claims nothing about by itself
+abbrev pub plain : Entry → Bool
+plain entry = not (isInitial entry || isPay entry)
+
+pub right : (calendar : Calendar) (t : Tally) (seen : Seen) → plain (seen .entry) ≡ true → t .paid ≡ tell calendar t (told seen) .paid
     → Agrees (view (seen .left .book) (seen .left .table)) (tell calendar t (told seen)) → Right calendar t seen
-right calendar t seen initial pay paid agrees = record {
-  agrees = agrees;
-  initial = λ h a. absurd (rw initial at h);
-  payment = λ h a. absurd (rw pay at h);
-  moves = rw pay (+ℤ-idr (t .paid)) ∙ paid;
-}
+right calendar t seen nothing paid agrees =
+    let off = neither (isInitial (seen .entry)) (isPay (seen .entry)) (not-true _ nothing) in
+    record {
+      agrees = agrees;
+      initial = λ h a. absurd (rw (off .0) at h);
+      payment = λ h a. absurd (rw (off .1) at h);
+      moves = rw (off .1) (+ℤ-idr (t .paid)) ∙ paid;
+    }
 
 abbrev pub acted : Calendar → Book → List Trade → Event → Seen
 acted calendar book table event = record { book = book; table = table; entry = Known event; left = act calendar book table event }

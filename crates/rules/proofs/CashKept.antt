@@ -122,10 +122,10 @@ unfolding inTurn
 inTurn-keeps measure f keeps zero a = refl
 inTurn-keeps measure f keeps (suc n) a = keeps n (inTurn n f a) ∙ inTurn-keeps measure f keeps n a
 
-evening-keeps-cash : (book : Book) (table : List Trade) → movable (evening book table) ≡ book .cash .own .0 + book .vault .guarantee .effective .0 + book .vault .guarantee .arriving .0
+evening-keeps-cash : (book : Book) (left : List Trade) → movable (evening book left) ≡ book .cash .own .0 + book .vault .guarantee .effective .0 + book .vault .guarantee .arriving .0
 unfolding evening applications allArrived
-evening-keeps-cash book table = inTurn-keeps movable _ (λ i a. settled-keeps-cash _ _ _ _ a) _ _ ∙ omega arith
+evening-keeps-cash book left = inTurn-keeps movable _ (λ i a. settled-keeps-cash _ _ _ _ a) _ _ ∙ omega arith
 
-pub close-keeps-cash : (calendar : Calendar) (book : Book) (table : List Trade) → cashOf (closedBook calendar book table) ≡ cashOf book
+pub close-keeps-cash : (calendar : Calendar) (book : Book) (left table : List Trade) → cashOf (closedBook calendar book left table) ≡ cashOf book
 unfolding closedBook
-close-keeps-cash calendar book table = omega (arith, evening-keeps-cash book table)
+close-keeps-cash calendar book left table = omega (arith, evening-keeps-cash book left)

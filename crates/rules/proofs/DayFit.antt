@@ -72,17 +72,19 @@ begun-by-next calendar (On day) phase table n d e q =
     ap (λ last. begunBy last (take n table)) (sym (ap dayOr0 q)) ∙ every-holds (dayTests calendar day (take n table)) e .1 .1 .0
 
 pub next-day : (calendar : Calendar) (day : Day) (phase phase′ : Phase) (table l′ : List Trade) (n n′ : ℕ) → dayFit calendar day phase (take n table) n ≡ true
-    → followed calendar (following calendar day) ≡ true → Fewer l′ (take n table) → dayFit calendar (toDay (following calendar day)) phase′ l′ n′ ≡ true
+    → followed calendar (following calendar day) ≡ true → Fewer (paymentDay calendar (toDay (following calendar day))) l′ (take n table)
+    → dayFit calendar (toDay (following calendar day)) phase′ l′ n′ ≡ true
 unfolding followed
-next-day calendar day phase phase′ table l′ n n′ e h f = go (following calendar day) refl h
+next-day calendar day phase phase′ table l′ n n′ e h f = go (following calendar day) refl h f
   where
-    go : (found : Option ℕ) → following calendar day ≡ found → followed calendar found ≡ true → dayFit calendar (toDay found) phase′ l′ n′ ≡ true
-    go none q h = let z : _≡_ {A = ℕ} 0 1 = cc in absurd (omega arith)
-    go (some d) q h =
+    go : (found : Option ℕ) → following calendar day ≡ found → followed calendar found ≡ true → Fewer (paymentDay calendar (toDay found)) l′ (take n table)
+        → dayFit calendar (toDay found) phase′ l′ n′ ≡ true
+    go none q h f = let z : _≡_ {A = ℕ} 0 1 = cc in absurd (omega arith)
+    go (some d) q h f =
         every-of (dayTests calendar d l′) (
           following-trades calendar day d q,
           (
             h,
-            (fewer-begun d (paymentDay calendar (On d)) (payment-later calendar d h) f (begun-by-next calendar day phase table n d e q), tt),
+            (fewer-begun d (payment-later calendar d h) f (begun-by-next calendar day phase table n d e q), tt),
           ),
         )

@@ -13,7 +13,7 @@ use Rattle.money.specs.Units.{fen}
 use Rattle.rules.specs.Book.{Security, Vault, Book, noSecurity}
 use Rattle.rules.specs.Trades.{Trade, outstanding}
 use Rattle.rules.specs.Vault.{securityAt, isCash, effectiveOf, frozenOf}
-use Rattle.rules.specs.Close.{Evening, maturedTrades, securityArrived, allArrived, fewer, fewerCash, takenOut, covered, mayGo, settleOne, settled, served, applications, evening}
+use Rattle.rules.specs.Close.{Evening, securityArrived, allArrived, fewer, fewerCash, takenOut, covered, mayGo, settleOne, settled, served, applications, evening}
 use Rattle.rules.proofs.FoldLaws.{by-test, both, in-turn-keeps}
 use Rattle.rules.proofs.FitParts.{SecurityFits, SecuritiesFit, CashFits}
 use Rattle.rules.proofs.KeepsFit.{kind-set-fits}
@@ -64,11 +64,11 @@ settled-fits client served outstanding kind units e f = go (mayGo served outstan
         (leb-true (frozenOf (e .vault) kind + units) (effectiveOf (e .vault) kind) (both served enough b .1))
     go false m = record { securities = f .securities; cash = f .cash }
 
-pub evening-fits : (book : Book) (table : List Trade) → SecuritiesFit (book .vault) → CashFits (book .cash) (book .vault .guarantee) → EveningFits (book .cash .client) (evening book table)
+pub evening-fits : (book : Book) (left : List Trade) → SecuritiesFit (book .vault) → CashFits (book .cash) (book .vault .guarantee) → EveningFits (book .cash .client) (evening book left)
 unfolding evening applications
-evening-fits book table s c =
+evening-fits book left s c =
     in-turn-keeps (EveningFits (book .cash .client)) (book .withdrawals .count)
-    (λ i. settled (served (book .standing)) (outstanding (maturedTrades book table)) (getD (book .withdrawals .kinds) i 0) (getD (book .withdrawals .units) i 0))
+    (λ i. settled (served (book .standing)) (outstanding left) (getD (book .withdrawals .kinds) i 0) (getD (book .withdrawals .units) i 0))
     (record { own = book .cash .own; vault = allArrived (book .vault); done = 0; dropped = 0 })
-    (λ i e f. settled-fits (book .cash .client) (served (book .standing)) (outstanding (maturedTrades book table)) (getD (book .withdrawals .kinds) i 0) (getD (book .withdrawals .units) i 0) e f)
+    (λ i e f. settled-fits (book .cash .client) (served (book .standing)) (outstanding left) (getD (book .withdrawals .kinds) i 0) (getD (book .withdrawals .units) i 0) e f)
     (all-arrived-fit (book .cash .client) (book .cash .own) (book .vault) 0 0 s c)

@@ -64,34 +64,34 @@ module _ (calendar : Calendar) (book : Book) (table : List Trade) (t : Tally) (i
   pub at-fundIn : (account : Account) (amount : Fen) → Right calendar t (acted calendar book table (FundIn account amount))
   unfolding act counted tell fundedIn
   at-fundIn account amount =
-      right calendar t _ refl refl refl (with-cash _ _ (ap pos (funds-in-add book account amount) ∙ ap (λ sum. sum +ℤ pos (amount .0)) (i .cash)))
+      right calendar t _ refl refl (with-cash _ _ (ap pos (funds-in-add book account amount) ∙ ap (λ sum. sum +ℤ pos (amount .0)) (i .cash)))
 
   pub at-fundOut : (account : Account) (amount : Fen) → Clear (causes calendar book table (Known (FundOut account amount))) → Right calendar t (acted calendar book table (FundOut account amount))
   unfolding act counted tell fundedOut causes eventCauses fundOutCauses
   at-fundOut account amount clear =
-      right calendar t _ refl refl refl
+      right calendar t _ refl refl
       (with-cash _ _ (rw (← (i .cash)) (same _ _ (omega (arith, funds-out-take book account amount (clear 13), diff-parts (pos (cashOf book)) (pos (amount .0)))))))
 
   pub at-size : (size : Sheets) → Right calendar t (acted calendar book table (Size size))
   unfolding act counted tell sized
-  at-size size = right calendar t _ refl refl refl i
+  at-size size = right calendar t _ refl refl i
 
   pub at-rate : (kind rate : ℕ) → Right calendar t (acted calendar book table (Rate kind rate))
   unfolding act counted tell rated
-  at-rate kind rate = right calendar t _ refl refl refl i
+  at-rate kind rate = right calendar t _ refl refl i
 
   pub at-pledge : (kind units : ℕ) → Clear (causes calendar book table (Known (Pledge kind units))) → Right calendar t (acted calendar book table (Pledge kind units))
   unfolding act counted tell pledged causes eventCauses pledgeCauses
   at-pledge kind units clear =
-      right calendar t _ refl refl refl (with-cash _ _ (ap pos (pledge-keeps-cash book kind units (clear 13)) ∙ i .cash))
+      right calendar t _ refl refl (with-cash _ _ (ap pos (pledge-keeps-cash book kind units (clear 13)) ∙ i .cash))
 
   pub at-freeze : (kind units : ℕ) → Right calendar t (acted calendar book table (Freeze kind units))
   unfolding act counted tell frozen
-  at-freeze kind units = right calendar t _ refl refl refl (with-cash _ _ (ap pos (freeze-keeps-cash book kind units) ∙ i .cash))
+  at-freeze kind units = right calendar t _ refl refl (with-cash _ _ (ap pos (freeze-keeps-cash book kind units) ∙ i .cash))
 
   pub at-withdraw : (kind units : ℕ) → Right calendar t (acted calendar book table (Withdraw kind units))
   unfolding act counted tell withdrawn
-  at-withdraw kind units = right calendar t _ refl refl refl i
+  at-withdraw kind units = right calendar t _ refl refl i
 
   -- the same day is paid on
   payment-day : paidOn calendar (t .day) ≡ paymentDay calendar (book .standing .day)
@@ -128,7 +128,7 @@ module _ (calendar : Calendar) (book : Book) (table : List Trade) (t : Tally) (i
       let enough : q ≤ tradeOf contract trades .sheets .0 = ltb-false (tradeOf contract trades .sheets .0) q (clear 13) in
       let left : 0 < tradeOf contract trades .sheets .0 = omega (arith, eqb-false q 0 (clear 7)) in
       let rows : take (book .trades) (over (book .trades) (takeOff contract q trades) table) ≡ takeOff contract q trades = take-over (book .trades) (takeOff contract q trades) table (within-table calendar book table (clear 1)) (length-takeOff contract q trades) in
-      right calendar t _ refl refl refl
+      right calendar t _ refl refl
       (record {
         day = i .day;
         rows = rw (i .rows, rows) (taken-of-contract contract q trades apart);
@@ -177,11 +177,11 @@ module _ (calendar : Calendar) (book : Book) (table : List Trade) (t : Tally) (i
       let today : dayOr0 (t .day) ≡ d = rw (i .day) (sym (dayNumber-is-dayOr0 (t .day))) in
       let left : List Trade = remaining (map (matured d) trades) in
       let rows : take (length left) (packed (book .trades) left table) ≡ left = take-packed (book .trades) left table in
-      right calendar t _ refl refl refl
+      right calendar t _ refl refl
       (record {
         day = i .day;
         rows = rw (i .rows, today, rows) (taken-due d trades ∙ sym (remaining-remaining (map (matured d) trades)));
-        cash = ap pos (close-keeps-cash calendar book table) ∙ i .cash;
+        cash = ap pos (close-keeps-cash calendar book (maturedTrades book table) table) ∙ i .cash;
         sheets = rw (i .rows, today, rows) (omega (arith, outstanding-remaining (map (matured d) trades), outstanding-matured d trades, sheets-due d trades, i .sheets));
         running = refl;
         cleared = rw (i .rows, today, payment-day, amount-due d payment trades, ← (i .running), i .cleared) (swap-last (book .nets .cleared) (t .paid) (book .nets .today +ℤ pos (total (maturityAmount d payment) trades)));
@@ -246,6 +246,6 @@ module _ (calendar : Calendar) (book : Book) (table : List Trade) (t : Tally) (i
   unfolding act counted tell openedBook openedTable turnsTerminated causes eventCauses
   at-open clear =
       let terminated : Bool = isTerminated (nextStatus (book .standing)) in
-      right calendar t _ refl refl (opened-keeps-paid (saysTerminated (some (nextStatus (book .standing)))) calendar t)
+      right calendar t _ refl (opened-keeps-paid (saysTerminated (some (nextStatus (book .standing)))) calendar t)
       (rw (saysTerminated-is-isTerminated (nextStatus (book .standing)))
       (opens (within-table calendar book table (clear 1)) terminated (not (isTerminated (book .standing .status)) && terminated) refl refl))

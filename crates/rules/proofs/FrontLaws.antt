@@ -23,7 +23,7 @@ use Rattle.rules.specs.Open.{turnsTerminated, openCauses, openedBook, op
 use Rattle.rules.specs.Size.{sizeCauses}
 use Rattle.rules.specs.Initial.{initialCauses, begun, initialTable}
 use Rattle.rules.specs.Early.{earlyCauses, earlyBook, earlyTable}
-use Rattle.rules.specs.Close.{maturedTrades, maturedSheets, maturedAmount, closeCauses, evening, isShortClose, closeAnswer, closedBook, closedTable}
+use Rattle.rules.specs.Close.{maturedTrades, maturedSheets, maturedAmount, closeCauses, closeAnswer, closedBook, closedTable}
 use Rattle.rules.specs.Step.{Outcome, outcome, eventCauses, entryCauses, causes, act, actOn, refuseOr, step}
 use Rattle.rules.specs.Cover.{coverOf}
 
@@ -111,21 +111,17 @@ module _ (calendar : Calendar) (book : Book) (front rest : List Trade) (room : b
   unfolding earlyBook
   early-book-front contract count price = rw in-use
 
-  evening-front : evening book (front ++ rest) ≡ evening book front
-  unfolding evening
-  evening-front = rw matured-front
-
-  answer-front : closeAnswer book (front ++ rest) ≡ closeAnswer book front
+  answer-front : (left : List Trade) → closeAnswer book left (front ++ rest) ≡ closeAnswer book left front
   unfolding closeAnswer maturedSheets
-  answer-front = rw (evening-front, in-use)
+  answer-front left = rw in-use
 
-  closed-book-front : closedBook calendar book (front ++ rest) ≡ closedBook calendar book front
-  unfolding closedBook isShortClose maturedAmount
-  closed-book-front = rw (evening-front, matured-front, in-use)
+  closed-book-front : (left : List Trade) → closedBook calendar book left (front ++ rest) ≡ closedBook calendar book left front
+  unfolding closedBook maturedAmount
+  closed-book-front left = rw in-use
 
-  closed-front : closedTable book (front ++ rest) ≡ closedTable book front ++ rest
+  closed-front : (left : List Trade) → closedTable book left (front ++ rest) ≡ closedTable book left front ++ rest
   unfolding closedTable
-  closed-front = rw matured-front (packed-front (remaining (maturedTrades book front)))
+  closed-front left = packed-front (remaining left)
 
   act-front : (event : Event) → act calendar book (front ++ rest) event ≡ withRest (act calendar book front event) rest
   unfolding act
@@ -140,7 +136,9 @@ module _ (calendar : Calendar) (book : Book) (front rest : List Trade) (room : b
   act-front (Initial terms) = rw (begun-front terms)
   act-front (Early contract count price) = rw (early-front contract count, early-book-front contract count price)
   act-front Pay = refl
-  act-front Close = rw (answer-front, closed-book-front, closed-front)
+  act-front Close =
+      let left = maturedTrades book front in
+      rw (matured-front, answer-front left, closed-book-front left, closed-front left)
 
   -- ---- the entry
 

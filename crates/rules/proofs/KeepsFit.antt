@@ -1,6 +1,6 @@
 -- Events on money, size and collateral leave a fit book: 2 to 8 of the twelve. (01, Twelve events)
 -- Assumes nothing.
-use mathlib.Core.Path.{_≡_, refl}
+use mathlib.Core.Path.{_≡_}
 use mathlib.Core.Bool.{false, cond}
 use mathlib.Core.List.{List}
 use mathlib.Core.Option.{none}
@@ -15,7 +15,6 @@ use Rattle.money.specs.Limits.{unitLimit, rateLimit, cashLimit}
 use Rattle.money.specs.Causes.{firstOf}
 use Rattle.money.specs.Days.{Calendar}
 use Rattle.money.specs.Collateral.{cashKind}
-use Rattle.money.proofs.Refusals.{failed}
 use Rattle.rules.specs.Limits.{sizeLimit, applicationLimit}
 use Rattle.rules.specs.Book.{Cash, Security, Vault, Book, noSecurity, withCash, withVault}
 use Rattle.rules.specs.Trades.{Trade}
@@ -29,6 +28,7 @@ use Rattle.rules.specs.Pledge.{pledgeCauses, arrived, cashArrived, pledg
 use Rattle.rules.specs.Freeze.{freezeCauses, withFrozen, cashFrozen, frozen}
 use Rattle.rules.specs.Withdraw.{applied, withdrawCauses, withdrawn}
 use Rattle.rules.proofs.FoldLaws.{by-test, at-set}
+use Rattle.rules.proofs.Accepted.{all-clear}
 use Rattle.rules.proofs.FitParts.{SecurityFits, SecuritiesFit, CashFits, Fit}
 
 -- ---- collateral with one security set anew
@@ -73,7 +73,7 @@ module _ (calendar : Calendar) (book : Book) (table : List Trade) (f : Fit calen
 
   pub fundedIn-fits : (account : Account) (amount : Fen) → firstOf (fundInCauses book account amount) ≡ none → Fit calendar (fundedIn book account amount) table
   unfolding fundInCauses fundedIn
-  fundedIn-fits account amount e = go account (ltb-false cashLimit (allCash (book .cash) (book .vault .guarantee) + amount .0) (failed (fundInCauses book account amount) e 14 .1 .0 refl))
+  fundedIn-fits account amount e = go account (ltb-false cashLimit (allCash (book .cash) (book .vault .guarantee) + amount .0) (all-clear (fundInCauses book account amount) e 14))
     where
       go : (account : Account) → allCash (book .cash) (book .vault .guarantee) + amount .0 ≤ cashLimit → Fit calendar (fundedIn book account amount) table
       go Own h = with-money _ (book .vault) (record { sum = omega arith; free = f .cash .free }) (f .securities)
@@ -87,7 +87,7 @@ module _ (calendar : Calendar) (book : Book) (table : List Trade) (f : Fit calen
   pub rated-fits : (kind rate : ℕ) → firstOf (rateCauses kind rate) ≡ none → Fit calendar (rated book kind rate) table
   unfolding rateCauses rated
   rated-fits kind rate e =
-      let h = ltb-false rateLimit rate (failed (rateCauses kind rate) e 14 .1 .0 refl) in
+      let h = ltb-false rateLimit rate (all-clear (rateCauses kind rate) e 14) in
       with-money (book .cash) _ (f .cash)
       (set-fits (book .vault) kind (withRate rate (securityAt (book .vault) kind)) (f .securities)
       (λ k. record { units = f .securities kind k .units; rate = h; free = f .securities kind k .free }))
@@ -98,8 +98,8 @@ module _ (calendar : Calendar) (book : Book) (table : List Trade) (f : Fit calen
       let vault = book .vault in
       let own = book .cash .own .0 in
       let security = securityAt vault kind in
-      let owned = failed (pledgeCauses book kind units) e 13 .1 .1 .1 .0 refl in
-      let room = failed (pledgeCauses book kind units) e 14 .1 .1 .1 .1 .0 refl in
+      let owned = all-clear (pledgeCauses book kind units) e 13 in
+      let room = all-clear (pledgeCauses book kind units) e 14 in
       with-money _ _
       (by-test (λ c. CashFits (record { own = fen (cond c (own - units) own); client = book .cash .client }) (cond c (cashArrived units (vault .guarantee)) (vault .guarantee))) (isCash kind)
       (λ c. record { sum = omega (arith, f .cash .sum, ltb-false own units (rw c at owned)); free = f .cash .free }) (λ _. f .cash))
@@ -114,7 +114,7 @@ module _ (calendar : Calendar) (book : Book) (table : List Trade) (f : Fit calen
   unfolding freezeCauses frozen
   frozen-fits kind units e =
       let vault = book .vault in
-      let held = failed (freezeCauses book kind units) e 13 .1 .0 refl in
+      let held = all-clear (freezeCauses book kind units) e 13 in
       with-money (book .cash) _
       (by-test (λ c. CashFits (book .cash) (cond c (cashFrozen units (vault .guarantee)) (vault .guarantee))) (isCash kind)
       (λ c. record { sum = f .cash .sum; free = ltb-false (vault .guarantee .effective .0) units (rw c at held) }) (λ _. f .cash))
@@ -135,8 +135,8 @@ module _ (calendar : Calendar) (book : Book) (table : List Trade) (f : Fit calen
     cash = f .cash;
     each = f .each;
     size = record {
-      within = ltb-false sizeLimit (size .0) (failed (sizeCauses book table size) e 14 .0 refl);
-      covers = ltb-false (size .0) (outstandingOf book table) (failed (sizeCauses book table size) e 15 .1 .0 refl);
+      within = ltb-false sizeLimit (size .0) (all-clear (sizeCauses book table size) e 14);
+      covers = ltb-false (size .0) (outstandingOf book table) (all-clear (sizeCauses book table size) e 15);
     };
     nets = f .nets;
     differing = f .differing;
@@ -147,9 +147,9 @@ module _ (calendar : Calendar) (book : Book) (table : List Trade) (f : Fit calen
   pub withdrawn-fits : (kind units : ℕ) → firstOf (withdrawCauses book kind units) ≡ none → Fit calendar (withdrawn book kind units) table
   unfolding withdrawCauses withdrawn
   withdrawn-fits kind units e =
-      let known = ltb-false cashKind kind (failed (withdrawCauses book kind units) e 3 .0 refl) in
-      let held = ltb-false (effectiveOf (book .vault) kind) (units + frozenOf (book .vault) kind + applied (book .withdrawals) kind) (failed (withdrawCauses book kind units) e 13 .1 .1 .1 .1 .0 refl) in
-      let room = leb-false applicationLimit (book .withdrawals .count) (failed (withdrawCauses book kind units) e 17 .1 .1 .1 .1 .1 .0 refl) in
+      let known = ltb-false cashKind kind (all-clear (withdrawCauses book kind units) e 3) in
+      let held = ltb-false (effectiveOf (book .vault) kind) (units + frozenOf (book .vault) kind + applied (book .withdrawals) kind) (all-clear (withdrawCauses book kind units) e 13) in
+      let room = leb-false applicationLimit (book .withdrawals .count) (all-clear (withdrawCauses book kind units) e 17) in
       let within : units ≤ cashLimit = omega (arith, effective-within (book .cash) (book .vault) kind (f .cash) (f .securities) known) in
       record {
         capacity = f .capacity;

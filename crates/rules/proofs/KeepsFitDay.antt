@@ -18,37 +18,38 @@ use Rattle.money.specs.declared.units.Ticks.{Ticks}
 use Rattle.money.specs.Limits.{tradeLimit, priceLimit}
 use Rattle.money.specs.Causes.{firstOf}
 use Rattle.money.specs.Days.{Calendar}
-use Rattle.money.proofs.Refusals.{failed}
 use Rattle.rules.specs.Limits.{netLimit}
 use Rattle.rules.specs.Book.{Cash, Guarantee, Closed, Trading, Paid, Book, isTerminated}
 use Rattle.rules.specs.Days.{following, paymentDay, followed}
-use Rattle.rules.specs.Trades.{Contract, Trade, Terms, inUse, outstanding, emptied, takeOff, matured, remaining, over}
+use Rattle.rules.specs.Trades.{Contract, Trade, Terms, inUse, outstanding, emptied, takeOff, remaining, over}
 use Rattle.rules.specs.Vault.{value, headroom, outstandingOf}
 use Rattle.rules.specs.Fit.{tradeFit, dayFit}
-use Rattle.rules.specs.Open.{turnsTerminated, netWithFallbacks, openCauses, openedBook, openedTable}
+use Rattle.rules.specs.Open.{nextDay, turnsTerminated, netWithFallbacks, openCauses, openedBook, openedTable}
 use Rattle.rules.specs.Initial.{netLess, initialCauses, begun, initialBook, initialTable}
 use Rattle.rules.specs.Early.{netWithEarly, earlyCauses, earlyBook, earlyTable}
 use Rattle.rules.specs.Pay.{payerHolds, moved, fails, payCauses, afterPay}
 use Rattle.rules.specs.Close.{today, maturedTrades, netWithMatured, clearedAtClose, closeCauses, closedBook, closedTable}
 use Rattle.rules.proofs.FoldLaws.{neither, every-of}
 use Rattle.rules.proofs.TradeLaws.{outstanding-append, outstanding-one, length-takeOff, take-over, length-over, take-packed, length-packed, take-begun}
-use Rattle.rules.proofs.TableFit.{Fewer, all-the-same, emptied-lessens, matured-lessens, takeOff-lessens, remaining-lessens, fewer-length, fewer-outstanding, fewer-fit, fewer-begun, fewer-differ, all-append, differ-append}
+use Rattle.rules.proofs.TableFit.{Fewer, tradeTests, all-the-same, emptied-lessens, matured-lessens, takeOff-lessens, remaining-lessens, fewer-length, fewer-outstanding, fewer-fit, fewer-begun, fewer-differ, all-append, differ-append}
 use Rattle.rules.proofs.DayFit.{trading-not-closed, closing-not-closed, same-day, next-day}
 use Rattle.rules.proofs.EveningFit.{evening-fits}
+use Rattle.rules.proofs.Accepted.{all-clear}
 use Rattle.rules.proofs.FitParts.{SecuritiesFit, CashFits, NetsFit, WithdrawalsFit, Fit}
 
 -- ---- a table that holds the same trades, some lessened and some gone
 
-pub record Lessens (n n′ : ℕ) (table table′ : List Trade) : Type 0 where
+pub record Lessens (last n n′ : ℕ) (table table′ : List Trade) : Type 0 where
   pub long : length table′ ≡ length table
   pub count : n′ ≤ n
-  pub fewer : Fewer (inUse n′ table′) (inUse n table)
+  pub fewer : Fewer last (inUse n′ table′) (inUse n table)
 
-same-lessens : (n : ℕ) (table : List Trade) → Lessens n n table table
-same-lessens n table = record { long = refl; count = omega arith; fewer = all-the-same (inUse n table) }
+same-lessens : (last n : ℕ) (table : List Trade) → Lessens last n n table table
+same-lessens last n table = record { long = refl; count = omega arith; fewer = all-the-same (inUse n table) }
 
-over-lessens : (n : ℕ) (table changed : List Trade) → n ≤ length table → length changed ≡ length (take n table) → Fewer changed (take n table) → Lessens n n table (over n changed table)
-over-lessens n table changed h e f = record { long = length-over n changed table h e; count = omega arith; fewer = rw (take-over n changed table h e) f }
+over-lessens : (last n : ℕ) (table changed : List Trade) → n ≤ length table → length changed ≡ length (take n table) → Fewer last changed (take n table)
+    → Lessens last n n table (over n changed table)
+over-lessens last n table changed h e f = record { long = length-over n changed table h e; count = omega arith; fewer = rw (take-over n changed table h e) f }
 
 -- headroom is not below a number of sheets
 not-below : (most outstanding q : ℕ) → ltZ (subℕ most outstanding) (pos q) ≡ false → outstanding + q ≤ most
@@ -65,7 +66,7 @@ moved-fits (negsuc net) cash guarantee c h = record { sum = omega (arith, c .sum
 
 module _ (calendar : Calendar) (book : Book) (table : List Trade) (f : Fit calendar book table) where
   -- the groups that read the table follow, and the others are given
-  lessened-fits : (book′ : Book) (table′ : List Trade) → Lessens (book .trades) (book′ .trades) table table′ → book′ .size ≡ book .size
+  lessened-fits : {last : ℕ} (book′ : Book) (table′ : List Trade) → Lessens last (book .trades) (book′ .trades) table table′ → book′ .size ≡ book .size
       → SecuritiesFit (book′ .vault) → CashFits (book′ .cash) (book′ .vault .guarantee) → NetsFit (book′ .nets) → WithdrawalsFit (book′ .withdrawals)
       → dayFit calendar (book′ .standing .day) (book′ .standing .phase) (inUse (book′ .trades) table′) (book′ .trades) ≡ true → Fit calendar book′ table′
   lessened-fits book′ table′ l s securities cash nets withdrawals day = record {
@@ -82,17 +83,17 @@ module _ (calendar : Calendar) (book : Book) (table : List Trade) (f : Fit calen
 
   -- ---- 1 Open
 
-  opened-lessens : (ended : Bool) → Lessens (book .trades) (book .trades) table (cond ended (over (book .trades) (map emptied (inUse (book .trades) table)) table) table)
-  opened-lessens true = over-lessens (book .trades) table (map emptied (inUse (book .trades) table)) (f .capacity .room) (length-map (inUse (book .trades) table) emptied) (emptied-lessens (inUse (book .trades) table))
-  opened-lessens false = same-lessens (book .trades) table
+  opened-lessens : (last : ℕ) (ended : Bool) → Lessens last (book .trades) (book .trades) table (cond ended (over (book .trades) (map emptied (inUse (book .trades) table)) table) table)
+  opened-lessens last true = over-lessens last (book .trades) table (map emptied (inUse (book .trades) table)) (f .capacity .room) (length-map (inUse (book .trades) table) emptied) (emptied-lessens (inUse (book .trades) table))
+  opened-lessens last false = same-lessens last (book .trades) table
 
   pub opened-fits : firstOf (openCauses calendar book table) ≡ none → Fit calendar (openedBook calendar book table) (openedTable book table)
   unfolding openCauses openedBook openedTable
   opened-fits e =
-      let follows = not-false (followed calendar (following calendar (book .standing .day))) (failed (openCauses calendar book table) e 16 .1 .1 .0 refl) in
-      let l = opened-lessens (turnsTerminated (book .standing)) in
+      let follows = not-false (followed calendar (following calendar (book .standing .day))) (all-clear (openCauses calendar book table) e 16) in
+      let l = opened-lessens (paymentDay calendar (nextDay calendar (book .standing))) (turnsTerminated (book .standing)) in
       lessened-fits (openedBook calendar book table) (openedTable book table) l refl (f .securities) (f .cash)
-      (record { today = f .nets .today; cleared = cleared (followed calendar (following calendar (book .standing .day))) (turnsTerminated (book .standing)) follows (failed (openCauses calendar book table) e 14 .1 .0 refl) })
+      (record { today = f .nets .today; cleared = cleared (followed calendar (following calendar (book .standing .day))) (turnsTerminated (book .standing)) follows (all-clear (openCauses calendar book table) e 14) })
       (f .withdrawals)
       (next-day calendar (book .standing .day) (book .standing .phase) Trading table _ (book .trades) (book .trades) (f .day) follows (l .fewer))
     where
@@ -109,9 +110,9 @@ module _ (calendar : Calendar) (book : Book) (table : List Trade) (f : Fit calen
   begun-fits terms e =
       let q = terms .sheets .0 in
       let cs = initialCauses calendar book table terms in
-      let count = neither (eqb q 0 || not (eqb (q % 10) 0)) (ltb tradeLimit q) (failed cs e 7 .1 .1 .1 .0 refl) .1 in
-      let prices = neither (ltb priceLimit (terms .price .0)) (ltb priceLimit (terms .fallback .0)) (failed cs e 8 .1 .1 .1 .1 .0 refl) in
-      every-of (leb q tradeLimit ∷ leb (terms .price .0) priceLimit ∷ leb (terms .fallback .0) priceLimit ∷ []) (
+      let count = neither (eqb q 0 || not (eqb (q % 10) 0)) (ltb tradeLimit q) (all-clear cs e 7) .1 in
+      let prices = neither (ltb priceLimit (terms .price .0)) (ltb priceLimit (terms .fallback .0)) (all-clear cs e 8) in
+      every-of (tradeTests (begun calendar book terms)) (
         le-leb q tradeLimit (ltb-false tradeLimit q count),
         (
           le-leb (terms .price .0) priceLimit (ltb-false priceLimit (terms .price .0) (prices .0)),
@@ -131,7 +132,7 @@ module _ (calendar : Calendar) (book : Book) (table : List Trade) (f : Fit calen
       let trade = begun calendar book terms in
       let last = paymentDay calendar (book .standing .day) in
       let trades = inUse (book .trades) table in
-      let room = leb-false (length table) (book .trades) (failed cs e 11 .1 .1 .1 .1 .1 .1 .1 .0 refl) in
+      let room = leb-false (length table) (book .trades) (all-clear cs e 11) in
       let now : inUse (book .trades + 1) (set table (book .trades) trade) ≡ trades ++ (trade ∷ []) = take-begun (book .trades) table trade room in
       record {
         capacity = record { within = rw (length-set table (book .trades) trade) (f .capacity .within); room = rw (length-set table (book .trades) trade) (omega arith) };
@@ -140,13 +141,13 @@ module _ (calendar : Calendar) (book : Book) (table : List Trade) (f : Fit calen
         each = rw now (all-append tradeFit trades trade (f .each) (begun-fits terms e));
         size = record {
           within = f .size .within;
-          covers = rw now (omega (arith, outstanding-append trades (trade ∷ []), outstanding-one trade, initial-covered (terms .sheets .0) (failed cs e 12 .1 .1 .1 .1 .1 .1 .1 .1 .0 refl)));
+          covers = rw now (omega (arith, outstanding-append trades (trade ∷ []), outstanding-one trade, initial-covered (terms .sheets .0) (all-clear cs e 12)));
         };
-        nets = record { today = ltb-false netLimit (natAbs (netLess book terms)) (failed cs e 14 .1 .1 .1 .1 .1 .1 .1 .1 .1 .0 refl); cleared = f .nets .cleared };
-        differing = rw now (differ-append trades trade (f .differing) (failed cs e 10 .1 .1 .1 .1 .1 .1 .0 refl));
+        nets = record { today = ltb-false netLimit (natAbs (netLess book terms)) (all-clear cs e 14); cleared = f .nets .cleared };
+        differing = rw now (differ-append trades trade (f .differing) (all-clear cs e 10));
         withdrawals = f .withdrawals;
         day = rw now (same-day calendar (book .standing .day) (book .standing .phase) (book .standing .phase) trades (trades ++ (trade ∷ [])) (book .trades) (book .trades + 1)
-            (trading-not-closed (book .standing .phase) (failed cs e 4 .0 refl))
+            (trading-not-closed (book .standing .phase) (all-clear cs e 4))
             (λ b. all-append (λ t. leb (t .first) last) trades trade b (le-leb last last (omega arith))) (f .day));
       }
 
@@ -158,12 +159,12 @@ module _ (calendar : Calendar) (book : Book) (table : List Trade) (f : Fit calen
   early-fits contract count price e =
       let cs = earlyCauses calendar book table contract count price in
       let trades = inUse (book .trades) table in
-      let l = over-lessens (book .trades) table (takeOff contract (count .0) trades) (f .capacity .room) (length-takeOff contract (count .0) trades) (takeOff-lessens contract (count .0) trades) in
+      let l = over-lessens (paymentDay calendar (book .standing .day)) (book .trades) table (takeOff contract (count .0) trades) (f .capacity .room) (length-takeOff contract (count .0) trades) (takeOff-lessens contract (count .0) trades) in
       lessened-fits (earlyBook calendar book table contract count price) (earlyTable book table contract count) l refl (f .securities) (f .cash)
-      (record { today = ltb-false netLimit (natAbs (netWithEarly calendar book table contract count price)) (failed cs e 14 .1 .1 .1 .1 .1 .1 .1 .0 refl); cleared = f .nets .cleared })
+      (record { today = ltb-false netLimit (natAbs (netWithEarly calendar book table contract count price)) (all-clear cs e 14); cleared = f .nets .cleared })
       (f .withdrawals)
       (same-day calendar (book .standing .day) (book .standing .phase) (book .standing .phase) trades _ (book .trades) (book .trades)
-      (trading-not-closed (book .standing .phase) (failed cs e 4 .0 refl)) (fewer-begun _ _ (omega arith) (l .fewer)) (f .day))
+      (trading-not-closed (book .standing .phase) (all-clear cs e 4)) (fewer-begun _ (omega arith) (l .fewer)) (f .day))
 
   -- ---- 11 Pay
 
@@ -174,23 +175,22 @@ module _ (calendar : Calendar) (book : Book) (table : List Trade) (f : Fit calen
       day : dayFit calendar (book .standing .day) Paid (inUse (book .trades) table) (book .trades) ≡ true
       day =
           same-day calendar (book .standing .day) (book .standing .phase) Paid (inUse (book .trades) table) (inUse (book .trades) table) (book .trades) (book .trades)
-          (trading-not-closed (book .standing .phase) (failed (payCauses book) e 4 .0 refl)) (λ b. b) (f .day)
+          (trading-not-closed (book .standing .phase) (all-clear (payCauses book) e 4)) (λ b. b) (f .day)
 
       go : (failing : Bool) → fails book ≡ failing → Fit calendar (afterPay failing book) table
-      go true b = lessened-fits (afterPay true book) table (same-lessens (book .trades) table) refl (f .securities) (f .cash) (f .nets) (f .withdrawals) day
+      go true b = lessened-fits (afterPay true book) table (same-lessens (paymentDay calendar (book .standing .day)) (book .trades) table) refl (f .securities) (f .cash) (f .nets) (f .withdrawals) day
       go false b =
-          lessened-fits (afterPay false book) table (same-lessens (book .trades) table) refl (f .securities)
+          lessened-fits (afterPay false book) table (same-lessens (paymentDay calendar (book .standing .day)) (book .trades) table) refl (f .securities)
           (moved-fits (book .nets .cleared) (book .cash) (book .vault .guarantee) (f .cash) b)
           (record { today = f .nets .today; cleared = omega arith }) (f .withdrawals) day
 
   -- ---- 12 Close
 
-  closed-lessens : Lessens (book .trades) (length (remaining (maturedTrades book table))) table (closedTable book table)
-  unfolding closedTable maturedTrades
-  closed-lessens =
-      let trades = inUse (book .trades) table in
-      let kept = remaining (map (matured (today book)) trades) in
-      let less = remaining-lessens (matured-lessens (today book) trades) in
+  closed-lessens : {last : ℕ} (left : List Trade) → Fewer last left (inUse (book .trades) table) → Lessens last (book .trades) (length (remaining left)) table (closedTable book left table)
+  unfolding closedTable
+  closed-lessens left fewer =
+      let kept = remaining left in
+      let less = remaining-lessens fewer in
       let few : length kept ≤ book .trades = omega (arith, fewer-length less, length-take-le (book .trades) table (f .capacity .room)) in
       record {
         long = length-packed (book .trades) kept table (f .capacity .room) few;
@@ -198,14 +198,21 @@ module _ (calendar : Calendar) (book : Book) (table : List Trade) (f : Fit calen
         fewer = rw (take-packed (book .trades) kept table) less;
       }
 
-  pub closed-fits : firstOf (closeCauses calendar book table) ≡ none → Fit calendar (closedBook calendar book table) (closedTable book table)
+  matured-fewer : Fewer (paymentDay calendar (book .standing .day)) (maturedTrades book table) (inUse (book .trades) table)
+  unfolding maturedTrades
+  matured-fewer = matured-lessens (today book) (inUse (book .trades) table)
+
+  pub closed-fits : firstOf (closeCauses calendar book table) ≡ none
+      → Fit calendar (closedBook calendar book (maturedTrades book table) table) (closedTable book (maturedTrades book table) table)
   unfolding closeCauses closedBook
   closed-fits e =
-      let ev = evening-fits book table (f .securities) (f .cash) in
-      let n = neither (ltb netLimit (natAbs (netWithMatured calendar book table))) (ltb netLimit (natAbs (clearedAtClose calendar book table))) (failed (closeCauses calendar book table) e 14 .1 .0 refl) in
-      lessened-fits (closedBook calendar book table) (closedTable book table) closed-lessens refl (ev .securities) (ev .cash)
+      let left = maturedTrades book table in
+      let lessens = closed-lessens left matured-fewer in
+      let ev = evening-fits book left (f .securities) (f .cash) in
+      let n = neither (ltb netLimit (natAbs (netWithMatured calendar book table))) (ltb netLimit (natAbs (clearedAtClose calendar book table))) (all-clear (closeCauses calendar book table) e 14) in
+      lessened-fits (closedBook calendar book left table) (closedTable book left table) lessens refl (ev .securities) (ev .cash)
       (record { today = omega arith; cleared = ltb-false netLimit (natAbs (clearedAtClose calendar book table)) (n .1) })
       (record { count = omega arith; each = λ i h. absurd (omega arith) })
       (same-day calendar (book .standing .day) (book .standing .phase) Closed (inUse (book .trades) table) _ (book .trades) _
-      (closing-not-closed (book .standing .phase) (isTerminated (book .standing .status)) (failed (closeCauses calendar book table) e 4 .0 refl))
-      (fewer-begun _ _ (omega arith) (closed-lessens .fewer)) (f .day))
+      (closing-not-closed (book .standing .phase) (isTerminated (book .standing .status)) (all-clear (closeCauses calendar book table) e 4))
+      (fewer-begun _ (omega arith) (lessens .fewer)) (f .day))

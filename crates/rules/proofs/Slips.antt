@@ -72,9 +72,12 @@ rowOf seen =
     ∷ []
 
 -- the rows of some entries after others; who opens this opens every rule, so that it computes
-unfoldable pub rowsAfter : Calendar → (earlier entries : List Entry) → List (List ℕ)
+unfoldable pub rowsBy : (Seen → List ℕ) → Calendar → (earlier entries : List Entry) → List (List ℕ)
 unfolding freshBook run step causes eventCauses act firstOf fit every capacityFit securitiesFit allBelow cashFit allTrades sizeFit netsFit differ withdrawalsFit followed following paymentDay trades firstTrading atOrAfter nextAfter earliest sizeCauses sized fundInCauses fundedIn fundOutCauses fundedOut rateCauses rated openCauses openedBook openedTable statusAtOpen turnsTerminated pledgeCauses pledged payCauses afterPay closeCauses closedBook closedTable closeAnswer maturedTrades maturedSheets maturedAmount evening applications inTurn allArrived isShortClose total outstanding remaining value sumBelow kindValue headroom initialCauses initialBook initialTable onTable principal redemption income freezeCauses frozen withdrawCauses withdrawn applied earlyCauses earlyBook earlyTable tradeOf takeOff takenOut covered mayGo
-rowsAfter calendar earlier entries = map rowOf (drop (length earlier) (seenFrom calendar noTrades (earlier then entries)))
+rowsBy row calendar earlier entries = map row (drop (length earlier) (seenFrom calendar noTrades (earlier then entries)))
+
+abbrev rowsAfter : Calendar → (earlier entries : List Entry) → List (List ℕ)
+rowsAfter = rowsBy rowOf
 
 abbrev early : (contract : ℕ) → Entry
 early contract = Known (Early (record { 0 = contract }) (sheets 10) (ticks 1825))
@@ -88,7 +91,7 @@ pub units-and-kinds : rowsAfter daily covers (Known (Freeze 0 50) ∷ Known (Rat
     ∷ (4 ∷ 0 ∷ 0 ∷ 135 ∷ 5000000 ∷ [])
     ∷ (2 ∷ 0 ∷ 0 ∷ 135 ∷ 5000000 ∷ [])
     ∷ []
-unfolding rowsAfter
+unfolding rowsBy
 units-and-kinds = refl
 
 -- thirteen words in which every day trades: 365 days ahead and more
@@ -106,7 +109,7 @@ pub sheets-and-terms : rowsAfter year covers (initial 15 7 3650 1000 4 ∷ initi
     ∷ (9 ∷ 0 ∷ 0 ∷ 170 ∷ 5000000 ∷ [])
     ∷ (0 ∷ 0 ∷ 0 ∷ 160 ∷ 5000000 ∷ [])
     ∷ []
-unfolding rowsAfter
+unfolding rowsBy
 sheets-and-terms = refl
 
 -- a suspended firm begins no trade, and may redeem early what is on its table
@@ -116,7 +119,7 @@ pub suspended : rowsAfter daily failedOnce (Known Open ∷ initial 10 8 3650 100
     ∷ (10 ∷ 0 ∷ 0 ∷ 80 ∷ 5000000 ∷ [])
     ∷ (0 ∷ 0 ∷ 0 ∷ 90 ∷ 5000000 ∷ [])
     ∷ []
-unfolding rowsAfter
+unfolding rowsBy
 suspended = refl
 
 -- 200 units of kind 0 and 10,000 fen of guarantee cash count from day 1 on
@@ -138,7 +141,7 @@ withCash =
 pub due : rowsAfter daily (withCash then (initial 100 7 3650 1000 2 ∷ Known Pay ∷ Known Close ∷ Known Open ∷ [])) (early 7 ∷ []) ≡
     (9 ∷ 0 ∷ 0 ∷ 81 ∷ 4990000 ∷ [])
     ∷ []
-unfolding rowsAfter
+unfolding rowsBy
 due = refl
 
 -- 100 sheets stand, and three applications: the second asks for more than cover allows
@@ -149,7 +152,7 @@ applied3 = withCash then (initial 100 7 3650 1000 6 ∷ Known (Withdraw 0 50) �
 pub withdrawals : rowsAfter daily applied3 (Known Close ∷ []) ≡
     (0 ∷ 2 ∷ 1 ∷ 35 ∷ 5000000 ∷ [])
     ∷ []
-unfolding rowsAfter
+unfolding rowsBy
 withdrawals = refl
 
 -- an application on a day whose payment failed
@@ -162,7 +165,7 @@ appliedUnpaid =
 pub unpaid : rowsAfter daily appliedUnpaid (Known Close ∷ []) ≡
     (0 ∷ 0 ∷ 1 ∷ 81 ∷ 4990000 ∷ [])
     ∷ []
-unfolding rowsAfter
+unfolding rowsBy
 unpaid = refl
 
 -- ---- "Byte 0 code": a code is read back from the event that it gives, and what is no code gives none

@@ -13,115 +13,117 @@ use Rattle.rules.specs.Trades.{Contract, Trade, same, withSheets, outsta
 use Rattle.rules.specs.Fit.{tradeFit, allTrades}
 use Rattle.rules.proofs.FoldLaws.{not-here, both, both-of, every-holds, every-of}
 
--- a trade with at most as many sheets
-pub record Lessened (less trade : Trade) : Type 0 where
+-- a trade of the same contract with at most as many sheets, as fit as before, and begun by a last day if it was before
+pub record Lessened (last : ℕ) (less trade : Trade) : Type 0 where
   pub contract : less .contract ≡ trade .contract
-  pub price : less .price ≡ trade .price
-  pub fallback : less .fallback ≡ trade .fallback
-  pub first : less .first ≡ trade .first
   pub sheets : less .sheets .0 ≤ trade .sheets .0
+  pub fits : tradeFit trade ≡ true → tradeFit less ≡ true
+  pub first : trade .first ≤ last → less .first ≤ last
 
 -- the same trades in order, some lessened and some gone
-pub data Fewer : List Trade → List Trade → Type 0 where
-  nothing : Fewer [] []
-  less : {t′ t : Trade} {l′ l : List Trade} → Lessened t′ t → Fewer l′ l → Fewer (t′ ∷ l′) (t ∷ l)
-  gone : {t : Trade} {l′ l : List Trade} → Fewer l′ l → Fewer l′ (t ∷ l)
+pub data Fewer (last : ℕ) : List Trade → List Trade → Type 0 where
+  nothing : Fewer last [] []
+  less : {t′ t : Trade} {l′ l : List Trade} → Lessened last t′ t → Fewer last l′ l → Fewer last (t′ ∷ l′) (t ∷ l)
+  gone : {t : Trade} {l′ l : List Trade} → Fewer last l′ l → Fewer last l′ (t ∷ l)
 
--- ---- which changes are so
+-- ---- the tests of a trade
 
-pub fewer-sheets : (t : Trade) (n : ℕ) → n ≤ t .sheets .0 → Lessened (withSheets n t) t
-fewer-sheets t n h = record { contract = refl; price = refl; fallback = refl; first = refl; sheets = h }
+abbrev pub tradeTests : Trade → List Bool
+tradeTests t = leb (t .sheets .0) tradeLimit ∷ leb (t .price .0) priceLimit ∷ leb (t .fallback .0) priceLimit ∷ []
 
-pub all-the-same : (l : List Trade) → Fewer l l
-all-the-same [] = nothing
-all-the-same (t ∷ l) = less (fewer-sheets t (t .sheets .0) (omega arith)) (all-the-same l)
-
-pub map-lessens : (f : Trade → Trade) → ((t : Trade) → Lessened (f t) t) → (l : List Trade) → Fewer (map f l) l
-map-lessens f h [] = nothing
-map-lessens f h (t ∷ l) = less (h t) (map-lessens f h l)
-
-pub emptied-lessens : (l : List Trade) → Fewer (map emptied l) l
-emptied-lessens l = map-lessens emptied (λ t. fewer-sheets t 0 (omega arith)) l
-
-pub matured-lessens : (today : ℕ) (l : List Trade) → Fewer (map (matured today) l) l
-matured-lessens today l = map-lessens (matured today) (λ t. fewer-sheets t (t .sheets .0 - maturing today t) (omega arith)) l
-
-pub takeOff-lessens : (c : Contract) (q : ℕ) (l : List Trade) → Fewer (takeOff c q l) l
-unfolding takeOff
-takeOff-lessens c q [] = nothing
-takeOff-lessens c q (t ∷ l) = go (same (t .contract) c) (takeOff-lessens c q l)
-  where
-    go : (b : Bool) → Fewer (takeOff c q l) l → Fewer (cond b (withSheets (t .sheets .0 - q) t ∷ l) (t ∷ takeOff c q l)) (t ∷ l)
-    go true f = less (fewer-sheets t (t .sheets .0 - q) (omega arith)) (all-the-same l)
-    go false f = less (fewer-sheets t (t .sheets .0) (omega arith)) f
-
-pub remaining-lessens : {l′ l : List Trade} → Fewer l′ l → Fewer (remaining l′) l
-unfolding remaining
-remaining-lessens nothing = nothing
-remaining-lessens (less {t′} {t} {l′} {l} h f) = go (t′ .sheets .0) (remaining-lessens f)
-  where
-    go : (n : ℕ) → Fewer (remaining l′) l → Fewer (leaves n t′ (remaining l′)) (t ∷ l)
-    go zero r = gone r
-    go (suc n) r = less h r
-remaining-lessens (gone f) = gone (remaining-lessens f)
-
--- ---- what they keep
-
-pub fewer-length : {l′ l : List Trade} → Fewer l′ l → length l′ ≤ length l
-fewer-length nothing = omega arith
-fewer-length (less h f) = omega (arith, fewer-length f)
-fewer-length (gone f) = omega (arith, fewer-length f)
-
-pub fewer-outstanding : {l′ l : List Trade} → Fewer l′ l → outstanding l′ ≤ outstanding l
-unfolding outstanding total
-fewer-outstanding nothing = omega arith
-fewer-outstanding (less h f) = omega (arith, h .sheets, fewer-outstanding f)
-fewer-outstanding (gone f) = omega (arith, fewer-outstanding f)
-
-pub fewer-all : {l′ l : List Trade} (test test′ : Trade → Bool) → ((t′ t : Trade) → Lessened t′ t → test t ≡ true → test′ t′ ≡ true)
-    → Fewer l′ l → allTrades test l ≡ true → allTrades test′ l′ ≡ true
-unfolding allTrades
-fewer-all test test′ keeps nothing e = refl
-fewer-all test test′ keeps (less {t′} {t} {l′} {l} h f) e =
-    let b = both (test t) (allTrades test l) e in
-    both-of (test′ t′) (allTrades test′ l′) (keeps t′ t h (b .0)) (fewer-all test test′ keeps f (b .1))
-fewer-all test test′ keeps (gone {t} {l′} {l} f) e = fewer-all test test′ keeps f (both (test t) (allTrades test l) e .1)
-
-pub fewer-fit : {l′ l : List Trade} → Fewer l′ l → allTrades tradeFit l ≡ true → allTrades tradeFit l′ ≡ true
-fewer-fit f e = fewer-all tradeFit tradeFit keeps f e
-  where
-    keeps : (t′ t : Trade) → Lessened t′ t → tradeFit t ≡ true → tradeFit t′ ≡ true
-    keeps t′ t h e =
-        let p = every-holds (leb (t .sheets .0) tradeLimit ∷ leb (t .price .0) priceLimit ∷ leb (t .fallback .0) priceLimit ∷ []) e in
-        every-of (leb (t′ .sheets .0) tradeLimit ∷ leb (t′ .price .0) priceLimit ∷ leb (t′ .fallback .0) priceLimit ∷ []) (
-          le-leb (t′ .sheets .0) tradeLimit (omega (arith, h .sheets, leb-true (t .sheets .0) tradeLimit (p .0))),
-          (rw (h .price) (p .1 .0), (rw (h .fallback) (p .1 .1 .0), tt)),
-        )
+pub fewer-sheets-fit : (t : Trade) (n : ℕ) → n ≤ t .sheets .0 → tradeFit t ≡ true → tradeFit (withSheets n t) ≡ true
+fewer-sheets-fit t n h e =
+    let p = every-holds (tradeTests t) e in
+    every-of (tradeTests (withSheets n t)) (le-leb n tradeLimit (omega (arith, leb-true (t .sheets .0) tradeLimit (p .0))), p .1)
 
 -- every trade begins by a day
 abbrev pub begunBy : ℕ → List Trade → Bool
 begunBy day trades = allTrades (λ trade. leb (trade .first) day) trades
 
-pub fewer-begun : {l′ l : List Trade} (day day′ : ℕ) → day ≤ day′ → Fewer l′ l → begunBy day l ≡ true → begunBy day′ l′ ≡ true
-fewer-begun day day′ later f e =
-    fewer-all (λ trade. leb (trade .first) day) (λ trade. leb (trade .first) day′)
-    (λ t′ t h e. rw (h .first) (le-leb (t .first) day′ (omega (arith, leb-true (t .first) day e)))) f e
+-- ---- which changes are so, for any last day
 
-fewer-off : {l′ l : List Trade} (c : Contract) → Fewer l′ l → onTable c l ≡ false → onTable c l′ ≡ false
-unfolding onTable
-fewer-off c nothing e = refl
-fewer-off c (less {t′} {t} {l′} {l} h f) e =
-    let o = not-here false (same (t .contract) c) (onTable c l) e in
-    rw (h .contract, o .0) (fewer-off c f (o .1))
-fewer-off c (gone {t} {l′} {l} f) e = fewer-off c f (not-here false (same (t .contract) c) (onTable c l) e .1)
+module _ {last : ℕ} where
+  pub fewer-sheets : (t : Trade) (n : ℕ) → n ≤ t .sheets .0 → Lessened last (withSheets n t) t
+  fewer-sheets t n h = record { contract = refl; sheets = h; fits = fewer-sheets-fit t n h; first = λ b. b }
 
-pub fewer-differ : {l′ l : List Trade} → Fewer l′ l → differ l ≡ true → differ l′ ≡ true
-unfolding differ
-fewer-differ nothing e = refl
-fewer-differ (less {t′} {t} {l′} {l} h f) e =
-    let d = not-here true (onTable (t .contract) l) (differ l) e in
-    rw (h .contract, fewer-off (t .contract) f (d .0)) (fewer-differ f (d .1))
-fewer-differ (gone {t} {l′} {l} f) e = fewer-differ f (not-here true (onTable (t .contract) l) (differ l) e .1)
+  pub all-the-same : (l : List Trade) → Fewer last l l
+  all-the-same [] = nothing
+  all-the-same (t ∷ l) = less (fewer-sheets t (t .sheets .0) (omega arith)) (all-the-same l)
+
+  pub map-lessens : (f : Trade → Trade) → ((t : Trade) → Lessened last (f t) t) → (l : List Trade) → Fewer last (map f l) l
+  map-lessens f h [] = nothing
+  map-lessens f h (t ∷ l) = less (h t) (map-lessens f h l)
+
+  pub emptied-lessens : (l : List Trade) → Fewer last (map emptied l) l
+  emptied-lessens l = map-lessens emptied (λ t. fewer-sheets t 0 (omega arith)) l
+
+  pub matured-lessens : (today : ℕ) (l : List Trade) → Fewer last (map (matured today) l) l
+  matured-lessens today l = map-lessens (matured today) (λ t. fewer-sheets t (t .sheets .0 - maturing today t) (omega arith)) l
+
+  pub takeOff-lessens : (c : Contract) (q : ℕ) (l : List Trade) → Fewer last (takeOff c q l) l
+  unfolding takeOff
+  takeOff-lessens c q [] = nothing
+  takeOff-lessens c q (t ∷ l) = go (same (t .contract) c) (takeOff-lessens c q l)
+    where
+      go : (b : Bool) → Fewer last (takeOff c q l) l → Fewer last (cond b (withSheets (t .sheets .0 - q) t ∷ l) (t ∷ takeOff c q l)) (t ∷ l)
+      go true f = less (fewer-sheets t (t .sheets .0 - q) (omega arith)) (all-the-same l)
+      go false f = less (fewer-sheets t (t .sheets .0) (omega arith)) f
+
+  pub remaining-lessens : {l′ l : List Trade} → Fewer last l′ l → Fewer last (remaining l′) l
+  unfolding remaining
+  remaining-lessens nothing = nothing
+  remaining-lessens (less {t′} {t} {l′} {l} h f) = go (t′ .sheets .0) (remaining-lessens f)
+    where
+      go : (n : ℕ) → Fewer last (remaining l′) l → Fewer last (leaves n t′ (remaining l′)) (t ∷ l)
+      go zero r = gone r
+      go (suc n) r = less h r
+  remaining-lessens (gone f) = gone (remaining-lessens f)
+
+  -- ---- what they keep
+
+  pub fewer-length : {l′ l : List Trade} → Fewer last l′ l → length l′ ≤ length l
+  fewer-length nothing = omega arith
+  fewer-length (less h f) = omega (arith, fewer-length f)
+  fewer-length (gone f) = omega (arith, fewer-length f)
+
+  pub fewer-outstanding : {l′ l : List Trade} → Fewer last l′ l → outstanding l′ ≤ outstanding l
+  unfolding outstanding total
+  fewer-outstanding nothing = omega arith
+  fewer-outstanding (less h f) = omega (arith, h .sheets, fewer-outstanding f)
+  fewer-outstanding (gone f) = omega (arith, fewer-outstanding f)
+
+  pub fewer-all : {l′ l : List Trade} (test test′ : Trade → Bool) → ((t′ t : Trade) → Lessened last t′ t → test t ≡ true → test′ t′ ≡ true)
+      → Fewer last l′ l → allTrades test l ≡ true → allTrades test′ l′ ≡ true
+  unfolding allTrades
+  fewer-all test test′ keeps nothing e = refl
+  fewer-all test test′ keeps (less {t′} {t} {l′} {l} h f) e =
+      let b = both (test t) (allTrades test l) e in
+      both-of (test′ t′) (allTrades test′ l′) (keeps t′ t h (b .0)) (fewer-all test test′ keeps f (b .1))
+  fewer-all test test′ keeps (gone {t} {l′} {l} f) e = fewer-all test test′ keeps f (both (test t) (allTrades test l) e .1)
+
+  pub fewer-fit : {l′ l : List Trade} → Fewer last l′ l → allTrades tradeFit l ≡ true → allTrades tradeFit l′ ≡ true
+  fewer-fit f e = fewer-all tradeFit tradeFit (λ t′ t h e. h .fits e) f e
+
+  pub fewer-begun : {l′ l : List Trade} (day : ℕ) → day ≤ last → Fewer last l′ l → begunBy day l ≡ true → begunBy last l′ ≡ true
+  fewer-begun day later f e =
+      fewer-all (λ trade. leb (trade .first) day) (λ trade. leb (trade .first) last)
+      (λ t′ t h e. le-leb (t′ .first) last (h .first (omega (arith, leb-true (t .first) day e)))) f e
+
+  pub fewer-off : {l′ l : List Trade} (c : Contract) → Fewer last l′ l → onTable c l ≡ false → onTable c l′ ≡ false
+  unfolding onTable
+  fewer-off c nothing e = refl
+  fewer-off c (less {t′} {t} {l′} {l} h f) e =
+      let o = not-here false (same (t .contract) c) (onTable c l) e in
+      rw (h .contract, o .0) (fewer-off c f (o .1))
+  fewer-off c (gone {t} {l′} {l} f) e = fewer-off c f (not-here false (same (t .contract) c) (onTable c l) e .1)
+
+  pub fewer-differ : {l′ l : List Trade} → Fewer last l′ l → differ l ≡ true → differ l′ ≡ true
+  unfolding differ
+  fewer-differ nothing e = refl
+  fewer-differ (less {t′} {t} {l′} {l} h f) e =
+      let d = not-here true (onTable (t .contract) l) (differ l) e in
+      rw (h .contract, fewer-off (t .contract) f (d .0)) (fewer-differ f (d .1))
+  fewer-differ (gone {t} {l′} {l} f) e = fewer-differ f (not-here true (onTable (t .contract) l) (differ l) e .1)
 
 -- ---- a new last trade
 
@@ -132,7 +134,7 @@ all-append test (x ∷ l) t e h =
     let b = both (test x) (allTrades test l) e in
     both-of (test x) (allTrades test (l ++ (t ∷ []))) (b .0) (all-append test l t (b .1) h)
 
-same-off : (a b : Contract) → same a b ≡ false → same b a ≡ false
+pub same-off : (a b : Contract) → same a b ≡ false → same b a ≡ false
 same-off a b e = ne-eqb (b .0) (a .0) (λ q. eqb-false (a .0) (b .0) e (sym q))
 
 off-append : (c : Contract) (l : List Trade) (t : Trade) → onTable c l ≡ false → same (t .contract) c ≡ false → onTable c (l ++ (t ∷ [])) ≡ false

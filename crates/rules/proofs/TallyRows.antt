@@ -17,7 +17,7 @@ use Rattle.rules.proofs.TradeLaws.{zero-or-suc, remaining-none, remaini
 
 -- ---- all rows
 
-unlessEmpty-is-leaves : (n : ℕ) (t : Trade) (l : List Trade) → unlessEmpty n t l ≡ leaves n t l
+pub unlessEmpty-is-leaves : (n : ℕ) (t : Trade) (l : List Trade) → unlessEmpty n t l ≡ leaves n t l
 unlessEmpty-is-leaves zero t l = refl
 unlessEmpty-is-leaves (suc n) t l = refl
 
@@ -79,7 +79,7 @@ amount-due d payment l = sumRows-remaining (maturityAmount d payment) (λ t e. n
 -- ---- a contract's row, where contracts differ
 
 -- the first trade of a list with differing contracts has a contract that the others have not
-others-differ : (t : Trade) (l : List Trade) → differ (t ∷ l) ≡ true → (onTable (t .contract) l ≡ false) × (differ l ≡ true)
+pub others-differ : (t : Trade) (l : List Trade) → differ (t ∷ l) ≡ true → (onTable (t .contract) l ≡ false) × (differ l ≡ true)
 unfolding differ
 others-differ t l h = go (onTable (t .contract) l) h
   where
@@ -92,7 +92,7 @@ off-others : (c : Contract) (t : Trade) (l : List Trade) → same (t .contract) 
 off-others c t l m h = ap (λ (n : ℕ). onTable (record { 0 = n }) l) (sym (eqb-true (t .contract .0) (c .0) m)) ∙ others-differ t l h .0
 
 -- a contract that no trade has
-not-first : (c : Contract) (t : Trade) (l : List Trade) → onTable c (t ∷ l) ≡ false → (same (t .contract) c ≡ false) × (onTable c l ≡ false)
+pub not-first : (c : Contract) (t : Trade) (l : List Trade) → onTable c (t ∷ l) ≡ false → (same (t .contract) c ≡ false) × (onTable c l ≡ false)
 unfolding onTable
 not-first c t l h = go (same (t .contract) c) h
   where

@@ -14,7 +14,8 @@ use Rattle.money.specs.Days.{Calendar}
 use Rattle.rules.specs.Folds.{inTurn}
 use Rattle.rules.specs.Limits.{netLimit}
 use Rattle.rules.specs.Book.{Security, Guarantee, Vault, Closed, ShortRun, NotShort, ShortOnce, ShortTwice, ShortThrice, Standing, Withdrawals, Book, Answer, isPaid, isTrading, isTerminated, hasFailed, noApplications}
-use Rattle.rules.specs.Days.{dayNumber, paymentDay}
+pub use Rattle.rules.specs.Days.{today}
+use Rattle.rules.specs.Days.{paymentDay}
 use Rattle.rules.specs.Trades.{Trade, inUse, total, outstanding, maturing, maturityAmount, matured, remaining, packed}
 use Rattle.rules.specs.Vault.{securityAt, isCash, effectiveOf, frozenOf, value, headroomOf}
 
@@ -22,9 +23,6 @@ abbrev pub mayClose : Standing → Bool
 mayClose standing = isPaid (standing .phase) || isTrading (standing .phase) && isTerminated (standing .status)
 
 -- ---- (a) "trades due today or earlier are redeemed at their price"
-
-abbrev pub today : Book → ℕ
-today book = dayNumber (book .standing .day)
 
 unfoldable pub maturedTrades : Book → List Trade → List Trade
 maturedTrades book table = map (matured (today book)) (inUse (book .trades) table)
@@ -121,16 +119,16 @@ unfoldable pub applications : (served : Bool) → (outstanding : ℕ) → Withdr
 applications served outstanding withdrawals evening =
     inTurn (withdrawals .count) (λ i. settled served outstanding (getD (withdrawals .kinds) i 0) (getD (withdrawals .units) i 0)) evening
 
--- the evening's end: after (a) for O and after (c) for the vault
-unfoldable pub evening : Book → List Trade → Evening
-evening book table =
-    applications (served (book .standing)) (outstanding (maturedTrades book table)) (book .withdrawals)
+-- the evening's end: `left` are the trades in use as (b) begins, which O is taken of, and the vault is that after (c)
+unfoldable pub evening : Book → (left : List Trade) → Evening
+evening book left =
+    applications (served (book .standing)) (outstanding left) (book .withdrawals)
     (record { own = book .cash .own; vault = allArrived (book .vault); done = 0; dropped = 0 })
 
 -- ---- (e) "trades with nothing left leave the table, order kept"
 
-unfoldable pub closedTable : Book → List Trade → List Trade
-closedTable book table = packed (book .trades) (remaining (maturedTrades book table)) table
+unfoldable pub closedTable : Book → (left table : List Trade) → List Trade
+closedTable book left table = packed (book .trades) (remaining left) table
 
 -- ---- (f) "headroom below 0 lengthens the short run, at most to 3, else sets it to 0"
 
@@ -140,9 +138,8 @@ shortMore ShortOnce = ShortTwice
 shortMore ShortTwice = ShortThrice
 shortMore ShortThrice = ShortThrice
 
-unfoldable pub isShortClose : Book → List Trade → Bool
-isShortClose book table =
-    ltZ (headroomOf (book .size .0) (value (evening book table .vault)) (outstanding (maturedTrades book table))) (pos 0)
+unfoldable pub isShortClose : Book → (left : List Trade) → Bool
+isShortClose book left = ltZ (headroomOf (book .size .0) (value (evening book left .vault)) (outstanding left)) (pos 0)
 
 abbrev pub shortAtClose : Bool → ShortRun → ShortRun
 shortAtClose true short = shortMore short
@@ -152,22 +149,22 @@ shortAtClose false short = NotShort
 abbrev pub closedStanding : ShortRun → Standing → Standing
 closedStanding short standing = record { day = standing .day; phase = Closed; status = standing .status; failed = standing .failed; short = short }
 
-unfoldable pub closedBook : Calendar → Book → List Trade → Book
-closedBook calendar book table = record {
+unfoldable pub closedBook : Calendar → Book → (left table : List Trade) → Book
+closedBook calendar book left table = record {
   nets = record { today = pos 0; cleared = clearedAtClose calendar book table };
-  cash = record { own = evening book table .own; client = book .cash .client };
-  vault = evening book table .vault;
+  cash = record { own = evening book left .own; client = book .cash .client };
+  vault = evening book left .vault;
   size = book .size;
-  standing = closedStanding (shortAtClose (isShortClose book table) (book .standing .short)) (book .standing);
+  standing = closedStanding (shortAtClose (isShortClose book left) (book .standing .short)) (book .standing);
   withdrawals = noApplications;
-  trades = length (remaining (maturedTrades book table));
+  trades = length (remaining left);
 }
 
 -- "The answer carries sheets matured, applications done and dropped"
-unfoldable pub closeAnswer : Book → List Trade → Answer
-closeAnswer book table = record {
+unfoldable pub closeAnswer : Book → (left table : List Trade) → Answer
+closeAnswer book left table = record {
   number = 0;
   matured = sheets (maturedSheets book table);
-  done = evening book table .done;
-  dropped = evening book table .dropped;
+  done = evening book left .done;
+  dropped = evening book left .dropped;
 }

@@ -6,6 +6,7 @@ use mathlib.Core.Option.{Option, none, some}
 use Rattle.money.specs.Days.{Calendar, earliest, nextAfter, missing, dayOr0}
 use Rattle.rules.specs.declared.book.Day.{Day}
 use Rattle.rules.specs.declared.book.Day.the-variants.{Never, On}
+use Rattle.rules.specs.declared.book.Book.{Book}
 
 -- "goes to the next trading day, at first the earliest"
 unfoldable pub following : Calendar → Day → Option ℕ
@@ -21,6 +22,9 @@ toDay (some day) = On day
 abbrev pub dayNumber : Day → ℕ
 dayNumber Never = 0
 dayNumber (On day) = day
+
+abbrev pub today : Book → ℕ
+today book = dayNumber (book .standing .day)
 
 -- "The payment day of a trading day is the next one (art. 61)." Of no day it would be the earliest; a book without a day has no trade.
 unfoldable pub paymentDay : Calendar → Day → ℕ

@@ -2,7 +2,7 @@
 -- Assumes nothing.
 use Prim.Native.Nat.{ℕ}
 use mathlib.Core.Bool.{Bool, not, _&&_}
-use mathlib.Core.List.{List, [], _∷_}
+use mathlib.Core.List.{List, [], _∷_, _++_}
 use lib.Dec.{ltb, leb, eqb}
 use lib.IntN.{ℤ, pos, natAbs, _+ℤ_}
 use Rattle.money.specs.declared.units.Sheets.{Sheets}
@@ -32,17 +32,34 @@ abbrev pub pastDue : Book → List Trade → Contract → Bool
 pastDue book table contract =
     onTable contract (inUse (book .trades) table) && leb (named book table contract .due) (dayNumber (book .standing .day))
 
-unfoldable pub earlyCauses : Calendar → Book → List Trade → Contract → Sheets → Ticks → List Cause
-earlyCauses calendar book table contract count price =
+-- when sheets may be redeemed early, and how many at which price
+abbrev pub orderCauses : Book → Sheets → Ticks → List Cause
+orderCauses book count price =
     (not (isTrading (book .standing .phase)) ⇒ 4)
     ∷ (isTerminated (book .standing .status) ⇒ 5)
     ∷ (eqb (count .0) 0 ⇒ 7)
     ∷ (ltb priceLimit (price .0) ⇒ 8)
-    ∷ (pastDue book table contract ⇒ 9)
+    ∷ []
+
+-- the contract's trade must still run
+abbrev pub namedCauses : Book → List Trade → Contract → List Cause
+namedCauses book table contract =
+    (pastDue book table contract ⇒ 9)
     ∷ (not (onTable contract (inUse (book .trades) table)) ⇒ 10)
-    ∷ (ltb (named book table contract .sheets .0) (count .0) ⇒ 13)
+    ∷ []
+
+-- it must have the sheets, and today's net room for the amount
+abbrev pub takeCauses : Calendar → Book → List Trade → Contract → Sheets → Ticks → List Cause
+takeCauses calendar book table contract count price =
+    (ltb (named book table contract .sheets .0) (count .0) ⇒ 13)
     ∷ (ltb netLimit (natAbs (netWithEarly calendar book table contract count price)) ⇒ 14)
     ∷ []
+
+unfoldable pub earlyCauses : Calendar → Book → List Trade → Contract → Sheets → Ticks → List Cause
+earlyCauses calendar book table contract count price =
+    orderCauses book count price
+    ++ namedCauses book table contract
+    ++ takeCauses calendar book table contract count price
 
 unfoldable pub earlyBook : Calendar → Book → List Trade → Contract → Sheets → Ticks → Book
 earlyBook calendar book table contract count price =

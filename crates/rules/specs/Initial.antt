@@ -2,7 +2,7 @@
 -- Assumes nothing.
 use Prim.Native.Nat.{ℕ, _+_, _%_}
 use mathlib.Core.Bool.{Bool, not, _||_}
-use mathlib.Core.List.{List, [], _∷_}
+use mathlib.Core.List.{List, [], _∷_, _++_}
 use lib.Dec.{ltb, leb, eqb}
 use lib.IntN.{ℤ, pos, natAbs, _-ℤ_}
 use lib.ListN.{length, set}
@@ -41,24 +41,48 @@ badPrices price fallback = ltb priceLimit (price .0) || ltb priceLimit (fallback
 abbrev pub netLess : Book → Terms → ℤ
 netLess book terms = book .nets .today -ℤ pos (principal (terms .sheets) .0)
 
--- what the table, headroom and today's net must have room for
-abbrev pub roomCauses : Book → List Trade → Terms → List Cause
-roomCauses book table terms =
-    (onTable (terms .contract) (inUse (book .trades) table) ⇒ 10)
-    ∷ (leb (length table) (book .trades) ⇒ 11)
-    ∷ (ltZ (headroom book table) (pos (terms .sheets .0)) ⇒ 12)
-    ∷ (ltb netLimit (natAbs (netLess book terms)) ⇒ 14)
-    ∷ []
-
-unfoldable pub initialCauses : Calendar → Book → List Trade → Terms → List Cause
-initialCauses calendar book table terms =
+-- when an initial trade may begin
+abbrev pub timeCauses : Book → List Cause
+timeCauses book =
     (not (isTrading (book .standing .phase)) ⇒ 4)
     ∷ (isTerminated (book .standing .status) ⇒ 5)
     ∷ (isSuspended (book .standing .status) ⇒ 6)
-    ∷ (badCount (terms .sheets .0) ⇒ 7)
-    ∷ (badPrices (terms .price) (terms .fallback) ⇒ 8)
+    ∷ []
+
+-- its sheets for themselves
+abbrev pub countCauses : Terms → List Cause
+countCauses terms = (badCount (terms .sheets .0) ⇒ 7) ∷ []
+
+-- its prices and its due day
+abbrev pub termCauses : Calendar → Book → Terms → List Cause
+termCauses calendar book terms =
+    (badPrices (terms .price) (terms .fallback) ⇒ 8)
     ∷ (badDue calendar (dayNumber (book .standing .day)) (terms .due) ⇒ 9)
-    ∷ roomCauses book table terms
+    ∷ []
+
+-- the table must have room for it
+abbrev pub slotCauses : Book → List Trade → Terms → List Cause
+slotCauses book table terms =
+    (onTable (terms .contract) (inUse (book .trades) table) ⇒ 10)
+    ∷ (leb (length table) (book .trades) ⇒ 11)
+    ∷ []
+
+-- headroom and today's net must have room for its sheets
+abbrev pub sheetCauses : Book → List Trade → Terms → List Cause
+sheetCauses book table terms =
+    (ltZ (headroom book table) (pos (terms .sheets .0)) ⇒ 12)
+    ∷ (ltb netLimit (natAbs (netLess book terms)) ⇒ 14)
+    ∷ []
+
+abbrev pub roomCauses : Book → List Trade → Terms → List Cause
+roomCauses book table terms = slotCauses book table terms ++ sheetCauses book table terms
+
+unfoldable pub initialCauses : Calendar → Book → List Trade → Terms → List Cause
+initialCauses calendar book table terms =
+    timeCauses book
+    ++ countCauses terms
+    ++ termCauses calendar book terms
+    ++ roomCauses book table terms
 
 -- the record of a trade that begins today
 abbrev pub begun : Calendar → Book → Terms → Trade

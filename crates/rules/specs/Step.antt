@@ -23,7 +23,7 @@ use Rattle.rules.specs.Withdraw.{withdrawCauses, withdrawn}
 use Rattle.rules.specs.Initial.{initialCauses, initialBook, initialTable}
 use Rattle.rules.specs.Early.{earlyCauses, earlyBook, earlyTable}
 use Rattle.rules.specs.Pay.{payCauses, fails, afterPay, payNumber}
-use Rattle.rules.specs.Close.{closeCauses, closeAnswer, closedBook, closedTable}
+use Rattle.rules.specs.Close.{maturedTrades, closeCauses, closeAnswer, closedBook, closedTable}
 
 -- what a call leaves: its answer, the book and the table
 pub record Outcome : Type 0 where
@@ -75,7 +75,9 @@ act calendar book table (Initial terms) = outcome (answer 0) (initialBook book t
 act calendar book table (Early contract count price) =
     outcome (answer 0) (earlyBook calendar book table contract count price) (earlyTable book table contract count)
 act calendar book table Pay = outcome (answer (payNumber (fails book))) (afterPay (fails book) book) table
-act calendar book table Close = outcome (closeAnswer book table) (closedBook calendar book table) (closedTable book table)
+act calendar book table Close =
+    let left = maturedTrades book table in
+    outcome (closeAnswer book left table) (closedBook calendar book left table) (closedTable book left table)
 
 abbrev pub actOn : Calendar → Book → List Trade → Entry → Outcome
 actOn calendar book table (Known event) = act calendar book table event

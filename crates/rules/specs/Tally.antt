@@ -77,6 +77,10 @@ takenFrom taken rows = withoutEmpty (map (less taken) rows)
 abbrev pub amountOf : (payment : ℕ) → (taken : Row → ℕ) → (price : Row → Ticks) → List Row → ℕ
 amountOf payment taken price rows = sumRows (λ row. redemption (sheets (taken row)) (price row) (payment - row .first) .0) rows
 
+-- a row is a contract's where their numbers agree
+abbrev pub isOf : Contract → Row → Bool
+isOf contract row = eqb (row .contract .0) (contract .0)
+
 -- which sheets: each row whole; each row due by a day whole; some of a contract's row
 abbrev pub whole : Row → ℕ
 whole row = row .sheets .0
@@ -85,7 +89,7 @@ abbrev pub wholeIfDue : ℕ → Row → ℕ
 wholeIfDue day row = cond (leb (row .due) day) (row .sheets .0) 0
 
 abbrev pub ofContract : Contract → ℕ → Row → ℕ
-ofContract contract count row = cond (eqb (row .contract .0) (contract .0)) count 0
+ofContract contract count row = cond (isOf contract row) count 0
 
 -- ---- what answer 0 to each event does
 

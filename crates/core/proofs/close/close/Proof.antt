@@ -6,7 +6,7 @@ use borrow.Author.Tests.{le-leb}
 use lib.IntN.{ℤ, pos, natAbs, _+ℤ_}
 use Rattle.rules.specs.Limits.{netLimit}
 use Rattle.rules.specs.Fit.{netFit}
-use Rattle.rules.specs.Close.{mayClose, maturedSheets, maturedAmount, netWithMatured, clearedAtClose}
+use Rattle.rules.specs.Close.{mayClose, maturedTrades, maturedSheets, maturedAmount, netWithMatured, clearedAtClose}
 use Rattle.rules.proofs.FitParts.{fit-parts, fit-withdrawals, fit-securities, fits-cash}
 use Rattle.core.specs.Types.{Nets, Book, Trade}
 use Rattle.core.specs.Flat.{Rows, tradesOf, rowsOf, bookOf, Redeemable}
@@ -27,6 +27,9 @@ module _ (s : tie.Start) where
 
   abbrev trades : List Trade
   trades = tradesOf (s .args .table .now)
+
+  abbrev left-of : List Trade
+  left-of = maturedTrades book trades
 
   abbrev today-net : ℤ
   today-net = netWithMatured (s .args .calendar .now) book trades
@@ -98,7 +101,7 @@ answered-requires c κs = search needs
 returns : tie.Need-returns
 returns c =
     let s = c .before .before .before .before .before .before .before .before .before in
-    close-refused (s .args .calendar .now) (s .args .desk) (rows s) (trades s) 4 _
+    close-refused (s .args .calendar .now) (s .args .desk) (rows s) (left-of s) (trades s) 4 _
     (not-now (s .args .calendar .now) (book s) (trades s) (denied (c .before .before .may-close .ensures) (c .before .if1 .taken)))
     (c .answered .ensures)
 
@@ -129,7 +132,7 @@ same-length c = search needs
 returns-2 : tie.Need-returns-2
 returns-2 c =
     let s = from-today (c .before .before) in
-    close-refused (s .args .calendar .now) (s .args .desk) (rows s) (trades s) 14 _
+    close-refused (s .args .calendar .now) (s .args .desk) (rows s) (left-of s) (trades s) 14 _
     (today-outside (s .args .calendar .now) (book s) (trades s) (may-go-on (c .before .before .before .before .before .before .before .before)) (denied (today-asked (c .before .before)) (c .before .if2 .taken)))
     (c .answered2 .ensures)
 
@@ -151,7 +154,7 @@ same-length-2 c = search needs
 returns-3 : tie.Need-returns-3
 returns-3 c =
     let s = from-cleared (c .before .before) in
-    close-refused (s .args .calendar .now) (s .args .desk) (rows s) (trades s) 14 _
+    close-refused (s .args .calendar .now) (s .args .desk) (rows s) (left-of s) (trades s) 14 _
     (cleared-outside (s .args .calendar .now) (book s) (trades s) (may-go-on (c .before .before .before .before .before .before .before .before .before .before .before)) (denied-not (today-asked (c .before .before .before .before .before)) (c .before .before .before .before .if2 .left)) (denied (cleared-asked (c .before .before)) (c .before .if3 .taken)))
     (c .answered3 .ensures)
 

@@ -39,8 +39,8 @@ module _ (c : tie.After-evening-end) where
   abbrev from-evening : tie.Start
   from-evening = from-count (c .before .before .before .before .before .before .before .before)
 
-  evening-over : eveningAt (c .evening-end .result) (securitiesOf (c .evening-end .last .1 .0)) ≡ evening (book from-evening) (trades from-evening)
-  evening-over = c .evening-end .ensures (trades from-evening) (sheets-left (c .before .before .before .before .before .before .before .before))
+  evening-over : eveningAt (c .evening-end .result) (securitiesOf (c .evening-end .last .1 .0)) ≡ evening (book from-evening) (left-of from-evening)
+  evening-over = c .evening-end .ensures (left-of from-evening) (sheets-left (c .before .before .before .before .before .before .before .before))
 
 day-number-requires : tie.Need-day-number-requires
 day-number-requires c κs = search needs
@@ -66,7 +66,7 @@ closed-desk-requires : tie.Need-closed-desk-requires
 closed-desk-requires c κs =
     let end = c .before .before .before .before .before .before .before .before .before .before in
     let s = from-evening end in
-    let sound = rw (sym (evening-over end)) at (evening-sound (book s) (s .pre .1 .1) (s .pre .1 .2) (trades s)) in
+    let sound = rw (sym (evening-over end)) at (evening-sound (book s) (s .pre .1 .1) (s .pre .1 .2) (left-of s)) in
     (end .evening-end .kept .1 .0 ∙ s .pre .0 .0, sound .0, sound .1, sound .2)
 
 of-close-requires : tie.Need-of-close-requires
@@ -94,8 +94,8 @@ returns d =
     let redeemed = counted .before .before .before .before in
     let s = from-count counted in (
       (λ calendar matured nets.
-          let next = c .closed-desk .ensures calendar _ (trades s) nets (evening-over end) (sheets-left counted) (packed .pack .ensures .0 ∙ ap (λ l. length (remaining l)) (trades-left counted)) in
-          rw (d .of-close .ensures) (close-done calendar (book s) (trades s) (s .args .matured) (end .evening-end .result) (securitiesOf (end .evening-end .last .1 .0)) (c .closed-desk .result) (rowsOf (end .evening-end .last .1 .0) (cleared .last .0) (cleared .last .1 .0)) matured (evening-over end) (rw (cleared .ensures .0, cleared .ensures .1) next))),
+          let next = c .closed-desk .ensures calendar _ (left-of s) (trades s) nets (evening-over end) (sheets-left counted) (packed .pack .ensures .0 ∙ ap (λ l. length (remaining l)) (trades-left counted)) in
+          rw (d .of-close .ensures) (close-done calendar (book s) (left-of s) (trades s) (s .args .matured) (end .evening-end .result) (securitiesOf (end .evening-end .last .1 .0)) (c .closed-desk .result) (rowsOf (end .evening-end .last .1 .0) (cleared .last .0) (cleared .last .1 .0)) matured (evening-over end) (rw (cleared .ensures .0, cleared .ensures .1) next))),
       packed .pack .ensures .1 ∙ packed-after-maturity (book s) _ _ _ (redeemed .before .day-number .ensures) (s .pre .0 .3) (redeemed .redeem-due .kept .0) (redeemed .redeem-due .ensures),
     )
 

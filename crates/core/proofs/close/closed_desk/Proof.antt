@@ -18,7 +18,7 @@ closed-standing-requires c κs = search needs
 
 returns : tie.Need-returns
 unfolding closedBook isShortClose
-returns c = λ calendar rows table nets end left kept.
+returns c = λ calendar rows trades table nets end left kept.
     rw (c .closed-standing .ensures, c .before .short-at-close .ensures, c .before .before .is-short .ensures, c .before .before .before .value-of .ensures, nets, sym end, left, kept)
 
 pub closed-desk-spec : {M : Type 1} → statement M

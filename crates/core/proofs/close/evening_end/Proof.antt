@@ -37,7 +37,7 @@ same-length c = search needs
 
 returns : tie.Need-returns
 unfolding evening allArrived
-returns c = λ table left.
+returns c = λ trades left.
     let end = c .before .before in
     rw (end .applications .ensures, end .before .before .is-served .ensures, end .before .before .before .guarantee-arrived .ensures, end .before .before .before .before .before .before .all-arrived .ensures, left)
 
