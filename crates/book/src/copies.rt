@@ -1,40 +1,41 @@
 // The lent table's trades as the core's numbers, and back: room for them, and the two loops over a slice of trades.
 ghost use mathlib.Core.Path.{_≡_};
-ghost use Prim.Native.Nat.{_+_, _*_, _≤_, _<_};
 ghost use lib.ListN.{length, set};
-ghost use Rattle.core.specs.Flat.{tradeAt, tradesTo, tradesOf};
+ghost use Rattle.core.specs.Flat.{HasSlots, HasSlot, tradeAt, tradesTo, tradesOf};
+use core::layout::WIDTH;
 use core::lent;
+use rules::limits::CAPACITY_LIMIT;
 use rules::trade::Trade;
 
-// Room for as many trades as the name says, four numbers each.
-pub fn zeros_128() -> [u64; 512] {
-    [0; 512]
+// Room for as many trades as the name says.
+pub fn zeros_128() -> [u64; 128 * WIDTH] {
+    [0; 128 * WIDTH]
 }
 
-pub fn zeros_1024() -> [u64; 4_096] {
-    [0; 4_096]
+pub fn zeros_1024() -> [u64; 1_024 * WIDTH] {
+    [0; 1_024 * WIDTH]
 }
 
-pub fn zeros_4096() -> [u64; 16_384] {
-    [0; 16_384]
+pub fn zeros_4096() -> [u64; CAPACITY_LIMIT * WIDTH] {
+    [0; CAPACITY_LIMIT * WIDTH]
 }
 
 fn put_trade(flat: &mut [u64], place: usize, trade: Trade)
-    requires { ⌜ place * 4 + 3 < length (now flat) ⌝ }
+    requires { ⌜ HasSlot (now flat) place ⌝ }
     ensures { λ _. ⌜ tradesOf (now (flat .exit)) ≡ set (tradesOf (now (flat .entry))) place trade ⌝ }
 {
     lent::put_trade(flat, place, trade);
 }
 
 fn trade_at(flat: &[u64], place: usize) -> Trade
-    requires { ⌜ place * 4 + 3 < length (now flat) ⌝ }
+    requires { ⌜ HasSlot (now flat) place ⌝ }
     ensures { λ r. ⌜ r ≡ tradeAt (now (flat .entry)) place ⌝ }
 {
     lent::trade_at(flat, place)
 }
 
 pub fn copy_in(table: &[Trade], flat: &mut [u64])
-    requires { ⌜ length (now table) * 4 ≤ length (now flat) ⌝ }
+    requires { ⌜ HasSlots (now flat) (length (now table)) ⌝ }
     ensures { λ _. ⌜ tradesTo (now (flat .exit)) (length (now (table .entry))) ≡ now (table .entry) ⌝ }
 {
     let n = table.len();
@@ -46,7 +47,7 @@ pub fn copy_in(table: &[Trade], flat: &mut [u64])
 }
 
 pub fn copy_out(flat: &[u64], table: &mut [Trade])
-    requires { ⌜ length (now table) * 4 ≤ length (now flat) ⌝ }
+    requires { ⌜ HasSlots (now flat) (length (now table)) ⌝ }
     ensures { λ _. ⌜ now (table .exit) ≡ tradesTo (now (flat .entry)) (length (now (table .entry))) ⌝ }
 {
     let n = table.len();

@@ -4,13 +4,15 @@ ghost use lib.ListN.{length};
 ghost use Rattle.money.specs.Causes.{firstOf, numberOf};
 ghost use Rattle.rules.specs.Listing.{listingOf, listingCauses, writtenBy};
 use crate::numbers;
+use core::layout::WIDTH;
 use core::lent;
+use money::limits::CALENDAR_LIMIT;
 use rules::book;
 
 fn listing_refusal(words: usize, bytes: usize, room: usize) -> u8
     ensures { λ r. ⌜ r ≡ numberOf (firstOf (listingCauses words bytes room)) ⌝ }
 {
-    if words > 1_200 {
+    if words > CALENDAR_LIMIT {
         return 1;
     }
     lent::lengths_refusal(bytes, room)
@@ -27,7 +29,7 @@ pub fn run_listing(calendar: &[u32], events: &[u8], lines: &mut [u64]) -> u8
     if refusal != 0 {
         return refusal;
     }
-    let mut table = [0; 4096];
+    let mut table = [0; 1_024 * WIDTH];
     let _ = numbers::run_flat(calendar, book::fresh(), &mut table, events, lines);
     0
 }

@@ -5,7 +5,7 @@ ghost use lib.ListN.{length};
 ghost use Rattle.rules.specs.Step.{step};
 ghost use Rattle.rules.specs.Cover.{coverOf};
 ghost use Rattle.rules.specs.Listing.{runOutcome};
-ghost use Rattle.core.specs.Flat.{tradesOf, appliedOf};
+ghost use Rattle.core.specs.Flat.{width, tradesOf, appliedOf};
 use core::lent;
 use core::split;
 use rules::answer::Applied;
@@ -15,7 +15,7 @@ use rules::book::Book;
 use rules::event::Entry;
 
 pub fn apply_flat(calendar: &[u32], book: Book, table: &mut [u64], entry: Entry) -> Applied
-    requires { ⌜ length (now table) % 4 ≡ 0 ⌝ }
+    requires { ⌜ length (now table) % width ≡ 0 ⌝ }
     ensures { λ r.
         let trades = tradesOf (now (table .entry)) in
         let next = step (now (calendar .entry)) book trades entry in
@@ -46,7 +46,7 @@ pub fn apply_flat(calendar: &[u32], book: Book, table: &mut [u64], entry: Entry)
 }
 
 pub fn cover_flat(calendar: &[u32], book: Book, table: &[u64]) -> Cover
-    requires { ⌜ length (now table) % 4 ≡ 0 ⌝ }
+    requires { ⌜ length (now table) % width ≡ 0 ⌝ }
     ensures { λ r. ⌜ r ≡ coverOf (now (calendar .entry)) book (tradesOf (now (table .entry))) ⌝ }
 {
     let vault = book.vault;
@@ -65,7 +65,7 @@ pub fn run_flat(
     events: &[u8],
     lines: &mut [u64],
 ) -> Ran
-    requires { ⌜ length (now table) % 4 ≡ 0 ⌝ }
+    requires { ⌜ length (now table) % width ≡ 0 ⌝ }
     ensures { λ r.
         let trades = tradesOf (now (table .entry)) in
         let ended = runOutcome (now (calendar .entry)) book trades (now (events .entry)) (now (lines .entry)) in

@@ -2,20 +2,23 @@
 // copied back. An entry looks at the slots in use and at the next one, so `apply` and `cover` copy no more than those; a run copies the
 // table it is lent. A table of more than 4,096 slots is answered 1 before anything is copied: no book on it is fit.
 ghost use mathlib.Core.Path.{_≡_};
-ghost use Prim.Native.Nat.{_+_, _*_, _≤_, min};
+ghost use Prim.Native.Nat.{_+_, _≤_, min};
 ghost use lib.ListN.{length};
+ghost use Rattle.rules.specs.Limits.{capacityLimit};
 ghost use Rattle.rules.specs.Step.{step};
 ghost use Rattle.rules.specs.Cover.{coverOf};
 ghost use Rattle.rules.specs.Listing.{runOutcome};
-ghost use Rattle.core.specs.Flat.{tradesTo, appliedOf};
+ghost use Rattle.core.specs.Flat.{HasSlots, tradesTo, appliedOf};
 use crate::copies;
 use crate::numbers;
 use crate::refused;
+use core::layout::WIDTH;
 use rules::answer::Applied;
 use rules::answer::Cover;
 use rules::answer::Ran;
 use rules::book::Book;
 use rules::event::Entry;
+use rules::limits::CAPACITY_LIMIT;
 use rules::trade::Trade;
 
 // The core on the first `count` trades of a longer row of numbers.
@@ -26,14 +29,14 @@ fn apply_first(
     count: usize,
     entry: Entry,
 ) -> Applied
-    requires { ⌜ count * 4 ≤ length (now flat) ⌝ }
+    requires { ⌜ HasSlots (now flat) count ⌝ }
     ensures { λ r.
         let trades = tradesTo (now (flat .entry)) count in
         let next = step (now (calendar .entry)) book trades entry in
         ⌜ (r ≡ appliedOf next)
         × (tradesTo (now (flat .exit)) count ≡ next .table) ⌝ }
 {
-    let end = count * 4;
+    let end = count * WIDTH;
     numbers::apply_flat(calendar, book, &mut flat[..end], entry)
 }
 
@@ -45,7 +48,7 @@ fn apply_by(
     flat: &mut [u64],
     entry: Entry,
 ) -> Applied
-    requires { ⌜ length (now table) * 4 ≤ length (now flat) ⌝ }
+    requires { ⌜ HasSlots (now flat) (length (now table)) ⌝ }
     ensures { λ r.
         let next = step (now (calendar .entry)) book (now (table .entry)) entry in
         ⌜ (r ≡ appliedOf next)
@@ -82,7 +85,7 @@ fn apply_1024(calendar: &[u32], book: Book, table: &mut [Trade], entry: Entry) -
 }
 
 fn apply_4096(calendar: &[u32], book: Book, table: &mut [Trade], entry: Entry) -> Applied
-    requires { ⌜ length (now table) ≤ 4096 ⌝ }
+    requires { ⌜ length (now table) ≤ capacityLimit ⌝ }
     ensures { λ r.
         let next = step (now (calendar .entry)) book (now (table .entry)) entry in
         ⌜ (r ≡ appliedOf next)
@@ -94,7 +97,7 @@ fn apply_4096(calendar: &[u32], book: Book, table: &mut [Trade], entry: Entry) -
 
 // One entry with as few numbers as will do.
 fn apply_more(calendar: &[u32], book: Book, table: &mut [Trade], entry: Entry) -> Applied
-    requires { ⌜ length (now table) ≤ 4096 ⌝ }
+    requires { ⌜ length (now table) ≤ capacityLimit ⌝ }
     ensures { λ r.
         let next = step (now (calendar .entry)) book (now (table .entry)) entry in
         ⌜ (r ≡ appliedOf next)
@@ -107,7 +110,7 @@ fn apply_more(calendar: &[u32], book: Book, table: &mut [Trade], entry: Entry) -
 }
 
 fn apply_front(calendar: &[u32], book: Book, table: &mut [Trade], entry: Entry) -> Applied
-    requires { ⌜ length (now table) ≤ 4096 ⌝ }
+    requires { ⌜ length (now table) ≤ capacityLimit ⌝ }
     ensures { λ r.
         let next = step (now (calendar .entry)) book (now (table .entry)) entry in
         ⌜ (r ≡ appliedOf next)
@@ -137,7 +140,7 @@ pub fn apply(calendar: &[u32], book: Book, table: &mut [Trade], entry: Entry) ->
         × (now (table .exit) ≡ next .table) ⌝ }
 {
     let slots = table.len();
-    if slots > 4_096 {
+    if slots > CAPACITY_LIMIT {
         return refused::entry(1, book);
     }
     let used = slots_used(book, slots);
@@ -146,16 +149,16 @@ pub fn apply(calendar: &[u32], book: Book, table: &mut [Trade], entry: Entry) ->
 
 // The core on the first `count` trades of a longer row of numbers.
 fn cover_first(calendar: &[u32], book: Book, flat: &[u64], count: usize) -> Cover
-    requires { ⌜ count * 4 ≤ length (now flat) ⌝ }
+    requires { ⌜ HasSlots (now flat) count ⌝ }
     ensures { λ r. ⌜ r ≡ coverOf (now (calendar .entry)) book (tradesTo (now (flat .entry)) count) ⌝ }
 {
-    let end = count * 4;
+    let end = count * WIDTH;
     numbers::cover_flat(calendar, book, &flat[..end])
 }
 
 // By way of lent numbers, whose old content does not matter.
 fn cover_by(calendar: &[u32], book: Book, table: &[Trade], flat: &mut [u64]) -> Cover
-    requires { ⌜ length (now table) * 4 ≤ length (now flat) ⌝ }
+    requires { ⌜ HasSlots (now flat) (length (now table)) ⌝ }
     ensures { λ r. ⌜ r ≡ coverOf (now (calendar .entry)) book (now (table .entry)) ⌝ }
 {
     let n = table.len();
@@ -181,7 +184,7 @@ fn cover_1024(calendar: &[u32], book: Book, table: &[Trade]) -> Cover
 }
 
 fn cover_4096(calendar: &[u32], book: Book, table: &[Trade]) -> Cover
-    requires { ⌜ length (now table) ≤ 4096 ⌝ }
+    requires { ⌜ length (now table) ≤ capacityLimit ⌝ }
     ensures { λ r. ⌜ r ≡ coverOf (now (calendar .entry)) book (now (table .entry)) ⌝ }
 {
     let mut flat = copies::zeros_4096();
@@ -189,7 +192,7 @@ fn cover_4096(calendar: &[u32], book: Book, table: &[Trade]) -> Cover
 }
 
 fn cover_more(calendar: &[u32], book: Book, table: &[Trade]) -> Cover
-    requires { ⌜ length (now table) ≤ 4096 ⌝ }
+    requires { ⌜ length (now table) ≤ capacityLimit ⌝ }
     ensures { λ r. ⌜ r ≡ coverOf (now (calendar .entry)) book (now (table .entry)) ⌝ }
 {
     if table.len() <= 1_024 {
@@ -199,7 +202,7 @@ fn cover_more(calendar: &[u32], book: Book, table: &[Trade]) -> Cover
 }
 
 fn cover_front(calendar: &[u32], book: Book, table: &[Trade]) -> Cover
-    requires { ⌜ length (now table) ≤ 4096 ⌝ }
+    requires { ⌜ length (now table) ≤ capacityLimit ⌝ }
     ensures { λ r. ⌜ r ≡ coverOf (now (calendar .entry)) book (now (table .entry)) ⌝ }
 {
     if table.len() <= 128 {
@@ -213,7 +216,7 @@ pub fn cover(calendar: &[u32], book: Book, table: &[Trade]) -> Cover
     ensures { λ r. ⌜ r ≡ coverOf (now (calendar .entry)) book (now (table .entry)) ⌝ }
 {
     let slots = table.len();
-    if slots > 4_096 {
+    if slots > CAPACITY_LIMIT {
         return refused::cover();
     }
     let used = slots_used(book, slots);
@@ -229,7 +232,7 @@ fn run_first(
     events: &[u8],
     lines: &mut [u64],
 ) -> Ran
-    requires { ⌜ count * 4 ≤ length (now flat) ⌝ }
+    requires { ⌜ HasSlots (now flat) count ⌝ }
     ensures { λ r.
         let trades = tradesTo (now (flat .entry)) count in
         let ended = runOutcome (now (calendar .entry)) book trades (now (events .entry)) (now (lines .entry)) in
@@ -237,7 +240,7 @@ fn run_first(
         × (tradesTo (now (flat .exit)) count ≡ ended .table)
         × (now (lines .exit) ≡ ended .lines) ⌝ }
 {
-    let end = count * 4;
+    let end = count * WIDTH;
     numbers::run_flat(calendar, book, &mut flat[..end], events, lines)
 }
 
@@ -250,7 +253,7 @@ fn run_by(
     events: &[u8],
     lines: &mut [u64],
 ) -> Ran
-    requires { ⌜ length (now table) * 4 ≤ length (now flat) ⌝ }
+    requires { ⌜ HasSlots (now flat) (length (now table)) ⌝ }
     ensures { λ r.
         let ended = runOutcome (now (calendar .entry)) book (now (table .entry)) (now (events .entry)) (now (lines .entry)) in
         ⌜ (r ≡ ended .ran)
@@ -308,7 +311,7 @@ fn run_4096(
     events: &[u8],
     lines: &mut [u64],
 ) -> Ran
-    requires { ⌜ length (now table) ≤ 4096 ⌝ }
+    requires { ⌜ length (now table) ≤ capacityLimit ⌝ }
     ensures { λ r.
         let ended = runOutcome (now (calendar .entry)) book (now (table .entry)) (now (events .entry)) (now (lines .entry)) in
         ⌜ (r ≡ ended .ran)
@@ -327,7 +330,7 @@ fn run_more(
     events: &[u8],
     lines: &mut [u64],
 ) -> Ran
-    requires { ⌜ length (now table) ≤ 4096 ⌝ }
+    requires { ⌜ length (now table) ≤ capacityLimit ⌝ }
     ensures { λ r.
         let ended = runOutcome (now (calendar .entry)) book (now (table .entry)) (now (events .entry)) (now (lines .entry)) in
         ⌜ (r ≡ ended .ran)
@@ -347,7 +350,7 @@ fn run_short(
     events: &[u8],
     lines: &mut [u64],
 ) -> Ran
-    requires { ⌜ length (now table) ≤ 4096 ⌝ }
+    requires { ⌜ length (now table) ≤ capacityLimit ⌝ }
     ensures { λ r.
         let ended = runOutcome (now (calendar .entry)) book (now (table .entry)) (now (events .entry)) (now (lines .entry)) in
         ⌜ (r ≡ ended .ran)
@@ -374,7 +377,7 @@ pub fn run(
         × (now (table .exit) ≡ ended .table)
         × (now (lines .exit) ≡ ended .lines) ⌝ }
 {
-    if table.len() > 4_096 {
+    if table.len() > CAPACITY_LIMIT {
         return refused::run(1, book);
     }
     run_short(calendar, book, table, events, lines)

@@ -1,7 +1,7 @@
 -- How the core lays out its table, four numbers a trade, and its book, a desk and rows: what `Lent` reads numbers by. Promises of other calls
 -- cite this layout and `appliedOf`; all else serves private contracts. No rule of document 01 stands here.
 -- Assumes nothing.
-use Prim.Native.Nat.{ℕ, zero, suc, _+_, _*_, _/_, _%_, _≤_}
+use Prim.Native.Nat.{ℕ, zero, suc, _+_, _*_, _/_, _%_, _≤_, _<_}
 use mathlib.Core.Path.{_≡_}
 use mathlib.Core.Bool.{true, cond}
 use mathlib.Core.List.{List, [], _∷_, _++_, map}
@@ -23,9 +23,24 @@ use Rattle.desk.specs.declared.state.Desk.{Desk}
 use Rattle.desk.specs.declared.done.Done.{Done}
 use Rattle.core.specs.declared.evening.Evened.{Evened}
 
+-- how many numbers a trade takes
+abbrev pub width : ℕ
+width = 4
+
+-- a table has so many slots, and one at a place
+abbrev pub HasSlots : List ℕ → (count : ℕ) → Type 0
+HasSlots table count = count * width ≤ length table
+
+abbrev pub HasSlot : List ℕ → (place : ℕ) → Type 0
+HasSlot table place = place * width + 3 < length table
+
+-- how many numbers the securities take
+abbrev pub heldLength : ℕ
+heldLength = 128
+
 -- a number of the trade at a place
 abbrev pub word : List ℕ → (place field : ℕ) → ℕ
-word table place field = getD table (place * 4 + field) 0
+word table place field = getD table (place * width + field) 0
 
 -- prices and days have 32 bits, two to a number
 abbrev pub lower : ℕ → ℕ
@@ -36,7 +51,7 @@ upper number = number / 4294967296 % 4294967296
 
 unfoldable pub tradeAt : List ℕ → ℕ → Trade
 tradeAt table place = record {
-  contract = record { 0 = getD table (place * 4) 0 };
+  contract = record { 0 = getD table (place * width) 0 };
   sheets = sheets (word table place 1);
   price = ticks (lower (word table place 2));
   fallback = ticks (upper (word table place 2));
@@ -50,7 +65,7 @@ tradesTo table zero = []
 tradesTo table (suc count) = tradesTo table count ++ (tradeAt table count ∷ [])
 
 abbrev pub capacity : List ℕ → ℕ
-capacity table = length table / 4
+capacity table = length table / width
 
 abbrev pub tradesOf : List ℕ → List Trade
 tradesOf table = tradesTo table (capacity table)
@@ -136,7 +151,7 @@ contractNumbers trades = map (λ trade. trade .contract .0) trades
 
 -- the trades in use stand in the table, within their limits
 pub record Kept (table : List ℕ) (count : ℕ) : Type 0 where
-  pub room : count * 4 ≤ length table
+  pub room : HasSlots table count
   pub few : count ≤ capacityLimit
   pub within : allTrades tradeFit (tradesTo table count) ≡ true
 

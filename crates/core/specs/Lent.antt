@@ -12,7 +12,7 @@ use Rattle.rules.specs.Step.{Outcome, outcome, unfit, step}
 use Rattle.rules.specs.Cover.{uncounted, coverOf}
 use Rattle.rules.specs.Listing.{RunOutcome, runOutcome}
 use Rattle.core.specs.Types.{Book, Trade, Entry, Cover}
-use Rattle.core.specs.Flat.{rowsOf, bookOf, tradesOf}
+use Rattle.core.specs.Flat.{width, rowsOf, bookOf, tradesOf}
 use Rattle.desk.specs.declared.state.Desk.{Desk}
 
 -- what is small of the book, the rows of securities and of applications, and the table
@@ -40,7 +40,7 @@ isWhole l =
     (eqb (length (l .held)) 128
     ∷ eqb (length (l .kinds)) 128
     ∷ eqb (length (l .units)) 128
-    ∷ eqb (length (l .table) % 4) 0
+    ∷ eqb (length (l .table) % width) 0
     ∷ [])
 
 -- ---- numbers that are not whole hold no book, so none that is fit: 1, and all as it was

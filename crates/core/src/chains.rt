@@ -1,7 +1,9 @@
 // Whether contracts differ, by chains: each trade is linked to the last one before it whose contract falls into the same bucket, so that
+ghost use Rattle.rules.specs.Limits.{capacityLimit};
+ghost use Rattle.core.specs.Flat.{HasSlots};
 // a contract is compared with few others. A chain that gets long tells nothing, and the contracts are sorted instead.
 ghost use mathlib.Core.Path.{_≡_};
-ghost use Prim.Native.Nat.{_+_, _*_, _≤_, _<_};
+ghost use Prim.Native.Nat.{_+_, _≤_, _<_};
 ghost use lib.ListN.{length, replicate};
 ghost use Rattle.core.specs.Chains.{bucketOf, Falls, Tells, TellsAll};
 use crate::flat;
@@ -23,7 +25,7 @@ fn bucket_of(contract: Contract, buckets: usize) -> usize
 
 // A contract looked for along a chain, over 64 trades at most. A link is one more than a place, and 0 at the end.
 fn look_along(table: &[u64], next: &[u16], from: usize, contract: Contract) -> Told
-    requires { ⌜ (from * 4 ≤ length (now table)) × (from ≤ length (now next)) × (Falls (now next) from) ⌝ }
+    requires { ⌜ (HasSlots (now table) from) × (from ≤ length (now next)) × (Falls (now next) from) ⌝ }
     ensures { λ r. ⌜ Tells (now (table .entry)) (now (next .entry)) from contract r ⌝ }
 {
     let mut link = from;
@@ -50,8 +52,8 @@ pub fn linked_differ(
     heads: &mut [u16],
     next: &mut [u16],
 ) -> Told
-    requires { ⌜ (count * 4 ≤ length (now table))
-        × (count ≤ 4096)
+    requires { ⌜ (HasSlots (now table) count)
+        × (count ≤ capacityLimit)
         × (0 < buckets)
         × (buckets ≤ 32749)
         × (now heads ≡ replicate buckets 0)

@@ -6,14 +6,16 @@ ghost use mathlib.Core.List.{List};
 ghost use mathlib.Core.Option.{none};
 ghost use lib.IntN.{pos};
 ghost use lib.ListN.{length};
+ghost use Rattle.money.specs.Limits.{calendarLimit, cashLimit};
 ghost use Rattle.money.specs.Causes.{firstOf};
 ghost use Rattle.money.specs.Days.{Calendar};
+ghost use Rattle.rules.specs.Limits.{applicationLimit};
 ghost use Rattle.rules.specs.Fit.{securitiesFit, cashFit, withdrawalsFit, fit};
 ghost use Rattle.rules.specs.Book.{noApplications};
 ghost use Rattle.rules.specs.Close.{mayClose, maturedTrades, maturedSheets, clearedAtClose, served, evening as eveningOf, shortMore, shortAtClose, closedStanding, closeCauses, closedBook, closedTable};
 ghost use Rattle.rules.specs.Trades.{outstanding, remaining};
 ghost use Rattle.core.specs.Types.{Trade};
-ghost use Rattle.core.specs.Flat.{Rows, vaultOf, securitiesOf, rowsOf, bookOf, eveningAt, appliedAt, tradesOf, closedBy, tableBy, Kept};
+ghost use Rattle.core.specs.Flat.{Rows, vaultOf, securitiesOf, rowsOf, bookOf, eveningAt, appliedAt, tradesOf, closedBy, tableBy, Kept, heldLength};
 use crate::days;
 use crate::evening;
 use crate::evening::Evened;
@@ -33,6 +35,7 @@ use rules::book::Nets;
 use rules::book::Phase;
 use rules::book::ShortRun;
 use rules::book::Standing;
+use rules::limits::APPLICATION_LIMIT;
 
 fn may_close(standing: Standing) -> bool
     ensures { λ r. ⌜ r ≡ mayClose standing ⌝ }
@@ -92,11 +95,11 @@ fn closed_standing(short: ShortRun, standing: Standing) -> Standing
 
 // The list of applications empties to zeros.
 fn clear(kinds: &mut [u8], units: &mut [u64])
-    requires { ⌜ (length (now kinds) ≡ 128) × (length (now units) ≡ 128) ⌝ }
+    requires { ⌜ (length (now kinds) ≡ applicationLimit) × (length (now units) ≡ applicationLimit) ⌝ }
     ensures { λ _. ⌜ (now (kinds .exit) ≡ noApplications .kinds) × (now (units .exit) ≡ noApplications .units) ⌝ }
 {
     let mut i = 0;
-    while i < 128 {
+    while i < APPLICATION_LIMIT {
         kinds[i] = 0;
         units[i] = 0;
         i += 1;
@@ -105,7 +108,7 @@ fn clear(kinds: &mut [u8], units: &mut [u64])
 
 // The evening's end, with the sheets of the trades that part (a) leaves.
 fn evening_end(desk: Desk, held: &mut [u64], kinds: &[u8], units: &[u64], left: u64) -> Evened
-    requires { ⌜ (length (now held) ≡ 128) × (length (now kinds) ≡ 128) × (length (now units) ≡ 128) ⌝ }
+    requires { ⌜ (length (now held) ≡ heldLength) × (length (now kinds) ≡ applicationLimit) × (length (now units) ≡ applicationLimit) ⌝ }
     requires { let book = bookOf desk (rowsOf (now held) (now kinds) (now units)) in
         ⌜ (withdrawalsFit (book .withdrawals) ≡ true)
         × (securitiesFit (book .vault) ≡ true)
@@ -143,10 +146,10 @@ fn closed_desk(
     left: u64,
     kept: usize,
 ) -> Desk
-    requires { ⌜ (length (now held) ≡ 128)
+    requires { ⌜ (length (now held) ≡ heldLength)
         × (securitiesFit (vaultOf (evened .guarantee) (securitiesOf (now held))) ≡ true)
         × (evened .guarantee .frozen .0 ≤ evened .guarantee .effective .0)
-        × (evened .guarantee .effective .0 ≤ 10000000000000000) ⌝ }
+        × (evened .guarantee .effective .0 ≤ cashLimit) ⌝ }
     ensures { λ r.
         ⌜ ((calendar : Calendar) (rows : Rows) (trades table : List Trade) →
         let book = bookOf desk rows in
@@ -184,7 +187,7 @@ fn closed(
     matured: u64,
     cleared: Nets,
 ) -> Done
-    requires { ⌜ (length (now held) ≡ 128) × (length (now kinds) ≡ 128) × (length (now units) ≡ 128) × (Kept (now table) (desk .trades)) ⌝ }
+    requires { ⌜ (length (now held) ≡ heldLength) × (length (now kinds) ≡ applicationLimit) × (length (now units) ≡ applicationLimit) × (Kept (now table) (desk .trades)) ⌝ }
     requires { let book = bookOf desk (rowsOf (now held) (now kinds) (now units)) in
         ⌜ (withdrawalsFit (book .withdrawals) ≡ true)
         × (securitiesFit (book .vault) ≡ true)
@@ -220,10 +223,10 @@ pub fn close(
     units: &mut [u64],
     table: &mut [u64],
 ) -> Done
-    requires { ⌜ (length (now held) ≡ 128)
-        × (length (now kinds) ≡ 128)
-        × (length (now units) ≡ 128)
-        × (length (now calendar) ≤ 1200)
+    requires { ⌜ (length (now held) ≡ heldLength)
+        × (length (now kinds) ≡ applicationLimit)
+        × (length (now units) ≡ applicationLimit)
+        × (length (now calendar) ≤ calendarLimit)
         × (fit (now calendar) (bookOf desk (rowsOf (now held) (now kinds) (now units))) (tradesOf (now table)) ≡ true) ⌝ }
     ensures { λ r.
         let book = bookOf desk (rowsOf (now (held .entry)) (now (kinds .entry)) (now (units .entry))) in

@@ -2,6 +2,7 @@
 ghost use mathlib.Core.Path.{_≡_};
 ghost use Prim.Native.Nat.{_≤_};
 ghost use Rattle.money.specs.Units.{sheets};
+ghost use Rattle.rules.specs.Limits.{sizeLimit};
 ghost use Rattle.rules.specs.Vault.{headroomOf};
 ghost use Rattle.rules.specs.Cover.{uncounted};
 use crate::figures::Figures;
@@ -12,7 +13,7 @@ use rules::answer::Cover;
 
 // The smaller of S and V, less O.
 fn headroom_from(size: u64, value: u64, outstanding: u64) -> i64
-    requires { ⌜ (size ≤ 10000000000) × (outstanding ≤ 10000000000) ⌝ }
+    requires { ⌜ (size ≤ sizeLimit) × (outstanding ≤ sizeLimit) ⌝ }
     ensures { λ r. ⌜ r ≡ headroomOf size value outstanding ⌝ }
 {
     nets::difference(headroom::smaller(size, value), outstanding)
@@ -20,7 +21,7 @@ fn headroom_from(size: u64, value: u64, outstanding: u64) -> i64
 
 // From O and V.
 pub fn cover_from(size: u64, figures: Figures) -> Cover
-    requires { ⌜ (size ≤ 10000000000) × (figures .outstanding ≤ 10000000000) ⌝ }
+    requires { ⌜ (size ≤ sizeLimit) × (figures .outstanding ≤ sizeLimit) ⌝ }
     ensures { λ r.
         let headroom = headroomOf size (figures .value) (figures .outstanding) in
         ⌜ r ≡ record { number = 0; headroom = headroom; outstanding = sheets (figures .outstanding) } ⌝ }

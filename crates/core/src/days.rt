@@ -3,6 +3,7 @@ ghost use mathlib.Core.Path.{_≡_};
 ghost use mathlib.Core.Option.{some};
 ghost use Prim.Native.Nat.{_≤_};
 ghost use lib.ListN.{length};
+ghost use Rattle.money.specs.Limits.{calendarLimit};
 ghost use Rattle.money.specs.Days.{atOrAfter, searchResult};
 ghost use Rattle.rules.specs.Days.{following, toDay, dayNumber, paymentDay, followed};
 use money::days::Found;
@@ -30,7 +31,7 @@ pub fn day_number(day: Day) -> u32
 
 // The payment day of a day is the next trading day.
 pub fn payment_day(calendar: &[u32], day: Day) -> u32
-    requires { ⌜ length (now calendar) ≤ 1200 ⌝ }
+    requires { ⌜ length (now calendar) ≤ calendarLimit ⌝ }
     ensures { λ r. ⌜ r ≡ paymentDay (now (calendar .entry)) day ⌝ }
 {
     next_found(calendar, day).day
@@ -38,7 +39,7 @@ pub fn payment_day(calendar: &[u32], day: Day) -> u32
 
 // Whether a trading day has another following.
 pub fn has_next(calendar: &[u32], day: u32) -> bool
-    requires { ⌜ length (now calendar) ≤ 1200 ⌝ }
+    requires { ⌜ length (now calendar) ≤ calendarLimit ⌝ }
     ensures { λ r. ⌜ r ≡ followed (now (calendar .entry)) (some day) ⌝ }
 {
     money::days::next_after(calendar, day).number == 0
@@ -46,7 +47,7 @@ pub fn has_next(calendar: &[u32], day: u32) -> bool
 
 // Whether there is a trading day at or after a due day with another following.
 pub fn matures(calendar: &[u32], due: u32) -> bool
-    requires { ⌜ length (now calendar) ≤ 1200 ⌝ }
+    requires { ⌜ length (now calendar) ≤ calendarLimit ⌝ }
     ensures { λ r. ⌜ r ≡ followed (now (calendar .entry)) (atOrAfter (now (calendar .entry)) due) ⌝ }
 {
     let found = money::days::at_or_after(calendar, due);
@@ -58,7 +59,7 @@ pub fn matures(calendar: &[u32], due: u32) -> bool
 
 // Whether there is a day to open with another following.
 pub fn opens(calendar: &[u32], day: Day) -> bool
-    requires { ⌜ length (now calendar) ≤ 1200 ⌝ }
+    requires { ⌜ length (now calendar) ≤ calendarLimit ⌝ }
     ensures { λ r. ⌜ r ≡ followed (now (calendar .entry)) (following (now (calendar .entry)) day) ⌝ }
 {
     let found = next_found(calendar, day);
@@ -70,7 +71,7 @@ pub fn opens(calendar: &[u32], day: Day) -> bool
 
 // The day to open, or never.
 pub fn next_day(calendar: &[u32], day: Day) -> Day
-    requires { ⌜ length (now calendar) ≤ 1200 ⌝ }
+    requires { ⌜ length (now calendar) ≤ calendarLimit ⌝ }
     ensures { λ r. ⌜ r ≡ toDay (following (now (calendar .entry)) day) ⌝ }
 {
     let found = next_found(calendar, day);

@@ -3,10 +3,12 @@ ghost use mathlib.Core.Path.{_≡_};
 ghost use mathlib.Core.Bool.{true};
 ghost use Prim.Native.Nat.{_≤_};
 ghost use lib.ListN.{length};
+ghost use Rattle.money.specs.Limits.{calendarLimit};
+ghost use Rattle.rules.specs.Limits.{applicationLimit};
 ghost use Rattle.rules.specs.Fit.{fit};
 ghost use Rattle.rules.specs.Step.{step};
 ghost use Rattle.core.specs.Types.{Known};
-ghost use Rattle.core.specs.Flat.{rowsOf, bookOf, appliedAt, tradesOf, appliedOf};
+ghost use Rattle.core.specs.Flat.{rowsOf, bookOf, appliedAt, tradesOf, appliedOf, heldLength};
 ghost use Rattle.core.specs.Figures.{outstandingAt};
 use crate::close;
 use crate::early;
@@ -37,10 +39,10 @@ fn event_on(
     event: Event,
 ) -> Done
     requires { let trades = tradesOf (now table) in
-        ⌜ (length (now held) ≡ 128)
-        × (length (now kinds) ≡ 128)
-        × (length (now units) ≡ 128)
-        × (length (now calendar) ≤ 1200)
+        ⌜ (length (now held) ≡ heldLength)
+        × (length (now kinds) ≡ applicationLimit)
+        × (length (now units) ≡ applicationLimit)
+        × (length (now calendar) ≤ calendarLimit)
         × (fit (now calendar) (bookOf desk (rowsOf (now held) (now kinds) (now units))) trades ≡ true)
         × (outstanding ≡ outstandingAt desk trades) ⌝ }
     ensures { λ r.
@@ -99,10 +101,10 @@ pub fn entry_on(
     entry: Entry,
 ) -> Done
     requires { let trades = tradesOf (now table) in
-        ⌜ (length (now held) ≡ 128)
-        × (length (now kinds) ≡ 128)
-        × (length (now units) ≡ 128)
-        × (length (now calendar) ≤ 1200)
+        ⌜ (length (now held) ≡ heldLength)
+        × (length (now kinds) ≡ applicationLimit)
+        × (length (now units) ≡ applicationLimit)
+        × (length (now calendar) ≤ calendarLimit)
         × (fit (now calendar) (bookOf desk (rowsOf (now held) (now kinds) (now units))) trades ≡ true)
         × (outstanding ≡ outstandingAt desk trades) ⌝ }
     ensures { λ r.

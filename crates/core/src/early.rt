@@ -1,10 +1,11 @@
 // 10 Early: takes sheets off a trade at the price given; the amount joins today's net.
 ghost use mathlib.Core.Path.{_≡_};
-ghost use Prim.Native.Nat.{_≤_, _<_, _*_};
+ghost use Prim.Native.Nat.{_≤_, _<_};
 ghost use lib.ListN.{length};
+ghost use Rattle.money.specs.Limits.{calendarLimit, priceLimit, tradeLimit};
 ghost use Rattle.money.specs.Causes.{firstOf, numberOf};
 ghost use Rattle.rules.specs.Early.{earlyAmount, pastDue, earlyCauses, earlyBook, earlyTable};
-ghost use Rattle.core.specs.Flat.{Rows, bookOf, Fits, appliedAt, tradesTo, tradesOf, placeOf, appliedBy, tableBy};
+ghost use Rattle.core.specs.Flat.{HasSlots, Rows, bookOf, Fits, appliedAt, tradesTo, tradesOf, placeOf, appliedBy, tableBy};
 use crate::days;
 use crate::flat;
 use crate::nets;
@@ -14,13 +15,14 @@ use desk::done;
 use desk::done::Done;
 use desk::standing;
 use desk::state::Desk;
+use money::limits::PRICE_LIMIT;
 use money::units::Sheets;
 use money::units::Ticks;
 use rules::trade::Contract;
 
 // Whether today is at or past the due day of the trade at a place.
 fn past_due(desk: Desk, table: &[u64], place: usize, contract: Contract) -> bool
-    requires { ⌜ (desk .trades * 4 ≤ length (now table)) × (place ≡ placeOf contract (tradesTo (now table) (desk .trades))) ⌝ }
+    requires { ⌜ (HasSlots (now table) (desk .trades)) × (place ≡ placeOf contract (tradesTo (now table) (desk .trades))) ⌝ }
     ensures { λ r. ⌜ ((rows : Rows) → r ≡ pastDue (bookOf desk rows) (tradesOf (now (table .entry))) contract) ⌝ }
 {
     if place >= desk.trades {
@@ -42,11 +44,11 @@ fn amount_at(
     price: Ticks,
 ) -> u64
     requires { ⌜ (Fits (now calendar) desk (tradesOf (now table)))
-        × (length (now calendar) ≤ 1200)
+        × (length (now calendar) ≤ calendarLimit)
         × (place ≡ placeOf contract (tradesTo (now table) (desk .trades)))
         × (place < desk .trades)
-        × (count .0 ≤ 100000000)
-        × (price .0 ≤ 100000) ⌝ }
+        × (count .0 ≤ tradeLimit)
+        × (price .0 ≤ priceLimit) ⌝ }
     ensures { λ r.
         ⌜ ((rows : Rows) →
         r ≡ earlyAmount (now (calendar .entry)) (bookOf desk rows) (tradesOf (now (table .entry))) contract count price) ⌝ }
@@ -67,7 +69,7 @@ fn early_refusal(
     price: Ticks,
 ) -> u8
     requires { ⌜ (Fits (now calendar) desk (tradesOf (now table)))
-        × (length (now calendar) ≤ 1200)
+        × (length (now calendar) ≤ calendarLimit)
         × (place ≡ placeOf contract (tradesTo (now table) (desk .trades))) ⌝ }
     ensures { λ r.
         let trades = tradesOf (now (table .entry)) in
@@ -86,7 +88,7 @@ fn early_refusal(
     if count.0 == 0 {
         return 7;
     }
-    if price.0 > 100_000 {
+    if price.0 > PRICE_LIMIT {
         return 8;
     }
     if past_due(desk, table, place, contract) {
@@ -114,7 +116,7 @@ pub fn early(
     count: Sheets,
     price: Ticks,
 ) -> Done
-    requires { ⌜ (Fits (now calendar) desk (tradesOf (now table))) × (length (now calendar) ≤ 1200) ⌝ }
+    requires { ⌜ (Fits (now calendar) desk (tradesOf (now table))) × (length (now calendar) ≤ calendarLimit) ⌝ }
     ensures { λ r.
         let trades = tradesOf (now (table .entry)) in
         ⌜ ((rows : Rows) →

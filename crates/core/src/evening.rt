@@ -4,19 +4,21 @@ ghost use mathlib.Core.Bool.{true, cond};
 ghost use Prim.Native.Nat.{_≤_, _+_};
 ghost use mathlib.Core.List.{map};
 ghost use lib.ListN.{length};
+ghost use Rattle.money.specs.Limits.{cashLimit, rateLimit, unitLimit};
 ghost use Rattle.money.specs.Collateral.{rateOf, unitLimitOf, kindValue};
+ghost use Rattle.rules.specs.Limits.{applicationLimit};
 ghost use Rattle.rules.specs.Vault.{securityAt, effectiveOf, frozenOf, value as valueOf};
 ghost use Rattle.rules.specs.Fit.{securitiesFit, withdrawalsFit};
 ghost use Rattle.rules.specs.Close.{securityArrived, guaranteeArrived, takenOut, mayGo, applications};
 ghost use Rattle.core.specs.Types.{Vault};
-ghost use Rattle.core.specs.Flat.{vaultOf, securitiesOf, eveningAt};
+ghost use Rattle.core.specs.Flat.{vaultOf, securitiesOf, eveningAt, heldLength};
 use crate::held;
 use money::units::Fen;
 use rules::book::Guarantee;
 use rules::book::Security;
 
 fn security_arrived(security: Security) -> Security
-    requires { ⌜ security .effective + security .arriving ≤ 1000000000000 ⌝ }
+    requires { ⌜ security .effective + security .arriving ≤ unitLimit ⌝ }
     ensures { λ r. ⌜ r ≡ securityArrived security ⌝ }
 {
     Security {
@@ -28,7 +30,7 @@ fn security_arrived(security: Security) -> Security
 }
 
 pub fn guarantee_arrived(guarantee: Guarantee) -> Guarantee
-    requires { ⌜ guarantee .effective .0 + guarantee .arriving .0 ≤ 10000000000000000 ⌝ }
+    requires { ⌜ guarantee .effective .0 + guarantee .arriving .0 ≤ cashLimit ⌝ }
     ensures { λ r. ⌜ r ≡ guaranteeArrived guarantee ⌝ }
 {
     Guarantee {
@@ -40,7 +42,7 @@ pub fn guarantee_arrived(guarantee: Guarantee) -> Guarantee
 
 // What arrives becomes effective, of every security.
 pub fn all_arrived(held: &mut [u64], guarantee: Guarantee)
-    requires { ⌜ (length (now held) ≡ 128) × (securitiesFit (vaultOf guarantee (securitiesOf (now held))) ≡ true) ⌝ }
+    requires { ⌜ (length (now held) ≡ heldLength) × (securitiesFit (vaultOf guarantee (securitiesOf (now held))) ≡ true) ⌝ }
     ensures { λ _. ⌜ securitiesOf (now (held .exit)) ≡ map securityArrived (securitiesOf (now (held .entry))) ⌝ }
 {
     let mut kind = 0;
@@ -95,7 +97,7 @@ fn judged(
     requires { ⌜ (kind ≤ 32)
         × (had .frozen ≤ had .effective)
         × (had .effective ≤ unitLimitOf kind)
-        × (rateOf kind (had .rate) ≤ 20000)
+        × (rateOf kind (had .rate) ≤ rateLimit)
         × (kindValue kind (had .effective) (had .frozen) (had .rate) .0 ≤ value)
         × (value ≤ 67000000000000) ⌝ }
     ensures { λ r.
@@ -143,14 +145,14 @@ pub fn applications(
     held: &mut [u64],
     begun: Evened,
 ) -> Evened
-    requires { ⌜ (length (now kinds) ≡ 128)
-        × (length (now units) ≡ 128)
-        × (length (now held) ≡ 128)
+    requires { ⌜ (length (now kinds) ≡ applicationLimit)
+        × (length (now units) ≡ applicationLimit)
+        × (length (now held) ≡ heldLength)
         × (withdrawalsFit (record { kinds = now kinds; units = now units; count = count }) ≡ true) ⌝ }
     requires { ⌜ (securitiesFit (vaultOf (begun .guarantee) (securitiesOf (now held))) ≡ true)
         × (begun .guarantee .frozen .0 ≤ begun .guarantee .effective .0)
-        × (begun .guarantee .effective .0 ≤ 10000000000000000)
-        × (begun .own .0 + begun .guarantee .effective .0 ≤ 10000000000000000)
+        × (begun .guarantee .effective .0 ≤ cashLimit)
+        × (begun .own .0 + begun .guarantee .effective .0 ≤ cashLimit)
         × (begun .done ≡ 0)
         × (begun .dropped ≡ 0) ⌝ }
     ensures { λ r.

@@ -4,13 +4,17 @@ ghost use mathlib.Core.Bool.{true};
 ghost use mathlib.Core.List.{List, [], _∷_};
 ghost use Prim.Native.Nat.{_≤_};
 ghost use lib.ListN.{length};
+ghost use Rattle.money.specs.Limits.{calendarLimit};
+ghost use Rattle.rules.specs.Limits.{applicationLimit};
 ghost use Rattle.rules.specs.Folds.{every};
 ghost use Rattle.rules.specs.Trades.{differ};
 ghost use Rattle.rules.specs.Fit.{capacityFit, sizeFit, netsFit, withdrawalsFit, unopenedFit, openedFit, dayFit, fit};
 ghost use Rattle.core.specs.Types.{Trade};
-ghost use Rattle.core.specs.Flat.{rowsOf, bookOf, tradesTo, tradesOf, Kept};
+ghost use Rattle.core.specs.Flat.{rowsOf, bookOf, tradesTo, tradesOf, Kept, heldLength};
 ghost use Rattle.core.specs.Figures.{outstandingAt, latestFirst, gatheredOf};
 use crate::days;
+use crate::flat;
+use crate::layout;
 use crate::nets;
 use crate::trades;
 use crate::trades::Gathered;
@@ -20,12 +24,14 @@ use desk::state::Desk;
 use rules::book::Day;
 use rules::book::Nets;
 use rules::book::Standing;
+use rules::limits::CAPACITY_LIMIT;
+use rules::limits::SIZE_LIMIT;
 
 fn capacity_fit(count: usize, table: &[u64]) -> bool
     ensures { λ r. ⌜ r ≡ capacityFit count (tradesOf (now (table .entry))) ⌝ }
 {
-    let slots = table.len() / 4;
-    if slots > 4_096 {
+    let slots = table.len() / layout::WIDTH;
+    if slots > CAPACITY_LIMIT {
         return false;
     }
     count <= slots
@@ -35,7 +41,7 @@ fn capacity_fit(count: usize, table: &[u64]) -> bool
 fn size_fit(size: u64, outstanding: u64) -> bool
     ensures { λ r. ⌜ r ≡ sizeFit size outstanding ⌝ }
 {
-    if size > 10_000_000_000 {
+    if size > SIZE_LIMIT {
         return false;
     }
     outstanding <= size
@@ -62,7 +68,7 @@ fn unopened_fit(standing: Standing, count: usize) -> bool
 
 // The day trades, another follows, and no first payment day is past today's payment day: the latest is not.
 fn opened_fit(calendar: &[u32], today: u32, latest: u32) -> bool
-    requires { ⌜ length (now calendar) ≤ 1200 ⌝ }
+    requires { ⌜ length (now calendar) ≤ calendarLimit ⌝ }
     ensures { λ r. ⌜ ((trades : List Trade) → latest ≡ latestFirst trades → r ≡ openedFit (now (calendar .entry)) today trades) ⌝ }
 {
     if !money::days::trades_on(calendar, today) {
@@ -75,7 +81,7 @@ fn opened_fit(calendar: &[u32], today: u32, latest: u32) -> bool
 }
 
 fn day_fit(calendar: &[u32], standing: Standing, count: usize, latest: u32) -> bool
-    requires { ⌜ length (now calendar) ≤ 1200 ⌝ }
+    requires { ⌜ length (now calendar) ≤ calendarLimit ⌝ }
     ensures { λ r.
         ⌜ ((trades : List Trade) →
         latest ≡ latestFirst trades → r ≡ dayFit (now (calendar .entry)) (standing .day) (standing .phase) trades count) ⌝ }
@@ -96,9 +102,9 @@ fn others_fit(
     table: &[u64],
     latest: u32,
 ) -> bool
-    requires { ⌜ (length (now calendar) ≤ 1200)
-        × (length (now kinds) ≡ 128)
-        × (length (now units) ≡ 128)
+    requires { ⌜ (length (now calendar) ≤ calendarLimit)
+        × (length (now kinds) ≡ applicationLimit)
+        × (length (now units) ≡ applicationLimit)
         × (Kept (now table) (desk .trades))
         × (latest ≡ latestFirst (tradesTo (now table) (desk .trades))) ⌝ }
     ensures { λ r.
@@ -135,10 +141,10 @@ fn is_fit(
     table: &[u64],
     gathered: Gathered,
 ) -> bool
-    requires { ⌜ (length (now held) ≡ 128)
-        × (length (now kinds) ≡ 128)
-        × (length (now units) ≡ 128)
-        × (length (now calendar) ≤ 1200)
+    requires { ⌜ (length (now held) ≡ heldLength)
+        × (length (now kinds) ≡ applicationLimit)
+        × (length (now units) ≡ applicationLimit)
+        × (length (now calendar) ≤ calendarLimit)
         × (capacityFit (desk .trades) (tradesOf (now table)) ≡ true)
         × (gathered ≡ gatheredOf (tradesTo (now table) (desk .trades))) ⌝ }
     ensures { λ r.
@@ -178,7 +184,7 @@ pub fn fitness_of(
     units: &[u64],
     table: &[u64],
 ) -> Fitness
-    requires { ⌜ (length (now held) ≡ 128) × (length (now kinds) ≡ 128) × (length (now units) ≡ 128) × (length (now calendar) ≤ 1200) ⌝ }
+    requires { ⌜ (length (now held) ≡ heldLength) × (length (now kinds) ≡ applicationLimit) × (length (now units) ≡ applicationLimit) × (length (now calendar) ≤ calendarLimit) ⌝ }
     ensures { λ r.
         let trades = tradesOf (now (table .entry)) in
         ⌜ (r .fit ≡ fit (now (calendar .entry)) (bookOf desk (rowsOf (now (held .entry)) (now (kinds .entry)) (now (units .entry)))) trades)

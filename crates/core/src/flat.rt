@@ -3,7 +3,8 @@ ghost use mathlib.Core.Path.{_≡_};
 ghost use Prim.Native.Nat.{ℕ, _+_, _*_, _≤_, _<_};
 ghost use lib.ListN.{length, getD, set};
 ghost use Rattle.rules.specs.Trades.{same, noTrade, withSheets};
-ghost use Rattle.core.specs.Flat.{lower, upper, tradeAt, tradesOf};
+ghost use Rattle.core.specs.Flat.{HasSlot, width, capacity, lower, upper, tradeAt, tradesOf};
+use crate::layout;
 use money::units::Sheets;
 use money::units::Ticks;
 use rules::trade::Contract;
@@ -16,17 +17,17 @@ pub fn same_contract(a: Contract, b: Contract) -> bool
 }
 
 pub fn contract_at(table: &[u64], place: usize) -> Contract
-    requires { ⌜ place * 4 + 3 < length (now table) ⌝ }
+    requires { ⌜ HasSlot (now table) place ⌝ }
     ensures { λ r. ⌜ r ≡ tradeAt (now (table .entry)) place .contract ⌝ }
 {
-    Contract(table[place * 4])
+    Contract(table[place * layout::WIDTH])
 }
 
 pub fn sheets_at(table: &[u64], place: usize) -> u64
-    requires { ⌜ place * 4 + 3 < length (now table) ⌝ }
+    requires { ⌜ HasSlot (now table) place ⌝ }
     ensures { λ r. ⌜ r ≡ tradeAt (now (table .entry)) place .sheets .0 ⌝ }
 {
-    table[place * 4 + 1]
+    table[place * layout::WIDTH + 1]
 }
 
 // Prices and days have 32 bits, and stand two to a number: this is the lower half, and below it the upper.
@@ -51,40 +52,40 @@ fn paired(low: u32, high: u32) -> u64
 }
 
 pub fn price_at(table: &[u64], place: usize) -> Ticks
-    requires { ⌜ place * 4 + 3 < length (now table) ⌝ }
+    requires { ⌜ HasSlot (now table) place ⌝ }
     ensures { λ r. ⌜ r ≡ tradeAt (now (table .entry)) place .price ⌝ }
 {
-    Ticks(lower_at(table, place * 4 + 2))
+    Ticks(lower_at(table, place * layout::WIDTH + 2))
 }
 
 pub fn fallback_at(table: &[u64], place: usize) -> Ticks
-    requires { ⌜ place * 4 + 3 < length (now table) ⌝ }
+    requires { ⌜ HasSlot (now table) place ⌝ }
     ensures { λ r. ⌜ r ≡ tradeAt (now (table .entry)) place .fallback ⌝ }
 {
-    Ticks(upper_at(table, place * 4 + 2))
+    Ticks(upper_at(table, place * layout::WIDTH + 2))
 }
 
 pub fn first_at(table: &[u64], place: usize) -> u32
-    requires { ⌜ place * 4 + 3 < length (now table) ⌝ }
+    requires { ⌜ HasSlot (now table) place ⌝ }
     ensures { λ r. ⌜ r ≡ tradeAt (now (table .entry)) place .first ⌝ }
 {
-    lower_at(table, place * 4 + 3)
+    lower_at(table, place * layout::WIDTH + 3)
 }
 
 pub fn due_at(table: &[u64], place: usize) -> u32
-    requires { ⌜ place * 4 + 3 < length (now table) ⌝ }
+    requires { ⌜ HasSlot (now table) place ⌝ }
     ensures { λ r. ⌜ r ≡ tradeAt (now (table .entry)) place .due ⌝ }
 {
-    upper_at(table, place * 4 + 3)
+    upper_at(table, place * layout::WIDTH + 3)
 }
 
 pub fn put_sheets(table: &mut [u64], place: usize, count: u64)
-    requires { ⌜ place * 4 + 3 < length (now table) ⌝ }
+    requires { ⌜ HasSlot (now table) place ⌝ }
     ensures { λ _.
         let trades = tradesOf (now (table .entry)) in
         ⌜ tradesOf (now (table .exit)) ≡ set trades place (withSheets count (tradeAt (now (table .entry)) place)) ⌝ }
 {
-    table[place * 4 + 1] = count;
+    table[place * layout::WIDTH + 1] = count;
 }
 
 // What a freed slot is filled with.
@@ -102,19 +103,25 @@ pub fn no_trade() -> Trade
 }
 
 pub fn put_trade(table: &mut [u64], place: usize, trade: Trade)
-    requires { ⌜ place * 4 + 3 < length (now table) ⌝ }
+    requires { ⌜ HasSlot (now table) place ⌝ }
     ensures { λ _.
         ⌜ (tradesOf (now (table .exit)) ≡ set (tradesOf (now (table .entry))) place trade)
-        × ((k : ℕ) → place * 4 + 4 ≤ k → getD (now (table .exit)) k 0 ≡ getD (now (table .entry)) k 0) ⌝ }
+        × ((k : ℕ) → place * width + width ≤ k → getD (now (table .exit)) k 0 ≡ getD (now (table .entry)) k 0) ⌝ }
 {
-    table[place * 4] = trade.contract.0;
-    table[place * 4 + 1] = trade.sheets.0;
-    table[place * 4 + 2] = paired(trade.price.0, trade.fallback.0);
-    table[place * 4 + 3] = paired(trade.first, trade.due);
+    table[place * layout::WIDTH] = trade.contract.0;
+    table[place * layout::WIDTH + 1] = trade.sheets.0;
+    table[place * layout::WIDTH + 2] = paired(trade.price.0, trade.fallback.0);
+    table[place * layout::WIDTH + 3] = paired(trade.first, trade.due);
+}
+
+pub fn slots(table: &[u64]) -> usize
+    ensures { λ r. ⌜ r ≡ capacity (now (table .entry)) ⌝ }
+{
+    table.len() / layout::WIDTH
 }
 
 pub fn trade_at(table: &[u64], place: usize) -> Trade
-    requires { ⌜ place * 4 + 3 < length (now table) ⌝ }
+    requires { ⌜ HasSlot (now table) place ⌝ }
     ensures { λ r. ⌜ r ≡ tradeAt (now (table .entry)) place ⌝ }
 {
     Trade {
@@ -128,7 +135,7 @@ pub fn trade_at(table: &[u64], place: usize) -> Trade
 }
 
 pub fn move_trade(table: &mut [u64], from: usize, to: usize)
-    requires { ⌜ (from * 4 + 3 < length (now table)) × (to * 4 + 3 < length (now table)) ⌝ }
+    requires { ⌜ (HasSlot (now table) from) × (HasSlot (now table) to) ⌝ }
     ensures { λ _. ⌜ tradesOf (now (table .exit)) ≡ set (tradesOf (now (table .entry))) to (tradeAt (now (table .entry)) from) ⌝ }
 {
     let trade = trade_at(table, from);

@@ -5,7 +5,7 @@ ghost use Prim.Native.Nat.{ℕ, _<_};
 ghost use lib.ListN.{length, set};
 ghost use Rattle.money.specs.Causes.{firstOf, numberOf};
 ghost use Rattle.rules.specs.Freeze.{freezeCauses, frozen, withFrozen, cashFrozen};
-ghost use Rattle.core.specs.Flat.{securityIn, securitiesOf, rowsOf, bookOf, appliedBy, appliedAt};
+ghost use Rattle.core.specs.Flat.{securityIn, securitiesOf, rowsOf, bookOf, appliedBy, appliedAt, heldLength};
 use crate::held;
 use crate::vault;
 use desk::done;
@@ -15,7 +15,7 @@ use money::units::Fen;
 use rules::book::Guarantee;
 
 fn freeze_refusal(desk: Desk, held: &[u64], kind: u8, units: u64) -> u8
-    requires { ⌜ length (now held) ≡ 128 ⌝ }
+    requires { ⌜ length (now held) ≡ heldLength ⌝ }
     ensures { λ r.
         ⌜ ((kinds amounts : List ℕ) →
         r ≡ numberOf (firstOf (freezeCauses (bookOf desk (rowsOf (now (held .entry)) kinds amounts)) kind units))) ⌝ }
@@ -31,7 +31,7 @@ fn freeze_refusal(desk: Desk, held: &[u64], kind: u8, units: u64) -> u8
 }
 
 fn put_frozen(held: &mut [u64], kind: u8, units: u64)
-    requires { ⌜ (kind < 32) × (length (now held) ≡ 128) ⌝ }
+    requires { ⌜ (kind < 32) × (length (now held) ≡ heldLength) ⌝ }
     ensures { λ _.
         ⌜ securitiesOf (now (held .exit))
         ≡ set (securitiesOf (now (held .entry))) kind (withFrozen units (securityIn (now (held .entry)) kind)) ⌝ }
@@ -53,7 +53,7 @@ fn cash_frozen(guarantee: Guarantee, units: u64) -> Guarantee
 }
 
 pub fn freeze(desk: Desk, held: &mut [u64], kind: u8, units: u64) -> Done
-    requires { ⌜ length (now held) ≡ 128 ⌝ }
+    requires { ⌜ length (now held) ≡ heldLength ⌝ }
     ensures { λ r.
         ⌜ ((kinds amounts : List ℕ) →
         let book = bookOf desk (rowsOf (now (held .entry)) kinds amounts) in

@@ -8,6 +8,7 @@ ghost use Rattle.core.specs.Flat.{Rows, bookOf, appliedBy, appliedAt};
 use desk::done;
 use desk::done::Done;
 use desk::state::Desk;
+use money::limits::CASH_LIMIT;
 use money::units::Fen;
 use rules::book::Cash;
 use rules::event::Account;
@@ -47,7 +48,7 @@ fn fund_in_refusal(desk: Desk, account: Account, amount: Fen) -> u8
         + desk.cash.client.0
         + desk.guarantee.effective.0
         + desk.guarantee.arriving.0;
-    if 10_000_000_000_000_000 - cash < amount.0 {
+    if CASH_LIMIT - cash < amount.0 {
         return 14;
     }
     0

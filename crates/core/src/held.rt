@@ -2,11 +2,11 @@
 ghost use mathlib.Core.Path.{_≡_};
 ghost use Prim.Native.Nat.{_<_};
 ghost use lib.ListN.{length, set};
-ghost use Rattle.core.specs.Flat.{securityIn, securitiesOf};
+ghost use Rattle.core.specs.Flat.{securityIn, securitiesOf, heldLength};
 use rules::book::Security;
 
 pub fn security_at(held: &[u64], kind: usize) -> Security
-    requires { ⌜ (kind < 32) × (length (now held) ≡ 128) ⌝ }
+    requires { ⌜ (kind < 32) × (length (now held) ≡ heldLength) ⌝ }
     ensures { λ r. ⌜ r ≡ securityIn (now (held .entry)) kind ⌝ }
 {
     Security {
@@ -18,7 +18,7 @@ pub fn security_at(held: &[u64], kind: usize) -> Security
 }
 
 pub fn put_security(held: &mut [u64], kind: usize, security: Security)
-    requires { ⌜ (kind < 32) × (length (now held) ≡ 128) ⌝ }
+    requires { ⌜ (kind < 32) × (length (now held) ≡ heldLength) ⌝ }
     ensures { λ _. ⌜ securitiesOf (now (held .exit)) ≡ set (securitiesOf (now (held .entry))) kind security ⌝ }
 {
     held[kind * 4] = security.effective;

@@ -2,14 +2,16 @@
 ghost use mathlib.Core.Path.{_≡_};
 ghost use mathlib.Core.List.{List};
 ghost use Prim.Native.Nat.{ℕ, _≤_, _<_, _*_};
+ghost use lib.Dec.{leb};
 ghost use lib.IntN.{pos};
 ghost use lib.ListN.{length};
 ghost use lib.Signed.{ltZ};
+ghost use Rattle.money.specs.Limits.{calendarLimit, termLimit, tradeLimit};
 ghost use Rattle.money.specs.Causes.{firstOf, numberOf};
 ghost use Rattle.rules.specs.Trades.{onTable};
 ghost use Rattle.rules.specs.Vault.{headroom};
 ghost use Rattle.rules.specs.Initial.{badCount, badPrices, badDue, begun, roomCauses, initialCauses, initialBook, initialTable};
-ghost use Rattle.core.specs.Flat.{Rows, rowsOf, bookOf, FitsHeld, appliedAt, tradesTo, tradesOf, appliedBy, tableBy};
+ghost use Rattle.core.specs.Flat.{HasSlots, Rows, rowsOf, bookOf, FitsHeld, appliedAt, tradesTo, tradesOf, appliedBy, tableBy, heldLength};
 ghost use Rattle.core.specs.Figures.{outstandingAt};
 use crate::days;
 use crate::flat;
@@ -22,8 +24,11 @@ use desk::headroom;
 use desk::standing;
 use desk::state;
 use desk::state::Desk;
+use money::limits::PRICE_LIMIT;
+use money::limits::TRADE_LIMIT;
 use money::units::Sheets;
 use money::units::Ticks;
+use rules::limits::AHEAD_LIMIT;
 use rules::trade::Contract;
 use rules::trade::Terms;
 use rules::trade::Trade;
@@ -37,36 +42,42 @@ fn bad_count(count: u64) -> bool
     if count % 10 != 0 {
         return true;
     }
-    count > 100_000_000
+    count > TRADE_LIMIT
 }
 
 fn bad_prices(price: Ticks, fallback: Ticks) -> bool
     ensures { λ r. ⌜ r ≡ badPrices price fallback ⌝ }
 {
-    if price.0 > 100_000 {
+    if price.0 > PRICE_LIMIT {
         return true;
     }
-    fallback.0 > 100_000
+    fallback.0 > PRICE_LIMIT
 }
 
 fn bad_due(calendar: &[u32], today: u32, due: u32) -> bool
-    requires { ⌜ (length (now calendar) ≤ 1200) × (today < 38400) ⌝ }
+    requires { ⌜ (length (now calendar) ≤ calendarLimit) × (today < termLimit) ⌝ }
     ensures { λ r. ⌜ r ≡ badDue (now (calendar .entry)) today due ⌝ }
 {
     if due <= today {
         return true;
     }
-    if due > today + 365 {
+    if due > today + AHEAD_LIMIT {
         return true;
     }
     !days::matures(calendar, due)
 }
 
 fn is_taken(table: &[u64], count: usize, contract: Contract) -> bool
-    requires { ⌜ count * 4 ≤ length (now table) ⌝ }
+    requires { ⌜ HasSlots (now table) count ⌝ }
     ensures { λ r. ⌜ r ≡ onTable contract (tradesTo (now (table .entry)) count) ⌝ }
 {
     trades::place_of(table, count, contract) < count
+}
+
+fn is_full(table: &[u64], trades: usize) -> bool
+    ensures { λ r. ⌜ r ≡ leb (length (tradesOf (now (table .entry)))) trades ⌝ }
+{
+    state::is_full(flat::slots(table), trades)
 }
 
 // Whether sheets are above headroom.
@@ -79,10 +90,10 @@ fn lacks_headroom(
     count: u64,
 ) -> bool
     requires { let trades = tradesOf (now table) in
-        ⌜ (length (now held) ≡ 128)
+        ⌜ (length (now held) ≡ heldLength)
         × (FitsHeld (now calendar) desk (now held) trades)
         × (outstanding ≡ outstandingAt desk trades)
-        × (count ≤ 100000000) ⌝ }
+        × (count ≤ tradeLimit) ⌝ }
     ensures { λ r.
         ⌜ ((kinds units : List ℕ) →
         r ≡ ltZ (headroom (bookOf desk (rowsOf (now (held .entry)) kinds units)) (tradesOf (now (table .entry)))) (pos count)) ⌝ }
@@ -101,10 +112,10 @@ fn room_refusal(
     terms: Terms,
 ) -> u8
     requires { let trades = tradesOf (now table) in
-        ⌜ (length (now held) ≡ 128)
+        ⌜ (length (now held) ≡ heldLength)
         × (FitsHeld (now calendar) desk (now held) trades)
         × (outstanding ≡ outstandingAt desk trades)
-        × (terms .sheets .0 ≤ 100000000) ⌝ }
+        × (terms .sheets .0 ≤ tradeLimit) ⌝ }
     ensures { λ r.
         let trades = tradesOf (now (table .entry)) in
         ⌜ ((kinds units : List ℕ) →
@@ -116,7 +127,7 @@ fn room_refusal(
     if is_taken(table, desk.trades, contract) {
         return 10;
     }
-    if state::is_full(table.len(), desk.trades) {
+    if is_full(table, desk.trades) {
         return 11;
     }
     if lacks_headroom(calendar, desk, held, table, outstanding, terms.sheets.0) {
@@ -138,9 +149,9 @@ fn initial_refusal(
     terms: Terms,
 ) -> u8
     requires { let trades = tradesOf (now table) in
-        ⌜ (length (now held) ≡ 128)
+        ⌜ (length (now held) ≡ heldLength)
         × (FitsHeld (now calendar) desk (now held) trades)
-        × (length (now calendar) ≤ 1200)
+        × (length (now calendar) ≤ calendarLimit)
         × (outstanding ≡ outstandingAt desk trades) ⌝ }
     ensures { λ r.
         let trades = tradesOf (now (table .entry)) in
@@ -176,7 +187,7 @@ fn initial_refusal(
 
 // The record of a trade that begins today.
 fn begun_trade(calendar: &[u32], desk: Desk, terms: Terms) -> Trade
-    requires { ⌜ length (now calendar) ≤ 1200 ⌝ }
+    requires { ⌜ length (now calendar) ≤ calendarLimit ⌝ }
     ensures { λ r. ⌜ ((rows : Rows) → r ≡ begun (now (calendar .entry)) (bookOf desk rows) terms) ⌝ }
 {
     let standing = desk.standing;
@@ -200,9 +211,9 @@ pub fn initial(
     terms: Terms,
 ) -> Done
     requires { let trades = tradesOf (now table) in
-        ⌜ (length (now held) ≡ 128)
+        ⌜ (length (now held) ≡ heldLength)
         × (FitsHeld (now calendar) desk (now held) trades)
-        × (length (now calendar) ≤ 1200)
+        × (length (now calendar) ≤ calendarLimit)
         × (outstanding ≡ outstandingAt desk trades) ⌝ }
     ensures { λ r.
         let trades = tradesOf (now (table .entry)) in

@@ -8,7 +8,7 @@ ghost use Rattle.money.specs.Causes.{firstOf, numberOf};
 ghost use Rattle.rules.specs.Trades.{noTrade};
 ghost use Rattle.rules.specs.Step.{outcome};
 ghost use Rattle.rules.specs.Listing.{lengthCauses};
-ghost use Rattle.core.specs.Flat.{capacity, tradesOf};
+ghost use Rattle.core.specs.Flat.{width, capacity, tradesOf};
 ghost use Rattle.core.specs.Figures.{outstandingAt};
 ghost use Rattle.core.specs.Lent.{lent, bookIn, tableIn, isWhole, fitIn, stepIn, coverIn, runIn};
 use crate::cover;
@@ -17,6 +17,8 @@ use crate::figures;
 use crate::fit;
 use crate::fit::Fitness;
 use crate::flat;
+use crate::layout;
+use crate::layout::HELD_LENGTH;
 use crate::run;
 use desk::done;
 use desk::done::Done;
@@ -24,21 +26,22 @@ use desk::state;
 use desk::state::Desk;
 use rules::answer::Cover;
 use rules::event::Entry;
+use rules::limits::APPLICATION_LIMIT;
 use rules::trade::Trade;
 
 fn is_whole(desk: Desk, held: &[u64], kinds: &[u8], units: &[u64], table: &[u64]) -> bool
     ensures { λ r. ⌜ r ≡ isWhole (lent desk (now (held .entry)) (now (kinds .entry)) (now (units .entry)) (now (table .entry))) ⌝ }
 {
-    if held.len() != 128 {
+    if held.len() != HELD_LENGTH {
         return false;
     }
-    if kinds.len() != 128 {
+    if kinds.len() != APPLICATION_LIMIT {
         return false;
     }
-    if units.len() != 128 {
+    if units.len() != APPLICATION_LIMIT {
         return false;
     }
-    table.len() % 4 == 0
+    table.len() % layout::WIDTH == 0
 }
 
 // For numbers that hold no fit book.
@@ -192,7 +195,7 @@ pub fn run(
 pub fn trade_at(table: &[u64], place: usize) -> Trade
     ensures { λ r. ⌜ r ≡ getD (tradesOf (now (table .entry))) place noTrade ⌝ }
 {
-    if place >= table.len() / 4 {
+    if place >= table.len() / layout::WIDTH {
         return flat::no_trade();
     }
     flat::trade_at(table, place)
@@ -202,9 +205,9 @@ pub fn trade_at(table: &[u64], place: usize) -> Trade
 pub fn put_trade(table: &mut [u64], place: usize, trade: Trade)
     ensures { λ _.
         ⌜ (tradesOf (now (table .exit)) ≡ set (tradesOf (now (table .entry))) place trade)
-        × ((k : ℕ) → capacity (now (table .entry)) * 4 ≤ k → getD (now (table .exit)) k 0 ≡ getD (now (table .entry)) k 0) ⌝ }
+        × ((k : ℕ) → capacity (now (table .entry)) * width ≤ k → getD (now (table .exit)) k 0 ≡ getD (now (table .entry)) k 0) ⌝ }
 {
-    if place < table.len() / 4 {
+    if place < table.len() / layout::WIDTH {
         flat::put_trade(table, place, trade);
     }
 }

@@ -6,6 +6,9 @@ pub mod split;
 // The calls: one event, headroom and O, a run of encoded events.
 pub mod lent;
 
+// How many numbers a trade takes, and the securities.
+pub mod layout;
+
 // The table, the vault, and what the events share.
 mod chains;
 mod cover;

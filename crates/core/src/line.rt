@@ -5,6 +5,8 @@ ghost use Prim.Native.Nat.{_+_, _≤_};
 ghost use lib.IntN.{natAbs};
 ghost use lib.ListN.{length};
 ghost use lib.Seq.{sets};
+ghost use Rattle.money.specs.Limits.{cashLimit};
+ghost use Rattle.rules.specs.Limits.{sizeLimit};
 ghost use Rattle.rules.specs.Listing.{signOf};
 use crate::nets;
 use rules::answer::Cover;
@@ -30,8 +32,8 @@ pub fn write_line(
     guarantee: Guarantee,
 )
     requires { ⌜ (at + 7 ≤ length (now lines))
-        × (natAbs (cover .headroom) ≤ 10000000000)
-        × (guarantee .effective .0 + guarantee .arriving .0 ≤ 10000000000000000) ⌝ }
+        × (natAbs (cover .headroom) ≤ sizeLimit)
+        × (guarantee .effective .0 + guarantee .arriving .0 ≤ cashLimit) ⌝ }
     ensures { λ _.
         ⌜ now (lines .exit)
         ≡ sets (now (lines .entry)) at

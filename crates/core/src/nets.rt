@@ -6,15 +6,17 @@ ghost use lib.IntN.{pos, negℤ, natAbs, subℕ, _+ℤ_, _-ℤ_};
 ghost use lib.Signed.{ltZ};
 ghost use Rattle.rules.specs.Fit.{netFit};
 use rules::book::Nets;
+use rules::limits::NET_LIMIT;
+use rules::limits::NET_LIMIT_DOWN;
 
 // Whether a net is within 4×10^18, up or down.
 fn net_fit(net: i64) -> bool
     ensures { λ r. ⌜ r ≡ netFit net ⌝ }
 {
-    if net > 4_000_000_000_000_000_000 {
+    if net > NET_LIMIT {
         return false;
     }
-    if net < -4_000_000_000_000_000_000 {
+    if net < NET_LIMIT_DOWN {
         return false;
     }
     true

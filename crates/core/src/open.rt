@@ -3,6 +3,7 @@ ghost use mathlib.Core.Path.{_≡_};
 ghost use mathlib.Core.Bool.{true};
 ghost use Prim.Native.Nat.{_≤_};
 ghost use lib.ListN.{length};
+ghost use Rattle.money.specs.Limits.{calendarLimit};
 ghost use Rattle.money.specs.Causes.{firstOf};
 ghost use Rattle.rules.specs.Book.{isClosed};
 ghost use Rattle.rules.specs.Days.{following, followed};
@@ -71,7 +72,7 @@ fn status_at_open(status: Status, failed: FailedRun, short: ShortRun) -> Status
 }
 
 fn opened_standing(calendar: &[u32], standing: Standing) -> Standing
-    requires { ⌜ length (now calendar) ≤ 1200 ⌝ }
+    requires { ⌜ length (now calendar) ≤ calendarLimit ⌝ }
     ensures { λ r. ⌜ r ≡ openedStanding (now (calendar .entry)) standing ⌝ }
 {
     let day = standing.day;
@@ -100,7 +101,7 @@ fn turns_terminated(before: Standing, after: Standing) -> bool
 
 // Art. 72: every trade is redeemed whole at its fallback price on the day opened, into the cleared net.
 fn with_fallbacks(calendar: &[u32], desk: Desk, table: &[u64], after: Standing) -> Nets
-    requires { ⌜ (Fits (now calendar) desk (tradesOf (now table))) × (length (now calendar) ≤ 1200) ⌝ }
+    requires { ⌜ (Fits (now calendar) desk (tradesOf (now table))) × (length (now calendar) ≤ calendarLimit) ⌝ }
     requires { ⌜ (followed (now calendar) (following (now calendar) (desk .standing .day)) ≡ true)
         × (after ≡ openedStanding (now calendar) (desk .standing)) ⌝ }
     ensures { λ r.
@@ -118,7 +119,7 @@ fn with_fallbacks(calendar: &[u32], desk: Desk, table: &[u64], after: Standing) 
 
 // On turning terminated the table is emptied, unless the net would leave its limit.
 fn terminated(calendar: &[u32], desk: Desk, table: &mut [u64], after: Standing) -> Done
-    requires { ⌜ (Fits (now calendar) desk (tradesOf (now table))) × (length (now calendar) ≤ 1200) ⌝ }
+    requires { ⌜ (Fits (now calendar) desk (tradesOf (now table))) × (length (now calendar) ≤ calendarLimit) ⌝ }
     requires { ⌜ (followed (now calendar) (following (now calendar) (desk .standing .day)) ≡ true)
         × (after ≡ openedStanding (now calendar) (desk .standing)) ⌝ }
     requires { ⌜ (isClosed (desk .standing .phase) ≡ true) × (turnsTerminated (desk .standing) ≡ true) ⌝ }
@@ -143,7 +144,7 @@ fn terminated(calendar: &[u32], desk: Desk, table: &mut [u64], after: Standing) 
 }
 
 pub fn open(calendar: &[u32], desk: Desk, table: &mut [u64]) -> Done
-    requires { ⌜ (Fits (now calendar) desk (tradesOf (now table))) × (length (now calendar) ≤ 1200) ⌝ }
+    requires { ⌜ (Fits (now calendar) desk (tradesOf (now table))) × (length (now calendar) ≤ calendarLimit) ⌝ }
     ensures { λ r.
         let trades = tradesOf (now (table .entry)) in
         ⌜ ((rows : Rows) →

@@ -1,15 +1,15 @@
 // Trades with nothing left leave the table, order kept, and the slots that they free are filled with zeros.
 ghost use mathlib.Core.Path.{_≡_};
 ghost use mathlib.Core.List.{_++_};
-ghost use Prim.Native.Nat.{_+_, _-_, _*_, _≤_, _<_};
+ghost use Prim.Native.Nat.{_-_, _≤_, _<_};
 ghost use lib.ListN.{length, set, take, drop, replicate};
 ghost use Rattle.rules.specs.Trades.{noTrade, remaining, packed};
-ghost use Rattle.core.specs.Flat.{tradesTo, tradesOf};
+ghost use Rattle.core.specs.Flat.{HasSlots, HasSlot, tradesTo, tradesOf};
 use crate::flat;
 
 // The trades with something left go to the front, in order.
 fn gather(table: &mut [u64], count: usize) -> usize
-    requires { ⌜ count * 4 ≤ length (now table) ⌝ }
+    requires { ⌜ HasSlots (now table) count ⌝ }
     ensures few { λ r. ⌜ r ≤ count ⌝ }
     ensures front { λ r. ⌜ take r (tradesOf (now (table .exit))) ≡ remaining (tradesTo (now (table .entry)) count) ⌝ }
     ensures rest { λ r. ⌜ drop count (tradesOf (now (table .exit))) ≡ drop count (tradesOf (now (table .entry))) ⌝ }
@@ -29,14 +29,14 @@ fn gather(table: &mut [u64], count: usize) -> usize
 }
 
 fn free(table: &mut [u64], place: usize)
-    requires { ⌜ place * 4 + 3 < length (now table) ⌝ }
+    requires { ⌜ HasSlot (now table) place ⌝ }
     ensures { λ _. ⌜ tradesOf (now (table .exit)) ≡ set (tradesOf (now (table .entry))) place noTrade ⌝ }
 {
     flat::put_trade(table, place, flat::no_trade());
 }
 
 fn free_from(table: &mut [u64], from: usize, to: usize)
-    requires { ⌜ (from ≤ to) × (to * 4 ≤ length (now table)) ⌝ }
+    requires { ⌜ (from ≤ to) × (HasSlots (now table) to) ⌝ }
     ensures { λ _.
         let trades = tradesOf (now (table .entry)) in
         ⌜ tradesOf (now (table .exit)) ≡ take from trades ++ (replicate (to - from) noTrade ++ drop to trades) ⌝ }
@@ -50,7 +50,7 @@ fn free_from(table: &mut [u64], from: usize, to: usize)
 
 // The answer is how many trades are left.
 pub fn pack(table: &mut [u64], count: usize) -> usize
-    requires { ⌜ count * 4 ≤ length (now table) ⌝ }
+    requires { ⌜ HasSlots (now table) count ⌝ }
     ensures { λ r.
         let trades = tradesTo (now (table .entry)) count in
         ⌜ (r ≡ length (remaining trades))

@@ -4,6 +4,7 @@ ghost use mathlib.Core.Bool.{true, false};
 ghost use Prim.Native.Nat.{_+_, _≤_};
 ghost use lib.Dec.{ltb};
 ghost use lib.IntN.{natAbs};
+ghost use Rattle.money.specs.Limits.{cashLimit};
 ghost use Rattle.money.specs.Causes.{firstOf, numberOf};
 ghost use Rattle.rules.specs.Fit.{netFit, netsFit, cashFit};
 ghost use Rattle.rules.specs.Pay.{payerHolds, moved, failedMore, payCauses, paidStanding, afterPay};
@@ -54,7 +55,7 @@ fn falls_short(nets: Nets, cash: Cash) -> bool
 fn cash_moved(nets: Nets, cash: Cash) -> Cash
     requires { ⌜ (netFit (nets .cleared) ≡ true)
         × (natAbs (nets .cleared) ≤ payerHolds (nets .cleared) cash)
-        × (cash .own .0 + cash .client .0 ≤ 10000000000000000) ⌝ }
+        × (cash .own .0 + cash .client .0 ≤ cashLimit) ⌝ }
     ensures { λ r. ⌜ r ≡ moved (nets .cleared) cash ⌝ }
 {
     let due = nets::net_due(nets);
@@ -109,7 +110,7 @@ fn unpaid(desk: Desk) -> Desk
 fn paid(desk: Desk) -> Desk
     requires { ⌜ (netFit (desk .nets .cleared) ≡ true)
         × (natAbs (desk .nets .cleared) ≤ payerHolds (desk .nets .cleared) (desk .cash))
-        × (desk .cash .own .0 + desk .cash .client .0 ≤ 10000000000000000) ⌝ }
+        × (desk .cash .own .0 + desk .cash .client .0 ≤ cashLimit) ⌝ }
     ensures { λ r. ⌜ ((rows : Rows) → bookOf r rows ≡ afterPay false (bookOf desk rows)) ⌝ }
 {
     let nets = desk.nets;

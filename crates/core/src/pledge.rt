@@ -4,21 +4,23 @@ ghost use mathlib.Core.Bool.{true};
 ghost use mathlib.Core.List.{List};
 ghost use Prim.Native.Nat.{ℕ, _+_, _<_, _≤_};
 ghost use lib.ListN.{length, set};
+ghost use Rattle.money.specs.Limits.{cashLimit, unitLimit};
 ghost use Rattle.money.specs.Causes.{firstOf, numberOf};
 ghost use Rattle.rules.specs.Fit.{cashFit, securitiesFit};
 ghost use Rattle.rules.specs.Pledge.{pledgeCauses, pledged, arrived, cashArrived};
-ghost use Rattle.core.specs.Flat.{securityIn, securitiesOf, vaultOf, rowsOf, bookOf, appliedBy, appliedAt};
+ghost use Rattle.core.specs.Flat.{securityIn, securitiesOf, vaultOf, rowsOf, bookOf, appliedBy, appliedAt, heldLength};
 use crate::held;
 use desk::done;
 use desk::done::Done;
 use desk::standing;
 use desk::state::Desk;
+use money::limits::UNIT_LIMIT;
 use money::units::Fen;
 use rules::book::Guarantee;
 
 // The units of a security, effective and arriving together.
 fn units_of(held: &[u64], guarantee: Guarantee, kind: u8) -> u64
-    requires { ⌜ (kind < 32) × (length (now held) ≡ 128) × (securitiesFit (vaultOf guarantee (securitiesOf (now held))) ≡ true) ⌝ }
+    requires { ⌜ (kind < 32) × (length (now held) ≡ heldLength) × (securitiesFit (vaultOf guarantee (securitiesOf (now held))) ≡ true) ⌝ }
     ensures { λ r. ⌜ r ≡ securityIn (now (held .entry)) kind .effective + securityIn (now (held .entry)) kind .arriving ⌝ }
 {
     let security = held::security_at(held, kind as usize);
@@ -26,7 +28,7 @@ fn units_of(held: &[u64], guarantee: Guarantee, kind: u8) -> u64
 }
 
 fn pledge_refusal(desk: Desk, held: &[u64], kind: u8, units: u64) -> u8
-    requires { ⌜ (length (now held) ≡ 128) × (securitiesFit (vaultOf (desk .guarantee) (securitiesOf (now held))) ≡ true) ⌝ }
+    requires { ⌜ (length (now held) ≡ heldLength) × (securitiesFit (vaultOf (desk .guarantee) (securitiesOf (now held))) ≡ true) ⌝ }
     ensures { λ r.
         ⌜ ((kinds amounts : List ℕ) →
         r ≡ numberOf (firstOf (pledgeCauses (bookOf desk (rowsOf (now (held .entry)) kinds amounts)) kind units))) ⌝ }
@@ -48,14 +50,14 @@ fn pledge_refusal(desk: Desk, held: &[u64], kind: u8, units: u64) -> u8
         return 0;
     }
     let guarantee = desk.guarantee;
-    if 1_000_000_000_000 - units_of(held, guarantee, kind) < units {
+    if UNIT_LIMIT - units_of(held, guarantee, kind) < units {
         return 14;
     }
     0
 }
 
 fn put_arrived(held: &mut [u64], kind: u8, units: u64)
-    requires { ⌜ (kind < 32) × (length (now held) ≡ 128) × (securityIn (now held) kind .arriving + units ≤ 1000000000000) ⌝ }
+    requires { ⌜ (kind < 32) × (length (now held) ≡ heldLength) × (securityIn (now held) kind .arriving + units ≤ unitLimit) ⌝ }
     ensures { λ _.
         ⌜ securitiesOf (now (held .exit))
         ≡ set (securitiesOf (now (held .entry))) kind (arrived units (securityIn (now (held .entry)) kind)) ⌝ }
@@ -67,7 +69,7 @@ fn put_arrived(held: &mut [u64], kind: u8, units: u64)
 }
 
 fn cash_arrived(guarantee: Guarantee, units: u64) -> Guarantee
-    requires { ⌜ guarantee .arriving .0 + units ≤ 10000000000000000 ⌝ }
+    requires { ⌜ guarantee .arriving .0 + units ≤ cashLimit ⌝ }
     ensures { λ r. ⌜ r ≡ cashArrived units guarantee ⌝ }
 {
     Guarantee {
@@ -78,7 +80,7 @@ fn cash_arrived(guarantee: Guarantee, units: u64) -> Guarantee
 }
 
 pub fn pledge(desk: Desk, held: &mut [u64], kind: u8, units: u64) -> Done
-    requires { ⌜ (length (now held) ≡ 128)
+    requires { ⌜ (length (now held) ≡ heldLength)
         × (securitiesFit (vaultOf (desk .guarantee) (securitiesOf (now held))) ≡ true)
         × (cashFit (desk .cash) (desk .guarantee) ≡ true) ⌝ }
     ensures { λ r.

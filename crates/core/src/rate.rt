@@ -5,11 +5,12 @@ ghost use Prim.Native.Nat.{ℕ};
 ghost use lib.ListN.{length};
 ghost use Rattle.money.specs.Causes.{firstOf, numberOf};
 ghost use Rattle.rules.specs.Rate.{rateCauses, rated};
-ghost use Rattle.core.specs.Flat.{rowsOf, bookOf, appliedBy, appliedAt};
+ghost use Rattle.core.specs.Flat.{rowsOf, bookOf, appliedBy, appliedAt, heldLength};
 use crate::held;
 use desk::done;
 use desk::done::Done;
 use desk::state::Desk;
+use money::limits::RATE_LIMIT;
 
 fn rate_refusal(kind: u8, rate: u64) -> u8
     ensures { λ r. ⌜ r ≡ numberOf (firstOf (rateCauses kind rate)) ⌝ }
@@ -17,14 +18,14 @@ fn rate_refusal(kind: u8, rate: u64) -> u8
     if kind >= 32 {
         return 3;
     }
-    if rate > 20_000 {
+    if rate > RATE_LIMIT {
         return 14;
     }
     0
 }
 
 pub fn set_rate(desk: Desk, held: &mut [u64], kind: u8, rate: u64) -> Done
-    requires { ⌜ length (now held) ≡ 128 ⌝ }
+    requires { ⌜ length (now held) ≡ heldLength ⌝ }
     ensures { λ r.
         let cause = firstOf (rateCauses kind rate) in
         ⌜ ((kinds units : List ℕ) →

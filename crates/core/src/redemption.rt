@@ -1,11 +1,11 @@
 // Redemption: what it will move, planned before anything is written, and what it leaves of the table.
 ghost use mathlib.Core.Path.{_≡_};
 ghost use mathlib.Core.List.{map};
-ghost use Prim.Native.Nat.{_+_, _-_, _*_, _≤_, _<_};
-ghost use lib.ListN.{length, set};
+ghost use Prim.Native.Nat.{_-_, _≤_, _<_};
+ghost use lib.ListN.{set};
 ghost use Rattle.money.specs.Limits.{tradeLimit, priceLimit, termLimit};
 ghost use Rattle.rules.specs.Trades.{total, redeemed, fallbackAmount, maturing, maturityAmount, matured, over};
-ghost use Rattle.core.specs.Flat.{tradeAt, tradesTo, tradesOf, Redeemable};
+ghost use Rattle.core.specs.Flat.{HasSlots, HasSlot, tradeAt, tradesTo, tradesOf, Redeemable};
 use crate::flat;
 use money::units::Sheets;
 use money::units::Ticks;
@@ -18,7 +18,7 @@ pub struct Plan {
 
 // What some sheets of a trade are redeemed for, with no division where there are none.
 pub fn redeemed_for(table: &[u64], place: usize, count: u64, price: Ticks, payment: u32) -> u64
-    requires { ⌜ (place * 4 + 3 < length (now table)) × (count ≤ tradeLimit) × (price .0 ≤ priceLimit) ⌝ }
+    requires { ⌜ (HasSlot (now table) place) × (count ≤ tradeLimit) × (price .0 ≤ priceLimit) ⌝ }
     requires { ⌜ (tradeAt (now table) place .first ≤ payment) × (payment ≤ termLimit) ⌝ }
     ensures { λ r. ⌜ r ≡ redeemed payment count price (tradeAt (now (table .entry)) place) ⌝ }
 {
@@ -31,7 +31,7 @@ pub fn redeemed_for(table: &[u64], place: usize, count: u64, price: Ticks, payme
 }
 
 fn maturing_at(table: &[u64], place: usize, today: u32) -> u64
-    requires { ⌜ place * 4 + 3 < length (now table) ⌝ }
+    requires { ⌜ HasSlot (now table) place ⌝ }
     ensures { λ r. ⌜ r ≡ maturing today (tradeAt (now (table .entry)) place) ⌝ }
 {
     if flat::due_at(table, place) > today {
@@ -83,7 +83,7 @@ pub fn fallback_total(table: &[u64], count: usize, payment: u32) -> u64
 }
 
 fn redeem_one(table: &mut [u64], place: usize, by: u32)
-    requires { ⌜ place * 4 + 3 < length (now table) ⌝ }
+    requires { ⌜ HasSlot (now table) place ⌝ }
     ensures { λ _.
         ⌜ tradesOf (now (table .exit)) ≡ set (tradesOf (now (table .entry))) place (matured by (tradeAt (now (table .entry)) place)) ⌝ }
 {
@@ -93,7 +93,7 @@ fn redeem_one(table: &mut [u64], place: usize, by: u32)
 
 // Of each trade in use that is due by then, nothing is left.
 pub fn redeem_due(table: &mut [u64], count: usize, by: u32)
-    requires { ⌜ count * 4 ≤ length (now table) ⌝ }
+    requires { ⌜ HasSlots (now table) count ⌝ }
     ensures { λ _.
         let trades = tradesOf (now (table .entry)) in
         ⌜ tradesOf (now (table .exit)) ≡ over count (map (matured by) (tradesTo (now (table .entry)) count)) trades ⌝ }

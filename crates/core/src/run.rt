@@ -4,11 +4,13 @@ ghost use mathlib.Core.Bool.{true};
 ghost use Prim.Native.Nat.{_+_, _*_, _/_, _≤_};
 ghost use lib.ListN.{length};
 ghost use lib.Seq.{sets};
+ghost use Rattle.money.specs.Limits.{calendarLimit};
+ghost use Rattle.rules.specs.Limits.{applicationLimit};
 ghost use Rattle.rules.specs.Fit.{fit};
 ghost use Rattle.rules.specs.Entry.{decoded};
 ghost use Rattle.rules.specs.Step.{step};
 ghost use Rattle.rules.specs.Listing.{lineOf, runDone};
-ghost use Rattle.core.specs.Flat.{rowsOf, bookOf, tradesOf};
+ghost use Rattle.core.specs.Flat.{rowsOf, bookOf, tradesOf, heldLength};
 ghost use Rattle.core.specs.Figures.{figuresAt};
 use crate::cover;
 use crate::dispatch;
@@ -37,10 +39,10 @@ fn run_event(
     at: usize,
 ) -> Turn
     requires { let trades = tradesOf (now table) in
-        ⌜ (length (now held) ≡ 128)
-        × (length (now kinds) ≡ 128)
-        × (length (now units) ≡ 128)
-        × (length (now calendar) ≤ 1200)
+        ⌜ (length (now held) ≡ heldLength)
+        × (length (now kinds) ≡ applicationLimit)
+        × (length (now units) ≡ applicationLimit)
+        × (length (now calendar) ≤ calendarLimit)
         × (fit (now calendar) (bookOf desk (rowsOf (now held) (now kinds) (now units))) trades ≡ true)
         × (figures ≡ figuresAt desk (now held) trades)
         × (at + 7 ≤ length (now lines)) ⌝ }
@@ -94,10 +96,10 @@ pub fn run_events(
     events: &[u8],
     lines: &mut [u64],
 ) -> Desk
-    requires { ⌜ (length (now held) ≡ 128)
-        × (length (now kinds) ≡ 128)
-        × (length (now units) ≡ 128)
-        × (length (now calendar) ≤ 1200)
+    requires { ⌜ (length (now held) ≡ heldLength)
+        × (length (now kinds) ≡ applicationLimit)
+        × (length (now units) ≡ applicationLimit)
+        × (length (now calendar) ≤ calendarLimit)
         × (fit (now calendar) (bookOf desk (rowsOf (now held) (now kinds) (now units))) (tradesOf (now table)) ≡ true)
         × (7 * (length (now events) / 40) ≤ length (now lines)) ⌝ }
     ensures { λ r.

@@ -11,13 +11,14 @@ use desk::done;
 use desk::done::Done;
 use desk::state::Desk;
 use money::units::Sheets;
+use rules::limits::SIZE_LIMIT;
 
 fn size_refusal(outstanding: u64, size: Sheets) -> u8
     ensures { λ r.
         ⌜ ((book : Book) (table : List Trade) →
         outstanding ≡ outstandingOf book table → r ≡ numberOf (firstOf (sizeCauses book table size))) ⌝ }
 {
-    if size.0 > 10_000_000_000 {
+    if size.0 > SIZE_LIMIT {
         return 14;
     }
     if size.0 < outstanding {

@@ -1,7 +1,7 @@
 // A book taken apart into a desk and rows, and put together again: once a call, not once an event.
 ghost use mathlib.Core.Path.{_≡_};
 ghost use lib.ListN.{length};
-ghost use Rattle.core.specs.Flat.{securitiesOf, deskOf, rowsOf, bookOf};
+ghost use Rattle.core.specs.Flat.{securitiesOf, deskOf, rowsOf, bookOf, heldLength};
 use crate::held;
 use desk::state::Desk;
 use rules::book::Book;
@@ -29,7 +29,7 @@ pub fn desk_of(book: Book) -> Desk
 }
 
 fn fill_held(vault: Vault, held: &mut [u64])
-    requires { ⌜ length (now held) ≡ 128 ⌝ }
+    requires { ⌜ length (now held) ≡ heldLength ⌝ }
     ensures { λ _. ⌜ securitiesOf (now (held .exit)) ≡ vault .securities ⌝ }
 {
     let mut kind = 0;

@@ -1,14 +1,17 @@
 // What is counted and tested over the trades in use.
 ghost use mathlib.Core.Path.{_≡_};
-ghost use Prim.Native.Nat.{_+_, _*_, _≤_, _<_, max};
+ghost use Prim.Native.Nat.{_≤_, _<_, max};
 ghost use lib.ListN.{length, replicate};
+ghost use Rattle.rules.specs.Limits.{capacityLimit};
 ghost use Rattle.rules.specs.Trades.{outstanding, differ};
 ghost use Rattle.rules.specs.Fit.{tradeFit};
-ghost use Rattle.core.specs.Flat.{tradeAt, tradesTo, placeOf, contractNumbers, Kept};
+ghost use Rattle.core.specs.Flat.{HasSlots, HasSlot, tradeAt, tradesTo, placeOf, contractNumbers, Kept};
 ghost use Rattle.core.specs.Figures.{gatheredOf};
 use crate::chains;
 use crate::chains::Told;
 use crate::flat;
+use money::limits::PRICE_LIMIT;
+use money::limits::TRADE_LIMIT;
 use rules::trade::Contract;
 use sort::order;
 
@@ -28,7 +31,7 @@ pub fn outstanding_of(table: &[u64], count: usize) -> u64
 
 // Where a contract's trade stands, or the count where it is not on the table.
 pub fn place_of(table: &[u64], count: usize, contract: Contract) -> usize
-    requires { ⌜ count * 4 ≤ length (now table) ⌝ }
+    requires { ⌜ HasSlots (now table) count ⌝ }
     ensures { λ r. ⌜ r ≡ placeOf contract (tradesTo (now (table .entry)) count) ⌝ }
 {
     let mut i = 0;
@@ -43,7 +46,7 @@ pub fn place_of(table: &[u64], count: usize, contract: Contract) -> usize
 
 // No contract stands before its own place: each is searched, which for few trades is as fast as to sort.
 fn few_differ(table: &[u64], count: usize) -> bool
-    requires { ⌜ count * 4 ≤ length (now table) ⌝ }
+    requires { ⌜ HasSlots (now table) count ⌝ }
     ensures { λ r. ⌜ r ≡ differ (tradesTo (now (table .entry)) count) ⌝ }
 {
     let mut i = 0;
@@ -57,7 +60,7 @@ fn few_differ(table: &[u64], count: usize) -> bool
 }
 
 fn contract_numbers(table: &[u64], count: usize, numbers: &mut [u64])
-    requires { ⌜ (count * 4 ≤ length (now table)) × (length (now numbers) ≡ count) ⌝ }
+    requires { ⌜ (HasSlots (now table) count) × (length (now numbers) ≡ count) ⌝ }
     ensures { λ _. ⌜ now (numbers .exit) ≡ contractNumbers (tradesTo (now (table .entry)) count) ⌝ }
 {
     let mut i = 0;
@@ -70,7 +73,7 @@ fn contract_numbers(table: &[u64], count: usize, numbers: &mut [u64])
 
 // Sorted, numbers that stand twice are neighbours.
 fn numbers_differ(table: &[u64], count: usize, numbers: &mut [u64]) -> bool
-    requires { ⌜ (count * 4 ≤ length (now table)) × (count ≤ 4096) × (length (now numbers) ≡ count) ⌝ }
+    requires { ⌜ (HasSlots (now table) count) × (count ≤ capacityLimit) × (length (now numbers) ≡ count) ⌝ }
     ensures { λ r. ⌜ r ≡ differ (tradesTo (now (table .entry)) count) ⌝ }
 {
     contract_numbers(table, count, numbers);
@@ -79,7 +82,7 @@ fn numbers_differ(table: &[u64], count: usize, numbers: &mut [u64]) -> bool
 }
 
 fn sorted_differ(table: &[u64], count: usize) -> bool
-    requires { ⌜ (count * 4 ≤ length (now table)) × (count ≤ 4096) ⌝ }
+    requires { ⌜ (HasSlots (now table) count) × (count ≤ capacityLimit) ⌝ }
     ensures { λ r. ⌜ r ≡ differ (tradesTo (now (table .entry)) count) ⌝ }
 {
     let mut numbers = [0; 4096];
@@ -88,8 +91,8 @@ fn sorted_differ(table: &[u64], count: usize) -> bool
 
 // By chains, which most contracts keep short; where they do not, sorted.
 fn chains_differ(table: &[u64], count: usize, buckets: usize, heads: &mut [u16]) -> bool
-    requires { ⌜ (count * 4 ≤ length (now table))
-        × (count ≤ 4096)
+    requires { ⌜ (HasSlots (now table) count)
+        × (count ≤ capacityLimit)
         × (0 < buckets)
         × (buckets ≤ 32749)
         × (now heads ≡ replicate buckets 0) ⌝ }
@@ -105,7 +108,7 @@ fn chains_differ(table: &[u64], count: usize, buckets: usize, heads: &mut [u16])
 
 // Eight buckets a trade, of which most stay empty; fewer trades have fewer to clear.
 fn some_differ(table: &[u64], count: usize) -> bool
-    requires { ⌜ (count * 4 ≤ length (now table)) × (count ≤ 4096) ⌝ }
+    requires { ⌜ (HasSlots (now table) count) × (count ≤ capacityLimit) ⌝ }
     ensures { λ r. ⌜ r ≡ differ (tradesTo (now (table .entry)) count) ⌝ }
 {
     let mut heads: [u16; 8191] = [0; 8191];
@@ -113,7 +116,7 @@ fn some_differ(table: &[u64], count: usize) -> bool
 }
 
 fn many_differ(table: &[u64], count: usize) -> bool
-    requires { ⌜ (count * 4 ≤ length (now table)) × (count ≤ 4096) ⌝ }
+    requires { ⌜ (HasSlots (now table) count) × (count ≤ capacityLimit) ⌝ }
     ensures { λ r. ⌜ r ≡ differ (tradesTo (now (table .entry)) count) ⌝ }
 {
     let mut heads: [u16; 32749] = [0; 32749];
@@ -122,7 +125,7 @@ fn many_differ(table: &[u64], count: usize) -> bool
 
 // No contract stands twice.
 pub fn contracts_differ(table: &[u64], count: usize) -> bool
-    requires { ⌜ (count * 4 ≤ length (now table)) × (count ≤ 4096) ⌝ }
+    requires { ⌜ (HasSlots (now table) count) × (count ≤ capacityLimit) ⌝ }
     ensures { λ r. ⌜ r ≡ differ (tradesTo (now (table .entry)) count) ⌝ }
 {
     if count <= 32 {
@@ -135,18 +138,18 @@ pub fn contracts_differ(table: &[u64], count: usize) -> bool
 }
 
 fn trade_fits(table: &[u64], place: usize) -> bool
-    requires { ⌜ place * 4 + 3 < length (now table) ⌝ }
+    requires { ⌜ HasSlot (now table) place ⌝ }
     ensures { λ r. ⌜ r ≡ tradeFit (tradeAt (now (table .entry)) place) ⌝ }
 {
-    if flat::sheets_at(table, place) > 100_000_000 {
+    if flat::sheets_at(table, place) > TRADE_LIMIT {
         return false;
     }
     let price = flat::price_at(table, place);
-    if price.0 > 100_000 {
+    if price.0 > PRICE_LIMIT {
         return false;
     }
     let fallback = flat::fallback_at(table, place);
-    fallback.0 <= 100_000
+    fallback.0 <= PRICE_LIMIT
 }
 
 fn later(a: u32, b: u32) -> u32
@@ -166,7 +169,7 @@ pub struct Gathered {
 }
 
 pub fn gather(table: &[u64], count: usize) -> Gathered
-    requires { ⌜ (count * 4 ≤ length (now table)) × (count ≤ 4096) ⌝ }
+    requires { ⌜ (HasSlots (now table) count) × (count ≤ capacityLimit) ⌝ }
     ensures { λ r. ⌜ r ≡ gatheredOf (tradesTo (now (table .entry)) count) ⌝ }
 {
     let mut outstanding = 0;

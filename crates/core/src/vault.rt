@@ -3,27 +3,33 @@ ghost use mathlib.Core.Path.{_≡_};
 ghost use mathlib.Core.Bool.{true};
 ghost use Prim.Native.Nat.{_≤_};
 ghost use lib.ListN.{length};
+ghost use Rattle.money.specs.Limits.{cashLimit, rateLimit};
 ghost use Rattle.money.specs.Collateral.{unitLimitOf, rateOf, kindValue};
+ghost use Rattle.rules.specs.Limits.{applicationLimit};
 ghost use Rattle.rules.specs.Vault.{effectiveOf, frozenOf, value};
 ghost use Rattle.rules.specs.Fit.{securityFit, securitiesFit, cashFit, applicationFit, withdrawalsFit};
 ghost use Rattle.rules.specs.Withdraw.{applied};
 ghost use Rattle.core.specs.Types.{Guarantee};
-ghost use Rattle.core.specs.Flat.{vaultOf, securitiesOf};
+ghost use Rattle.core.specs.Flat.{vaultOf, securitiesOf, heldLength};
 use crate::held;
+use money::limits::CASH_LIMIT;
+use money::limits::RATE_LIMIT;
+use money::limits::UNIT_LIMIT;
 use rules::book::Cash;
 use rules::book::Guarantee;
 use rules::book::Security;
+use rules::limits::APPLICATION_LIMIT;
 
 fn security_fit(security: Security) -> bool
     ensures { λ r. ⌜ r ≡ securityFit security ⌝ }
 {
-    if security.effective > 1_000_000_000_000 {
+    if security.effective > UNIT_LIMIT {
         return false;
     }
-    if security.arriving > 1_000_000_000_000 - security.effective {
+    if security.arriving > UNIT_LIMIT - security.effective {
         return false;
     }
-    if security.rate > 20_000 {
+    if security.rate > RATE_LIMIT {
         return false;
     }
     if security.frozen > security.effective {
@@ -33,7 +39,7 @@ fn security_fit(security: Security) -> bool
 }
 
 pub fn securities_fit(held: &[u64]) -> bool
-    requires { ⌜ length (now held) ≡ 128 ⌝ }
+    requires { ⌜ length (now held) ≡ heldLength ⌝ }
     ensures { λ r. ⌜ ((guarantee : Guarantee) → r ≡ securitiesFit (vaultOf guarantee (securitiesOf (now (held .entry))))) ⌝ }
 {
     let mut kind = 0;
@@ -50,21 +56,19 @@ pub fn securities_fit(held: &[u64]) -> bool
 pub fn cash_fit(cash: Cash, guarantee: Guarantee) -> bool
     ensures { λ r. ⌜ r ≡ cashFit cash guarantee ⌝ }
 {
-    if cash.own.0 > 10_000_000_000_000_000 {
+    if cash.own.0 > CASH_LIMIT {
         return false;
     }
-    if cash.client.0 > 10_000_000_000_000_000 {
+    if cash.client.0 > CASH_LIMIT {
         return false;
     }
-    if guarantee.effective.0 > 10_000_000_000_000_000 {
+    if guarantee.effective.0 > CASH_LIMIT {
         return false;
     }
-    if guarantee.arriving.0 > 10_000_000_000_000_000 {
+    if guarantee.arriving.0 > CASH_LIMIT {
         return false;
     }
-    if cash.own.0 + cash.client.0 + guarantee.effective.0 + guarantee.arriving.0
-        > 10_000_000_000_000_000
-    {
+    if cash.own.0 + cash.client.0 + guarantee.effective.0 + guarantee.arriving.0 > CASH_LIMIT {
         return false;
     }
     if guarantee.frozen.0 > guarantee.effective.0 {
@@ -79,17 +83,17 @@ fn application_fit(kind: u8, units: u64) -> bool
     if kind > 32 {
         return false;
     }
-    if units > 10_000_000_000_000_000 {
+    if units > CASH_LIMIT {
         return false;
     }
     true
 }
 
 pub fn withdrawals_fit(kinds: &[u8], units: &[u64], count: usize) -> bool
-    requires { ⌜ (length (now kinds) ≡ 128) × (length (now units) ≡ 128) ⌝ }
+    requires { ⌜ (length (now kinds) ≡ applicationLimit) × (length (now units) ≡ applicationLimit) ⌝ }
     ensures { λ r. ⌜ r ≡ withdrawalsFit (record { kinds = now (kinds .entry); units = now (units .entry); count = count }) ⌝ }
 {
-    if count > 128 {
+    if count > APPLICATION_LIMIT {
         return false;
     }
     let mut i = 0;
@@ -104,7 +108,7 @@ pub fn withdrawals_fit(kinds: &[u8], units: &[u64], count: usize) -> bool
 
 // A kind's value within the limits, where nothing refuses it.
 pub fn worth(kind: u8, effective: u64, frozen: u64, rate: u64) -> u64
-    requires { ⌜ (kind ≤ 32) × (frozen ≤ effective) × (effective ≤ unitLimitOf kind) × (rateOf kind rate ≤ 20000) ⌝ }
+    requires { ⌜ (kind ≤ 32) × (frozen ≤ effective) × (effective ≤ unitLimitOf kind) × (rateOf kind rate ≤ rateLimit) ⌝ }
     ensures { λ r. ⌜ r ≡ kindValue kind effective frozen rate .0 ⌝ }
 {
     let worth = money::collateral::kind_worth(kind, effective, frozen, rate);
@@ -113,10 +117,10 @@ pub fn worth(kind: u8, effective: u64, frozen: u64, rate: u64) -> u64
 
 // V: the value of the 32 securities, and of the guarantee cash.
 pub fn value_of(held: &[u64], guarantee: Guarantee) -> u64
-    requires { ⌜ (length (now held) ≡ 128)
+    requires { ⌜ (length (now held) ≡ heldLength)
         × (securitiesFit (vaultOf guarantee (securitiesOf (now held))) ≡ true)
         × (guarantee .frozen .0 ≤ guarantee .effective .0)
-        × (guarantee .effective .0 ≤ 10000000000000000) ⌝ }
+        × (guarantee .effective .0 ≤ cashLimit) ⌝ }
     ensures { λ r. ⌜ r ≡ value (vaultOf guarantee (securitiesOf (now (held .entry)))) ⌝ }
 {
     let mut sum = 0;
@@ -135,7 +139,7 @@ pub fn value_of(held: &[u64], guarantee: Guarantee) -> u64
 }
 
 pub fn effective_of(held: &[u64], guarantee: Guarantee, kind: u8) -> u64
-    requires { ⌜ (kind ≤ 32) × (length (now held) ≡ 128) ⌝ }
+    requires { ⌜ (kind ≤ 32) × (length (now held) ≡ heldLength) ⌝ }
     ensures { λ r. ⌜ r ≡ effectiveOf (vaultOf guarantee (securitiesOf (now (held .entry)))) kind ⌝ }
 {
     if kind == 32 {
@@ -146,7 +150,7 @@ pub fn effective_of(held: &[u64], guarantee: Guarantee, kind: u8) -> u64
 }
 
 pub fn frozen_of(held: &[u64], guarantee: Guarantee, kind: u8) -> u64
-    requires { ⌜ (kind ≤ 32) × (length (now held) ≡ 128) ⌝ }
+    requires { ⌜ (kind ≤ 32) × (length (now held) ≡ heldLength) ⌝ }
     ensures { λ r. ⌜ r ≡ frozenOf (vaultOf guarantee (securitiesOf (now (held .entry)))) kind ⌝ }
 {
     if kind == 32 {
@@ -158,8 +162,8 @@ pub fn frozen_of(held: &[u64], guarantee: Guarantee, kind: u8) -> u64
 
 // The units of a kind that stand applied for.
 pub fn applied_of(kinds: &[u8], units: &[u64], count: usize, kind: u8) -> u64
-    requires { ⌜ (length (now kinds) ≡ 128)
-        × (length (now units) ≡ 128)
+    requires { ⌜ (length (now kinds) ≡ applicationLimit)
+        × (length (now units) ≡ applicationLimit)
         × (withdrawalsFit (record { kinds = now kinds; units = now units; count = count }) ≡ true) ⌝ }
     ensures { λ r. ⌜ r ≡ applied (record { kinds = now (kinds .entry); units = now (units .entry); count = count }) kind ⌝ }
 {

@@ -5,20 +5,22 @@ ghost use Prim.Native.Nat.{_+_, _≤_};
 ghost use lib.Dec.{ltb};
 ghost use lib.ListN.{length};
 ghost use Rattle.money.specs.Causes.{firstOf, numberOf};
+ghost use Rattle.rules.specs.Limits.{applicationLimit};
 ghost use Rattle.rules.specs.Fit.{withdrawalsFit, securitiesFit, cashFit};
 ghost use Rattle.rules.specs.Vault.{effectiveOf, frozenOf};
 ghost use Rattle.rules.specs.Withdraw.{applied, withdrawCauses, withdrawn};
-ghost use Rattle.core.specs.Flat.{rowsOf, bookOf, appliedBy, appliedAt};
+ghost use Rattle.core.specs.Flat.{rowsOf, bookOf, appliedBy, appliedAt, heldLength};
 use crate::vault;
 use desk::done;
 use desk::done::Done;
 use desk::standing;
 use desk::state::Desk;
+use rules::limits::APPLICATION_LIMIT;
 
 // Whether the units, with those frozen and applied for, are above the effective. The units are tested first: any number may be applied for,
 // and the sum of the three is then below 2^64.
 fn lacks(desk: Desk, held: &[u64], kinds: &[u8], units: &[u64], kind: u8, amount: u64) -> bool
-    requires { ⌜ (length (now held) ≡ 128) × (length (now kinds) ≡ 128) × (length (now units) ≡ 128) × (kind ≤ 32) ⌝ }
+    requires { ⌜ (length (now held) ≡ heldLength) × (length (now kinds) ≡ applicationLimit) × (length (now units) ≡ applicationLimit) × (kind ≤ 32) ⌝ }
     requires { let book = bookOf desk (rowsOf (now held) (now kinds) (now units)) in
         ⌜ (withdrawalsFit (book .withdrawals) ≡ true)
         × (securitiesFit (book .vault) ≡ true)
@@ -44,7 +46,7 @@ fn withdraw_refusal(
     kind: u8,
     amount: u64,
 ) -> u8
-    requires { ⌜ (length (now held) ≡ 128) × (length (now kinds) ≡ 128) × (length (now units) ≡ 128) ⌝ }
+    requires { ⌜ (length (now held) ≡ heldLength) × (length (now kinds) ≡ applicationLimit) × (length (now units) ≡ applicationLimit) ⌝ }
     requires { let book = bookOf desk (rowsOf (now held) (now kinds) (now units)) in
         ⌜ (withdrawalsFit (book .withdrawals) ≡ true)
         × (securitiesFit (book .vault) ≡ true)
@@ -70,7 +72,7 @@ fn withdraw_refusal(
     if lacks(desk, held, kinds, units, kind, amount) {
         return 13;
     }
-    if desk.applications >= 128 {
+    if desk.applications >= APPLICATION_LIMIT {
         return 17;
     }
     0
@@ -84,7 +86,7 @@ pub fn withdraw(
     kind: u8,
     amount: u64,
 ) -> Done
-    requires { ⌜ (length (now held) ≡ 128) × (length (now kinds) ≡ 128) × (length (now units) ≡ 128) ⌝ }
+    requires { ⌜ (length (now held) ≡ heldLength) × (length (now kinds) ≡ applicationLimit) × (length (now units) ≡ applicationLimit) ⌝ }
     requires { let book = bookOf desk (rowsOf (now held) (now kinds) (now units)) in
         ⌜ (withdrawalsFit (book .withdrawals) ≡ true)
         × (securitiesFit (book .vault) ≡ true)

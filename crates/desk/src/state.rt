@@ -1,9 +1,9 @@
 // The book as the core has it: what is small goes by value; the securities and the applications stand in rows that are lent.
 ghost use mathlib.Core.Path.{_≡_};
-ghost use Prim.Native.Nat.{_/_};
 ghost use lib.Dec.{leb, ltb};
 ghost use Rattle.money.specs.Limits.{calendarLimit};
 ghost use Rattle.desk.specs.Desk.{withTrades};
+use money::limits::CALENDAR_LIMIT;
 use money::units::Sheets;
 use rules::book::Cash;
 use rules::book::Guarantee;
@@ -31,16 +31,16 @@ pub fn with_trades(desk: Desk, nets: Nets, trades: usize) -> Desk
     next
 }
 
-// Whether a table of so many numbers, four a trade, has no slot left.
-pub fn is_full(numbers: usize, trades: usize) -> bool
-    ensures { λ r. ⌜ r ≡ leb (numbers / 4) trades ⌝ }
+// Whether a table of so many slots has none left.
+pub fn is_full(slots: usize, trades: usize) -> bool
+    ensures { λ r. ⌜ r ≡ leb slots trades ⌝ }
 {
-    numbers / 4 <= trades
+    slots <= trades
 }
 
 // Whether a calendar has more words than any may have.
 pub fn is_too_long(words: usize) -> bool
     ensures { λ r. ⌜ r ≡ ltb calendarLimit words ⌝ }
 {
-    words > 1_200
+    words > CALENDAR_LIMIT
 }

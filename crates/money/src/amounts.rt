@@ -1,6 +1,9 @@
 // Amounts of money (art. 60).
 ghost use mathlib.Core.Path.{_≡_};
 ghost use Rattle.money.specs.Money.{initialAmount, redemptionAmount};
+use crate::limits::PRICE_LIMIT;
+use crate::limits::TERM_LIMIT;
+use crate::limits::TRADE_LIMIT;
 use crate::units::Fen;
 use crate::units::Sheets;
 use crate::units::Ticks;
@@ -17,7 +20,7 @@ pub fn initial(q: Sheets) -> Amount
     ensures { λ r. ⌜ r ≡ initialAmount q ⌝ }
 {
     let count = q.0;
-    if count > 100_000_000 {
+    if count > TRADE_LIMIT {
         return Amount {
             number: 14,
             fen: Fen(0),
@@ -35,19 +38,19 @@ pub fn redemption(q: Sheets, price: Ticks, days: u32) -> Amount
 {
     let count = q.0;
     let yearly = price.0;
-    if count > 100_000_000 {
+    if count > TRADE_LIMIT {
         return Amount {
             number: 14,
             fen: Fen(0),
         };
     }
-    if yearly > 100_000 {
+    if yearly > PRICE_LIMIT {
         return Amount {
             number: 14,
             fen: Fen(0),
         };
     }
-    if days > 38_400 {
+    if days > TERM_LIMIT {
         return Amount {
             number: 14,
             fen: Fen(0),

@@ -1,6 +1,9 @@
 // The value of a kind of collateral (arts. 4, 41).
 ghost use mathlib.Core.Path.{_≡_};
 ghost use Rattle.money.specs.Collateral.{kindWorth};
+use crate::limits::CASH_LIMIT;
+use crate::limits::RATE_LIMIT;
+use crate::limits::UNIT_LIMIT;
 use crate::units::Sheets;
 
 // A value in whole sheets, or its refusal's number beside 0.
@@ -27,7 +30,7 @@ pub fn kind_worth(kind: u8, effective: u64, frozen: u64, rate: u64) -> Worth
         };
     }
     if kind == 32 {
-        if effective > 10_000_000_000_000_000 {
+        if effective > CASH_LIMIT {
             return Worth {
                 number: 14,
                 sheets: Sheets(0),
@@ -38,13 +41,13 @@ pub fn kind_worth(kind: u8, effective: u64, frozen: u64, rate: u64) -> Worth
             sheets: Sheets((effective - frozen) / 10_000),
         };
     }
-    if effective > 1_000_000_000_000 {
+    if effective > UNIT_LIMIT {
         return Worth {
             number: 14,
             sheets: Sheets(0),
         };
     }
-    if rate > 20_000 {
+    if rate > RATE_LIMIT {
         return Worth {
             number: 14,
             sheets: Sheets(0),

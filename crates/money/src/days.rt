@@ -1,6 +1,7 @@
 // Trading days, found from the words of a lent calendar.
 ghost use mathlib.Core.Path.{_≡_};
 ghost use Rattle.money.specs.Days.{trades, atOrAfter, nextAfter, earliest, searchResult};
+use crate::limits::CALENDAR_LIMIT;
 
 // The day that a search found, or its refusal's number beside 0.
 #[repr(C)]
@@ -24,7 +25,7 @@ pub fn trades_on(calendar: &[u32], day: u32) -> bool
 fn from_day(calendar: &[u32], from: u64) -> Found
     ensures { λ r. ⌜ r ≡ searchResult (now (calendar .entry)) (atOrAfter (now (calendar .entry)) from) ⌝ }
 {
-    if calendar.len() > 1_200 {
+    if calendar.len() > CALENDAR_LIMIT {
         return Found { number: 1, day: 0 };
     }
     let mut word = (from / 32) as usize;

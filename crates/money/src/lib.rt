@@ -3,6 +3,9 @@
 // Fen, sheets and price ticks.
 pub mod units;
 
+// How large numbers may be.
+pub mod limits;
+
 // Trading days.
 pub mod days;
 

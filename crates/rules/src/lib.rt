@@ -11,3 +11,6 @@ pub mod event;
 
 // What a call answers.
 pub mod answer;
+
+// How large numbers may be.
+pub mod limits;

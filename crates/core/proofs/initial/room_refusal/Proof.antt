@@ -27,12 +27,6 @@ module _ (c : tie.After-is-taken) where
   taken : c .is-taken .result ≡ onTable (start .args .terms .contract) (take (start .args .desk .trades) (tradesOf (start .args .table .now)))
   taken = c .is-taken .ensures ∙ ap (onTable (start .args .terms .contract)) (sym (fit-in-use _ _ _ (start .pre .1 .fits)))
 
--- the table's slots are its trades
-slots : (c : tie.After-is-full) → (let a = c .before .before .before .before .before .before .before .args in c .is-full .result ≡ leb (length (tradesOf (a .table .now))) (a .desk .trades))
-slots c =
-    let a = c .before .before .before .before .before .before .before .args in
-    c .is-full .ensures ∙ ap (λ (n : ℕ). leb n (a .desk .trades)) (sym (length-trades (a .table .now) (length (a .table .now) / 4)))
-
 abbrev net-after : tie.Start → ℤ
 net-after s = netLess (bookOf (s .args .desk) noRows) (s .args .terms)
 
@@ -45,7 +39,7 @@ returns c kinds units = applies _ _ (asked (taken (c .before)) (c .if1 .taken))
 returns-2 : tie.Need-returns-2
 returns-2 c kinds units =
     let t = c .before .before .before in
-    passes _ _ _ (asked-not (taken t) (c .before .before .if1 .left)) (applies _ _ (asked (slots (c .before)) (c .if2 .taken)))
+    passes _ _ _ (asked-not (taken t) (c .before .before .if1 .left)) (applies _ _ (asked (c .before .is-full .ensures) (c .if2 .taken)))
 
 is-full-requires : tie.Need-is-full-requires
 is-full-requires c κs = search needs
@@ -54,7 +48,7 @@ lacks-headroom-requires : tie.Need-lacks-headroom-requires
 lacks-headroom-requires c κs = c .before .before .before .before .before .before .before .before .pre
 
 full : (c : tie.Else2) → (let s = c .before .before .before .before .before .before .before .before .args in leb (length (tradesOf (s .table .now))) (s .desk .trades) ≡ false)
-full c = asked-not (slots (c .before)) (c .if2 .left)
+full c = asked-not (c .before .is-full .ensures) (c .if2 .left)
 
 returns-3 : tie.Need-returns-3
 returns-3 c kinds units =

@@ -1,0 +1,18 @@
+// The limits that only the book knows, by the names that specs/Limits gives them.
+
+// "capacity (the lent table's length) 4,096"
+pub const CAPACITY_LIMIT: usize = 4_096;
+
+// "S 10^10"
+pub const SIZE_LIMIT: u64 = 10_000_000_000;
+
+// "either net 4×10^18 up or down"
+pub const NET_LIMIT: i64 = 4_000_000_000_000_000_000;
+
+pub const NET_LIMIT_DOWN: i64 = -4_000_000_000_000_000_000;
+
+// "up to 128 applications stand for the evening"
+pub const APPLICATION_LIMIT: usize = 128;
+
+// "due not 1 to 365 days ahead"
+pub const AHEAD_LIMIT: u32 = 365;
