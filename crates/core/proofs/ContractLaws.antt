@@ -4,6 +4,7 @@ use mathlib.Core.Path.{_≡_, refl, sym, ap, _∙_}
 use mathlib.Core.Bool.{true, false, not}
 use mathlib.Core.List.{List, [], _∷_}
 use Prim.Native.Nat.{ℕ, zero, suc, _-_, _*_, _≤_, _<_}
+use native.Mathlib.Decide.{decLt}
 use native.Mathlib.Omega.{arith}
 use borrow.Author.Tests.{lt-ltb, le-ltb}
 use lib.Dec.{ltb}
@@ -49,6 +50,16 @@ module _ (table : List ℕ) (count place : ℕ) (contract : Contract) (room : co
 
   pub not-off-table : place < count → not (onTable contract (take count (tradesOf table))) ≡ false
   not-off-table h = ap not (present h)
+
+  -- on the table, its place is one in use
+  pub below-where-on : not (onTable contract (take count (tradesOf table))) ≡ false → place < count
+  below-where-on e = by (decLt place count)
+    where
+      by : Dec (place < count) → place < count
+      by (yes l) = l
+      by (no g) =
+          let off = off-table (omega arith) in
+          let z : _≡_ {A = ℕ} 0 1 = cc in absurd (omega arith)
 
   pub short-of : (q held : ℕ) → held ≡ tradeAt table place .sheets .0 → place < count → held < q → ltb (tradeOf contract (take count (tradesOf table)) .sheets .0) q ≡ true
   short-of q held e h k = rw (trade-here h, ← e) (lt-ltb held q k)

@@ -13,7 +13,6 @@ use lib.ListN.{length}
 use Rattle.money.specs.Limits.{tradeLimit}
 use Rattle.money.specs.Causes.{firstOf, numberOf}
 use Rattle.money.specs.Days.{Calendar, trades}
-use Rattle.money.proofs.Refusals.{failed}
 use Rattle.money.proofs.Least.{past-rests}
 use Rattle.rules.specs.Days.{dayNumber}
 use Rattle.rules.specs.Trades.{inUse}
@@ -22,6 +21,7 @@ use Rattle.rules.specs.Fit.{dayFit, fit}
 use Rattle.rules.specs.Initial.{badCount, initialCauses}
 use Rattle.rules.proofs.FoldLaws.{neither, every-holds}
 use Rattle.rules.proofs.FitParts.{fit-parts}
+use Rattle.rules.proofs.Accepted.{all-clear}
 use Rattle.core.specs.Types.{Book, Day, Never, On, Phase, Terms, Trade, Initial}
 use Rattle.core.specs.Flat.{capacity, tradesOf}
 use Rattle.core.proofs.FlatLaws.{length-trades}
@@ -62,7 +62,8 @@ module _ (calendar : Calendar) (book : Book) (table : List ℕ) (terms : Terms) 
   pub initial-begins : firstOf (initialCauses calendar book (tradesOf table) terms) ≡ none → Begins
   unfolding initialCauses
   initial-begins e =
+      let clear = all-clear (initialCauses calendar book (tradesOf table) terms) e in
       record {
-        few = count-within (terms .sheets .0) (failed _ e 7 .1 .1 .1 .0 refl);
-        room = omega (arith, leb-false (length (tradesOf table)) (book .trades) (failed _ e 11 .1 .1 .1 .1 .1 .1 .1 .0 refl), length-trades table (capacity table));
+        few = count-within (terms .sheets .0) (clear 7);
+        room = omega (arith, leb-false (length (tradesOf table)) (book .trades) (clear 11), length-trades table (capacity table));
       }

@@ -30,6 +30,7 @@ pub mod CloseLaws
 pub mod InitialLaws
 pub mod StepLaws
 pub mod Column
+pub mod Groups
 -- laws for the run of encoded events
 pub mod CoverLaws
 pub mod FigureLaws

@@ -1,7 +1,7 @@
 -- Signed numbers of 64 bits: which sums fit, and what the machine reads back. For the nets' few functions.
 -- Assumes nothing.
 use mathlib.Core.Path.{_≡_, refl, sym, ap}
-use mathlib.Core.Bool.{Bool, true, false, cond, false≢true}
+use mathlib.Core.Bool.{Bool, true, false, cond, false≢true, not}
 use Prim.Native.Nat.{ℕ, zero, suc, _+_, _-_, _≤_}
 use native.Mathlib.Nat.{zero-add}
 use native.Mathlib.Omega.{arith}
@@ -37,6 +37,13 @@ over-net z h = lt-ltb 4000000000000000000 (natAbs z) (leb-false (natAbs z) 40000
 
 pub within-net : (z : ℤ) → netFit z ≡ true → ltb 4000000000000000000 (natAbs z) ≡ false
 within-net z h = le-ltb 4000000000000000000 (natAbs z) (within-limit z h)
+
+pub over-is-unfit : (z : ℤ) → not (netFit z) ≡ ltb 4000000000000000000 (natAbs z)
+over-is-unfit z = by (netFit z) refl
+  where
+    by : (b : Bool) → netFit z ≡ b → not b ≡ ltb 4000000000000000000 (natAbs z)
+    by true e = sym (within-net z e)
+    by false e = sym (over-net z e)
 
 -- ---- what fits 64 bits
 

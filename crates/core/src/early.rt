@@ -4,7 +4,7 @@ ghost use Prim.Native.Nat.{_≤_, _<_};
 ghost use lib.ListN.{length};
 ghost use Rattle.money.specs.Limits.{calendarLimit, priceLimit, tradeLimit};
 ghost use Rattle.money.specs.Causes.{firstOf, numberOf};
-ghost use Rattle.rules.specs.Early.{earlyAmount, pastDue, earlyCauses, earlyBook, earlyTable};
+ghost use Rattle.rules.specs.Early.{earlyAmount, pastDue, orderCauses, namedCauses, takeCauses, earlyCauses, earlyBook, earlyTable};
 ghost use Rattle.core.specs.Flat.{HasSlots, Rows, bookOf, Fits, appliedAt, tradesTo, tradesOf, placeOf, appliedBy, tableBy};
 use crate::days;
 use crate::flat;
@@ -59,6 +59,69 @@ fn amount_at(
     redemption::redeemed_for(table, place, count.0, price, payment)
 }
 
+// The causes, group by group as the rules have them: when sheets may be redeemed and how many at which price, the contract's
+// trade, and what is taken from it.
+fn order_refusal(desk: Desk, count: Sheets, price: Ticks) -> u8
+    ensures { λ r. ⌜ ((rows : Rows) → r ≡ numberOf (firstOf (orderCauses (bookOf desk rows) count price))) ⌝ }
+{
+    let standing = desk.standing;
+    if !standing::is_trading(standing) {
+        return 4;
+    }
+    if standing::is_terminated(standing) {
+        return 5;
+    }
+    if count.0 == 0 {
+        return 7;
+    }
+    if price.0 > PRICE_LIMIT {
+        return 8;
+    }
+    0
+}
+
+fn named_refusal(desk: Desk, table: &[u64], place: usize, contract: Contract) -> u8
+    requires { ⌜ (HasSlots (now table) (desk .trades)) × (place ≡ placeOf contract (tradesTo (now table) (desk .trades))) ⌝ }
+    ensures { λ r. ⌜ ((rows : Rows) → r ≡ numberOf (firstOf (namedCauses (bookOf desk rows) (tradesOf (now (table .entry))) contract))) ⌝ }
+{
+    if past_due(desk, table, place, contract) {
+        return 9;
+    }
+    if place >= desk.trades {
+        return 10;
+    }
+    0
+}
+
+fn take_refusal(
+    calendar: &[u32],
+    desk: Desk,
+    table: &[u64],
+    place: usize,
+    contract: Contract,
+    count: Sheets,
+    price: Ticks,
+) -> u8
+    requires { ⌜ (Fits (now calendar) desk (tradesOf (now table)))
+        × (length (now calendar) ≤ calendarLimit)
+        × (place ≡ placeOf contract (tradesTo (now table) (desk .trades)))
+        × (place < desk .trades)
+        × (price .0 ≤ priceLimit) ⌝ }
+    ensures { λ r.
+        ⌜ ((rows : Rows) →
+        r ≡ numberOf (firstOf (takeCauses (now (calendar .entry)) (bookOf desk rows) (tradesOf (now (table .entry))) contract count price))) ⌝ }
+{
+    if flat::sheets_at(table, place) < count.0 {
+        return 13;
+    }
+    let nets = desk.nets;
+    let amount = amount_at(calendar, desk, table, place, contract, count, price);
+    if nets::over_plus(nets, amount) {
+        return 14;
+    }
+    0
+}
+
 fn early_refusal(
     calendar: &[u32],
     desk: Desk,
@@ -78,34 +141,15 @@ fn early_refusal(
         let cause = firstOf (earlyCauses (now (calendar .entry)) book trades contract count price) in
         r ≡ numberOf cause) ⌝ }
 {
-    let standing = desk.standing;
-    if !standing::is_trading(standing) {
-        return 4;
+    let as_ordered = order_refusal(desk, count, price);
+    if as_ordered != 0 {
+        return as_ordered;
     }
-    if standing::is_terminated(standing) {
-        return 5;
+    let of_that_name = named_refusal(desk, table, place, contract);
+    if of_that_name != 0 {
+        return of_that_name;
     }
-    if count.0 == 0 {
-        return 7;
-    }
-    if price.0 > PRICE_LIMIT {
-        return 8;
-    }
-    if past_due(desk, table, place, contract) {
-        return 9;
-    }
-    if place >= desk.trades {
-        return 10;
-    }
-    if flat::sheets_at(table, place) < count.0 {
-        return 13;
-    }
-    let nets = desk.nets;
-    let amount = amount_at(calendar, desk, table, place, contract, count, price);
-    if !nets::today_fit(nets::today_plus(nets, amount)) {
-        return 14;
-    }
-    0
+    take_refusal(calendar, desk, table, place, contract, count, price)
 }
 
 pub fn early(

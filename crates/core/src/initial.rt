@@ -8,10 +8,11 @@ ghost use lib.ListN.{length};
 ghost use lib.Signed.{ltZ};
 ghost use Rattle.money.specs.Limits.{calendarLimit, termLimit, tradeLimit};
 ghost use Rattle.money.specs.Causes.{firstOf, numberOf};
-ghost use Rattle.rules.specs.Trades.{onTable};
+ghost use Rattle.rules.specs.Days.{dayNumber};
+ghost use Rattle.rules.specs.Trades.{inUse, onTable};
 ghost use Rattle.rules.specs.Vault.{headroom};
-ghost use Rattle.rules.specs.Initial.{badCount, badPrices, badDue, begun, roomCauses, initialCauses, initialBook, initialTable};
-ghost use Rattle.core.specs.Flat.{HasSlots, Rows, rowsOf, bookOf, FitsHeld, appliedAt, tradesTo, tradesOf, appliedBy, tableBy, heldLength};
+ghost use Rattle.rules.specs.Initial.{badCount, badPrices, badDue, timeCauses, termCauses, slotCauses, sheetCauses, begun, initialCauses, initialBook, initialTable};
+ghost use Rattle.core.specs.Flat.{HasSlots, Rows, rowsOf, bookOf, FitsHeld, appliedAt, tradesOf, appliedBy, tableBy, heldLength};
 ghost use Rattle.core.specs.Figures.{outstandingAt};
 use crate::days;
 use crate::flat;
@@ -28,6 +29,7 @@ use money::limits::PRICE_LIMIT;
 use money::limits::TRADE_LIMIT;
 use money::units::Sheets;
 use money::units::Ticks;
+use rules::book::Day;
 use rules::limits::AHEAD_LIMIT;
 use rules::trade::Contract;
 use rules::trade::Terms;
@@ -54,10 +56,11 @@ fn bad_prices(price: Ticks, fallback: Ticks) -> bool
     fallback.0 > PRICE_LIMIT
 }
 
-fn bad_due(calendar: &[u32], today: u32, due: u32) -> bool
-    requires { ⌜ (length (now calendar) ≤ calendarLimit) × (today < termLimit) ⌝ }
-    ensures { λ r. ⌜ r ≡ badDue (now (calendar .entry)) today due ⌝ }
+fn bad_due(calendar: &[u32], day: Day, due: u32) -> bool
+    requires { ⌜ (length (now calendar) ≤ calendarLimit) × (dayNumber day < termLimit) ⌝ }
+    ensures { λ r. ⌜ r ≡ badDue (now (calendar .entry)) (dayNumber day) due ⌝ }
 {
+    let today = days::day_number(day);
     if due <= today {
         return true;
     }
@@ -69,7 +72,7 @@ fn bad_due(calendar: &[u32], today: u32, due: u32) -> bool
 
 fn is_taken(table: &[u64], count: usize, contract: Contract) -> bool
     requires { ⌜ HasSlots (now table) count ⌝ }
-    ensures { λ r. ⌜ r ≡ onTable contract (tradesTo (now (table .entry)) count) ⌝ }
+    ensures { λ r. ⌜ r ≡ onTable contract (inUse count (tradesOf (now (table .entry)))) ⌝ }
 {
     trades::place_of(table, count, contract) < count
 }
@@ -103,7 +106,56 @@ fn lacks_headroom(
     headroom::above_headroom(desk.size.0, value, outstanding, count)
 }
 
-fn room_refusal(
+// The causes, group by group as the rules have them: when a trade may begin, its prices and its due day, the table's room, and
+// headroom's and the net's.
+fn time_refusal(desk: Desk) -> u8
+    ensures { λ r. ⌜ ((rows : Rows) → r ≡ numberOf (firstOf (timeCauses (bookOf desk rows)))) ⌝ }
+{
+    let standing = desk.standing;
+    if !standing::is_trading(standing) {
+        return 4;
+    }
+    if standing::is_terminated(standing) {
+        return 5;
+    }
+    if standing::is_suspended(standing) {
+        return 6;
+    }
+    0
+}
+
+fn term_refusal(calendar: &[u32], desk: Desk, terms: Terms) -> u8
+    requires { ⌜ (length (now calendar) ≤ calendarLimit) × (dayNumber (desk .standing .day) < termLimit) ⌝ }
+    ensures { λ r. ⌜ ((rows : Rows) → r ≡ numberOf (firstOf (termCauses (now (calendar .entry)) (bookOf desk rows) terms))) ⌝ }
+{
+    let price = terms.price;
+    let fallback = terms.fallback;
+    if bad_prices(price, fallback) {
+        return 8;
+    }
+    let standing = desk.standing;
+    let day = standing.day;
+    if bad_due(calendar, day, terms.due) {
+        return 9;
+    }
+    0
+}
+
+fn slot_refusal(desk: Desk, table: &[u64], terms: Terms) -> u8
+    requires { ⌜ HasSlots (now table) (desk .trades) ⌝ }
+    ensures { λ r. ⌜ ((rows : Rows) → r ≡ numberOf (firstOf (slotCauses (bookOf desk rows) (tradesOf (now (table .entry))) terms))) ⌝ }
+{
+    let contract = terms.contract;
+    if is_taken(table, desk.trades, contract) {
+        return 10;
+    }
+    if is_full(table, desk.trades) {
+        return 11;
+    }
+    0
+}
+
+fn sheet_refusal(
     calendar: &[u32],
     desk: Desk,
     held: &[u64],
@@ -117,24 +169,15 @@ fn room_refusal(
         × (outstanding ≡ outstandingAt desk trades)
         × (terms .sheets .0 ≤ tradeLimit) ⌝ }
     ensures { λ r.
-        let trades = tradesOf (now (table .entry)) in
         ⌜ ((kinds units : List ℕ) →
         let book = bookOf desk (rowsOf (now (held .entry)) kinds units) in
-        let cause = firstOf (roomCauses book trades terms) in
-        r ≡ numberOf cause) ⌝ }
+        r ≡ numberOf (firstOf (sheetCauses book (tradesOf (now (table .entry))) terms))) ⌝ }
 {
-    let contract = terms.contract;
-    if is_taken(table, desk.trades, contract) {
-        return 10;
-    }
-    if is_full(table, desk.trades) {
-        return 11;
-    }
     if lacks_headroom(calendar, desk, held, table, outstanding, terms.sheets.0) {
         return 12;
     }
     let nets = desk.nets;
-    if !nets::today_fit(nets::today_less(nets, 10_000 * terms.sheets.0)) {
+    if nets::over_less(nets, 10_000 * terms.sheets.0) {
         return 14;
     }
     0
@@ -160,29 +203,22 @@ fn initial_refusal(
         let cause = firstOf (initialCauses (now (calendar .entry)) book trades terms) in
         r ≡ numberOf cause) ⌝ }
 {
-    let standing = desk.standing;
-    if !standing::is_trading(standing) {
-        return 4;
-    }
-    if standing::is_terminated(standing) {
-        return 5;
-    }
-    if standing::is_suspended(standing) {
-        return 6;
+    let at_this_time = time_refusal(desk);
+    if at_this_time != 0 {
+        return at_this_time;
     }
     if bad_count(terms.sheets.0) {
         return 7;
     }
-    let price = terms.price;
-    let fallback = terms.fallback;
-    if bad_prices(price, fallback) {
-        return 8;
+    let on_these_terms = term_refusal(calendar, desk, terms);
+    if on_these_terms != 0 {
+        return on_these_terms;
     }
-    let day = standing.day;
-    if bad_due(calendar, days::day_number(day), terms.due) {
-        return 9;
+    let for_a_slot = slot_refusal(desk, table, terms);
+    if for_a_slot != 0 {
+        return for_a_slot;
     }
-    room_refusal(calendar, desk, held, table, outstanding, terms)
+    sheet_refusal(calendar, desk, held, table, outstanding, terms)
 }
 
 // The record of a trade that begins today.

@@ -2,8 +2,10 @@
 ghost use mathlib.Core.Path.{_≡_};
 ghost use mathlib.Core.Bool.{true};
 ghost use Prim.Native.Nat.{_≤_};
+ghost use lib.Dec.{ltb};
 ghost use lib.IntN.{pos, negℤ, natAbs, subℕ, _+ℤ_, _-ℤ_};
 ghost use lib.Signed.{ltZ};
+ghost use Rattle.rules.specs.Limits.{netLimit};
 ghost use Rattle.rules.specs.Fit.{netFit};
 use rules::book::Nets;
 use rules::limits::NET_LIMIT;
@@ -96,6 +98,21 @@ pub fn today_plus(nets: Nets, amount: u64) -> Nets
         today: plus(nets.today, signed(amount)),
         cleared: nets.cleared,
     }
+}
+
+// Whether today's net would leave its limit with an amount taken from it, or joining it.
+pub fn over_less(nets: Nets, amount: u64) -> bool
+    requires { ⌜ (netFit (nets .today) ≡ true) × (amount ≤ 500000000000000000) ⌝ }
+    ensures { λ r. ⌜ r ≡ ltb netLimit (natAbs (nets .today -ℤ pos amount)) ⌝ }
+{
+    !today_fit(today_less(nets, amount))
+}
+
+pub fn over_plus(nets: Nets, amount: u64) -> bool
+    requires { ⌜ (netFit (nets .today) ≡ true) × (amount ≤ 500000000000000000) ⌝ }
+    ensures { λ r. ⌜ r ≡ ltb netLimit (natAbs (nets .today +ℤ pos amount)) ⌝ }
+{
+    !today_fit(today_plus(nets, amount))
 }
 
 // A redemption on termination joins the cleared net.

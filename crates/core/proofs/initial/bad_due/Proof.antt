@@ -6,20 +6,24 @@ use borrow.Author.Tests.{le-leb, lt-leb, lt-ltb, le-ltb}
 use Rattle.core.proofs.initial.bad_due.Statement.{statement}
 use Rattle.core.proofs.initial.bad_due.Tie as tie
 
+day-number-requires : tie.Need-day-number-requires
+day-number-requires c κs = search needs
+
 returns : tie.Need-returns
-returns c = rw (le-leb _ _ (c .if1 .taken)) refl
+returns c = rw (← c .before .day-number .ensures, le-leb _ _ (c .if1 .taken)) refl
 
 add-if2 : tie.Need-add-if2
 add-if2 c = omega arith
 
 returns-2 : tie.Need-returns-2
-returns-2 c = rw (lt-leb _ _ (c .before .if1 .left), lt-ltb _ _ (c .if2 .taken)) refl
+returns-2 c = rw (← c .before .before .day-number .ensures, lt-leb _ _ (c .before .if1 .left), lt-ltb _ _ (c .if2 .taken)) refl
 
 matures-requires : tie.Need-matures-requires
 matures-requires c κs = search needs
 
 returns-3 : tie.Need-returns-3
-returns-3 c = rw (lt-leb _ _ (c .before .before .if1 .left), le-ltb _ _ (c .before .if2 .left)) (ap not (c .matures .ensures))
+returns-3 c =
+    rw (← c .before .before .before .day-number .ensures, lt-leb _ _ (c .before .before .if1 .left), le-ltb _ _ (c .before .if2 .left)) (ap not (c .matures .ensures))
 
 pub bad-due-spec : {M : Type 1} → statement M
-bad-due-spec = tie.close (tie.spec returns add-if2 returns-2 matures-requires returns-3)
+bad-due-spec = tie.close (tie.spec day-number-requires returns add-if2 returns-2 matures-requires returns-3)

@@ -1,82 +1,91 @@
+use mathlib.Core.Path.{_≡_, refl}
+use mathlib.Core.List.{List, _++_}
+use Prim.Native.Nat.{ℕ}
 use borrow.Author.Needs.{needs}
-use Rattle.rules.specs.Initial.{initialCauses}
-use Rattle.core.proofs.Column.{column, applies, passes, asked, asked-not, denied-not}
+use Rattle.money.specs.Causes.{Cause, firstOf, numberOf}
+use Rattle.rules.specs.Initial.{timeCauses, countCauses, initialCauses}
+use Rattle.core.specs.Flat.{bookOf}
+use Rattle.core.proofs.Column.{applies, passes, asked, asked-not}
+use Rattle.core.proofs.Groups.{group-applies, group-passes}
+use Rattle.core.proofs.Refusing.{noRows}
+use Rattle.core.proofs.FitFacts.{fit-keeps}
 use Rattle.core.proofs.InitialLaws.{today-within, count-within}
 use Rattle.core.proofs.initial.initial_refusal.Statement.{statement}
 use Rattle.core.proofs.initial.initial_refusal.Tie as tie
 
-is-trading-requires : tie.Need-is-trading-requires
-is-trading-requires c κs = search needs
+-- neither the time nor the count refuses, and the other causes decide
+module _ (c : tie.Else2) where
+  abbrev start : tie.Start
+  start = c .before .before .before .before .before .before .before
+
+  past-count : (bs : List Cause) (n : ℕ) → n ≡ numberOf (firstOf bs)
+      → n ≡ numberOf (firstOf (timeCauses (bookOf (start .args .desk) noRows) ++ (countCauses (start .args .terms) ++ bs)))
+  past-count bs n e =
+      group-passes _ refl (c .before .before .before .time-refusal .ensures noRows) (c .before .before .if1 .left) _ _
+      (passes _ _ _ (asked-not (c .before .bad-count .ensures) (c .if2 .left)) e)
+
+time-refusal-requires : tie.Need-time-refusal-requires
+time-refusal-requires c κs = search needs
 
 returns : tie.Need-returns
 unfolding initialCauses
-returns c kinds units = search column depth 20
-
-is-terminated-requires : tie.Need-is-terminated-requires
-is-terminated-requires c κs = search needs
-
-returns-2 : tie.Need-returns-2
-unfolding initialCauses
-returns-2 c kinds units = search column depth 20
-
-is-suspended-requires : tie.Need-is-suspended-requires
-is-suspended-requires c κs = search needs
-
-returns-3 : tie.Need-returns-3
-unfolding initialCauses
-returns-3 c kinds units = search column depth 20
+returns c kinds units = group-applies _ _ _ (c .before .time-refusal .ensures noRows) (c .if1 .taken)
 
 bad-count-requires : tie.Need-bad-count-requires
 bad-count-requires c κs = search needs
 
+returns-2 : tie.Need-returns-2
+unfolding initialCauses
+returns-2 c kinds units =
+    group-passes _ refl (c .before .before .before .time-refusal .ensures noRows) (c .before .before .if1 .left) _ _
+    (applies _ _ (asked (c .before .bad-count .ensures) (c .if2 .taken)))
+
+term-refusal-requires : tie.Need-term-refusal-requires
+term-refusal-requires c κs =
+    let s = start c in (s .pre .2, today-within _ _ _ (s .pre .1 .fits) (s .pre .2))
+
+returns-3 : tie.Need-returns-3
+unfolding initialCauses
+returns-3 c kinds units = past-count (c .before .before) _ _ (group-applies _ _ _ (c .before .term-refusal .ensures noRows) (c .if3 .taken))
+
+slot-refusal-requires : tie.Need-slot-refusal-requires
+slot-refusal-requires c κs = fit-keeps _ _ _ (start (c .before .before) .pre .1 .fits) .room
+
 returns-4 : tie.Need-returns-4
 unfolding initialCauses
-returns-4 c kinds units = search column depth 20
+returns-4 c kinds units =
+    let terms = c .before .before in
+    past-count (terms .before .before) _ _
+    (group-passes _ refl (terms .before .term-refusal .ensures noRows) (terms .if3 .left) _ _
+    (group-applies _ _ _ (c .before .slot-refusal .ensures noRows) (c .if4 .taken)))
 
-bad-prices-requires : tie.Need-bad-prices-requires
-bad-prices-requires c κs = search needs
+sheet-refusal-requires : tie.Need-sheet-refusal-requires
+sheet-refusal-requires c κs =
+    let counted = c .before .before .before .before in
+    let s = start counted in
+    (s .pre .0, s .pre .1, s .pre .3, count-within _ (asked-not (counted .before .bad-count .ensures) (counted .if2 .left)))
 
 returns-5 : tie.Need-returns-5
 unfolding initialCauses
-returns-5 c kinds units = search column depth 20
-
-day-number-requires : tie.Need-day-number-requires
-day-number-requires c κs = search needs
-
-bad-due-requires : tie.Need-bad-due-requires
-bad-due-requires c κs =
-    let s = c .before .before .before .before .before .before .before .before .before .before .before .before .before .before .before .before .before in
-    (s .pre .2, rw (c .day-number .ensures) (today-within _ _ _ (s .pre .1 .fits) (s .pre .2)))
-
-returns-6 : tie.Need-returns-6
-unfolding initialCauses
-returns-6 c kinds units = passes _ _ _ (denied-not (c .before .before .before .before .before .before .before .before .before .before .before .before .before .before .is-trading .ensures) (c .before .before .before .before .before .before .before .before .before .before .before .before .before .if1 .left)) (passes _ _ _ (asked-not (c .before .before .before .before .before .before .before .before .before .before .before .before .is-terminated .ensures) (c .before .before .before .before .before .before .before .before .before .before .before .if2 .left)) (passes _ _ _ (asked-not (c .before .before .before .before .before .before .before .before .before .before .is-suspended .ensures) (c .before .before .before .before .before .before .before .before .before .if3 .left)) (passes _ _ _ (asked-not (c .before .before .before .before .before .before .before .before .bad-count .ensures) (c .before .before .before .before .before .before .before .if4 .left)) (passes _ _ _ (asked-not (c .before .before .before .before .bad-prices .ensures) (c .before .before .before .if5 .left)) (applies _ _ (asked (rw (c .before .before .day-number .ensures) at (c .before .bad-due .ensures)) (c .if6 .taken)))))))
-
-room-refusal-requires : tie.Need-room-refusal-requires
-room-refusal-requires c κs =
-    let s = c .before .before .before .before .before .before .before .before .before .before .before .before .before .before .before .before .before .before .before in
-    (s .pre .0, s .pre .1, s .pre .3, count-within _ (asked-not (c .before .before .before .before .before .before .before .before .bad-count .ensures) (c .before .before .before .before .before .before .before .if4 .left)))
-
-returns-7 : tie.Need-returns-7
-unfolding initialCauses
-returns-7 c kinds units = passes _ _ _ (denied-not (c .before .before .before .before .before .before .before .before .before .before .before .before .before .before .before .is-trading .ensures) (c .before .before .before .before .before .before .before .before .before .before .before .before .before .before .if1 .left)) (passes _ _ _ (asked-not (c .before .before .before .before .before .before .before .before .before .before .before .before .before .is-terminated .ensures) (c .before .before .before .before .before .before .before .before .before .before .before .before .if2 .left)) (passes _ _ _ (asked-not (c .before .before .before .before .before .before .before .before .before .before .before .is-suspended .ensures) (c .before .before .before .before .before .before .before .before .before .before .if3 .left)) (passes _ _ _ (asked-not (c .before .before .before .before .before .before .before .before .before .bad-count .ensures) (c .before .before .before .before .before .before .before .before .if4 .left)) (passes _ _ _ (asked-not (c .before .before .before .before .before .bad-prices .ensures) (c .before .before .before .before .if5 .left)) (passes _ _ _ (asked-not (rw (c .before .before .before .day-number .ensures) at (c .before .before .bad-due .ensures)) (c .before .if6 .left)) (c .room-refusal .ensures kinds units))))))
+returns-5 c kinds units =
+    let slots = c .before in
+    let terms = slots .before .before in
+    past-count (terms .before .before) _ _
+    (group-passes _ refl (terms .before .term-refusal .ensures noRows) (terms .if3 .left) _ _
+    (group-passes _ refl (slots .before .slot-refusal .ensures noRows) (slots .if4 .left) _ _
+    (c .sheet-refusal .ensures kinds units)))
 
 pub initial-refusal-spec : {M : Type 1} → statement M
 initial-refusal-spec =
     tie.close
     (tie.spec
-    is-trading-requires
+    time-refusal-requires
     returns
-    is-terminated-requires
-    returns-2
-    is-suspended-requires
-    returns-3
     bad-count-requires
+    returns-2
+    term-refusal-requires
+    returns-3
+    slot-refusal-requires
     returns-4
-    bad-prices-requires
-    returns-5
-    day-number-requires
-    bad-due-requires
-    returns-6
-    room-refusal-requires
-    returns-7)
+    sheet-refusal-requires
+    returns-5)

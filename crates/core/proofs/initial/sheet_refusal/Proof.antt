@@ -1,0 +1,30 @@
+use borrow.Author.Needs.{needs}
+use native.Mathlib.Omega.{arith}
+use Rattle.money.specs.Money.{principal}
+use Rattle.core.proofs.Column.{column}
+use Rattle.core.proofs.FitFacts.{fit-net}
+use Rattle.core.proofs.initial.sheet_refusal.Statement.{statement}
+use Rattle.core.proofs.initial.sheet_refusal.Tie as tie
+
+lacks-headroom-requires : tie.Need-lacks-headroom-requires
+lacks-headroom-requires c κs = search needs
+
+returns : tie.Need-returns
+returns c kinds units = let short = c .before .lacks-headroom .ensures kinds units in search column depth 20
+
+mul-over-less : tie.Need-mul-over-less
+mul-over-less c = omega arith
+
+over-less-requires : tie.Need-over-less-requires
+over-less-requires c κs = (fit-net _ _ _ (c .before .before .before .before .before .before .before .pre .1 .fits), omega arith)
+
+returns-2 : tie.Need-returns-2
+unfolding principal
+returns-2 c kinds units = let short = c .before .before .before .before .before .lacks-headroom .ensures kinds units in search column depth 20
+
+returns-3 : tie.Need-returns-3
+unfolding principal
+returns-3 c kinds units = let short = c .before .before .before .before .before .lacks-headroom .ensures kinds units in search column depth 20
+
+pub sheet-refusal-spec : {M : Type 1} → statement M
+sheet-refusal-spec = tie.close (tie.spec lacks-headroom-requires returns mul-over-less over-less-requires returns-2 returns-3)
