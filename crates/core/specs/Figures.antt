@@ -4,11 +4,12 @@ use Prim.Native.Nat.{ℕ, _+_, max}
 use mathlib.Core.Bool.{true, false, cond}
 use mathlib.Core.Path.{_≡_}
 use mathlib.Core.List.{List, [], _∷_}
+use Rattle.money.specs.Days.{Calendar}
 use Rattle.rules.specs.Trades.{inUse, outstanding}
 use Rattle.rules.specs.Vault.{value, outstandingOf}
 use Rattle.rules.specs.Fit.{tradeFit, allTrades}
 use Rattle.core.specs.Types.{Trade, Book, Event, Open, FundIn, FundOut, Size, Rate, Pledge, Freeze, Withdraw, Initial, Early, Pay, Close, Entry, Known, Undecodable}
-use Rattle.core.specs.Flat.{vaultOf, securitiesOf}
+use Rattle.core.specs.Flat.{FitsWhole, FitsHeld, vaultOf, securitiesOf}
 use Rattle.desk.specs.declared.state.Desk.{Desk}
 pub use Rattle.core.specs.declared.figures.Figures.{Figures}
 pub use Rattle.core.specs.declared.trades.Gathered.{Gathered}
@@ -23,6 +24,15 @@ outstandingAt desk table = outstanding (inUse (desk .trades) table)
 
 abbrev pub figuresAt : Desk → (held : List ℕ) → List Trade → Figures
 figuresAt desk held table = record { outstanding = outstandingAt desk table; value = value (vaultOf (desk .guarantee) (securitiesOf held)) }
+
+-- what the core may rely on where O comes with the book
+pub record CountedWhole (calendar : Calendar) (desk : Desk) (held kinds units : List ℕ) (table : List Trade) (number : ℕ) : Type 0 where
+  pub book : FitsWhole calendar desk held kinds units table
+  pub counted : number ≡ outstandingAt desk table
+
+pub record CountedHeld (calendar : Calendar) (desk : Desk) (held : List ℕ) (table : List Trade) (number : ℕ) : Type 0 where
+  pub book : FitsHeld calendar desk held table
+  pub counted : number ≡ outstandingAt desk table
 
 -- what is known of them after an event that is done
 abbrev pub Moved : Event → (before after : Figures) → Type 0

@@ -8,17 +8,20 @@ use mathlib.Core.List.{List, [], _∷_, _++_, map}
 use mathlib.Core.Option.{Option, none, some}
 use lib.Dec.{leb}
 use lib.ListN.{length, getD}
-use Rattle.money.specs.Limits.{termLimit}
+use Rattle.money.specs.Limits.{calendarLimit, priceLimit, termLimit}
+use Rattle.money.specs.declared.units.Ticks.{Ticks}
 use Rattle.money.specs.Units.{sheets, ticks}
 use Rattle.money.specs.Days.{Calendar}
-use Rattle.rules.specs.Limits.{capacityLimit}
-use Rattle.rules.specs.Book.{answer}
+use Rattle.rules.specs.Limits.{capacityLimit, applicationLimit}
+use Rattle.rules.specs.Book.{answer, isClosed}
+use Rattle.rules.specs.Days.{following, followed}
+use Rattle.rules.specs.Open.{turnsTerminated, openedStanding}
 use Rattle.rules.specs.Pay.{fails, afterPay, payNumber}
 use Rattle.rules.specs.Close.{Evening, closeAnswer, closedBook}
 use Rattle.rules.specs.Step.{Outcome}
 use Rattle.rules.specs.Trades.{same}
-use Rattle.rules.specs.Fit.{tradeFit, allTrades, fit}
-use Rattle.core.specs.Types.{Security, Guarantee, Vault, Book, Applied, Contract, Trade}
+use Rattle.rules.specs.Fit.{securitiesFit, cashFit, withdrawalsFit, tradeFit, allTrades, fit}
+use Rattle.core.specs.Types.{Security, Standing, Guarantee, Vault, Book, Applied, Contract, Trade}
 use Rattle.desk.specs.declared.state.Desk.{Desk}
 use Rattle.desk.specs.declared.done.Done.{Done}
 use Rattle.core.specs.declared.evening.Evened.{Evened}
@@ -128,15 +131,26 @@ appliedAt done rows = record { answer = done .answer; book = bookOf (done .desk)
 abbrev pub eveningAt : Evened → List Security → Evening
 eveningAt evened securities = record { own = evened .own; vault = vaultOf (evened .guarantee) securities; done = evened .done; dropped = evened .dropped }
 
--- what the core may rely on where it does not have the rows: some rows make the desk a fit book
-pub record Fits (calendar : Calendar) (desk : Desk) (table : List Trade) : Type 0 where
-  pub rows : Rows
-  pub fits : fit calendar (bookOf desk rows) table ≡ true
+-- what the core may rely on: a calendar within its limit, rows of their lengths, and that they make the desk a fit book
+pub record FitsWhole (calendar : Calendar) (desk : Desk) (held kinds units : List ℕ) (table : List Trade) : Type 0 where
+  pub held-long : length held ≡ heldLength
+  pub kinds-long : length kinds ≡ applicationLimit
+  pub units-long : length units ≡ applicationLimit
+  pub few : length calendar ≤ calendarLimit
+  pub fits : fit calendar (bookOf desk (rowsOf held kinds units)) table ≡ true
 
+-- the same where it has the securities only, and where it has no rows: some rows make it so
 pub record FitsHeld (calendar : Calendar) (desk : Desk) (held : List ℕ) (table : List Trade) : Type 0 where
   pub kinds : List ℕ
   pub units : List ℕ
+  pub held-long : length held ≡ heldLength
+  pub few : length calendar ≤ calendarLimit
   pub fits : fit calendar (bookOf desk (rowsOf held kinds units)) table ≡ true
+
+pub record Fits (calendar : Calendar) (desk : Desk) (table : List Trade) : Type 0 where
+  pub rows : Rows
+  pub few : length calendar ≤ calendarLimit
+  pub fits : fit calendar (bookOf desk rows) table ≡ true
 
 -- where a contract's trade stands, or how many trades there are
 unfoldable pub placeOf : Contract → List Trade → ℕ
@@ -160,6 +174,38 @@ pub record Redeemable (table : List ℕ) (count payment : ℕ) : Type 0 where
   pub kept : Kept table count
   pub begun : allTrades (λ trade. leb (trade .first) payment) (tradesTo table count) ≡ true
   pub term : payment ≤ termLimit
+
+-- Open: there is a day to go to, and this is how the firm stands on it
+pub record Opening (calendar : Calendar) (desk : Desk) (table : List Trade) (after : Standing) : Type 0 where
+  pub book : Fits calendar desk table
+  pub follows : followed calendar (following calendar (desk .standing .day)) ≡ true
+  pub opened : after ≡ openedStanding calendar (desk .standing)
+
+-- and its permission ends there
+pub record Ending (calendar : Calendar) (desk : Desk) (table : List Trade) (after : Standing) : Type 0 where
+  pub opening : Opening calendar desk table after
+  pub closed : isClosed (desk .standing .phase) ≡ true
+  pub ended : turnsTerminated (desk .standing) ≡ true
+
+-- Early: the place is the contract's
+pub record Named (calendar : Calendar) (desk : Desk) (table : List ℕ) (place : ℕ) (contract : Contract) : Type 0 where
+  pub book : Fits calendar desk (tradesOf table)
+  pub stands : place ≡ placeOf contract (tradesTo table (desk .trades))
+
+-- where its trade is on the table, and the price within its limit
+pub record Running (calendar : Calendar) (desk : Desk) (table : List ℕ) (place : ℕ) (contract : Contract) (price : Ticks) : Type 0 where
+  pub named : Named calendar desk table place contract
+  pub below : place < desk .trades
+  pub cheap : price .0 ≤ priceLimit
+
+-- Close: the evening of a book that is fit
+pub record EveningFits (desk : Desk) (held kinds units : List ℕ) : Type 0 where
+  pub held-long : length held ≡ heldLength
+  pub kinds-long : length kinds ≡ applicationLimit
+  pub units-long : length units ≡ applicationLimit
+  pub withdrawals : withdrawalsFit (record { kinds = kinds; units = units; count = desk .applications }) ≡ true
+  pub securities : securitiesFit (vaultOf (desk .guarantee) (securitiesOf held)) ≡ true
+  pub cash : cashFit (desk .cash) (desk .guarantee) ≡ true
 
 -- ---- what an event gives back, by the cause that applies: what it does, or the number and the book as it was
 

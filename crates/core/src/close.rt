@@ -6,16 +6,16 @@ ghost use mathlib.Core.List.{List};
 ghost use mathlib.Core.Option.{none};
 ghost use lib.IntN.{pos};
 ghost use lib.ListN.{length};
-ghost use Rattle.money.specs.Limits.{calendarLimit, cashLimit};
+ghost use Rattle.money.specs.Limits.{cashLimit};
 ghost use Rattle.money.specs.Causes.{firstOf};
 ghost use Rattle.money.specs.Days.{Calendar};
 ghost use Rattle.rules.specs.Limits.{applicationLimit};
-ghost use Rattle.rules.specs.Fit.{securitiesFit, cashFit, withdrawalsFit, fit};
+ghost use Rattle.rules.specs.Fit.{securitiesFit};
 ghost use Rattle.rules.specs.Book.{noApplications};
 ghost use Rattle.rules.specs.Close.{mayClose, maturedTrades, maturedSheets, clearedAtClose, served, evening as eveningOf, shortMore, shortAtClose, closedStanding, closeCauses, closedBook, closedTable};
 ghost use Rattle.rules.specs.Trades.{outstanding, remaining};
 ghost use Rattle.core.specs.Types.{Trade};
-ghost use Rattle.core.specs.Flat.{Rows, vaultOf, securitiesOf, rowsOf, bookOf, eveningAt, appliedAt, tradesOf, closedBy, tableBy, Kept, heldLength};
+ghost use Rattle.core.specs.Flat.{FitsWhole, EveningFits, Rows, vaultOf, securitiesOf, rowsOf, bookOf, eveningAt, appliedAt, tradesOf, closedBy, tableBy, Kept, heldLength};
 use crate::days;
 use crate::evening;
 use crate::evening::Evened;
@@ -108,11 +108,7 @@ fn clear(kinds: &mut [u8], units: &mut [u64])
 
 // The evening's end, with the sheets of the trades that part (a) leaves.
 fn evening_end(desk: Desk, held: &mut [u64], kinds: &[u8], units: &[u64], left: u64) -> Evened
-    requires { ⌜ (length (now held) ≡ heldLength) × (length (now kinds) ≡ applicationLimit) × (length (now units) ≡ applicationLimit) ⌝ }
-    requires { let book = bookOf desk (rowsOf (now held) (now kinds) (now units)) in
-        ⌜ (withdrawalsFit (book .withdrawals) ≡ true)
-        × (securitiesFit (book .vault) ≡ true)
-        × (cashFit (desk .cash) (desk .guarantee) ≡ true) ⌝ }
+    requires { ⌜ EveningFits desk (now held) (now kinds) (now units) ⌝ }
     ensures { λ r.
         let book = bookOf desk (rowsOf (now (held .entry)) (now (kinds .entry)) (now (units .entry))) in
         ⌜ ((trades : List Trade) → left ≡ outstanding trades → eveningAt r (securitiesOf (now (held .exit))) ≡ eveningOf book trades) ⌝ }
@@ -187,11 +183,7 @@ fn closed(
     matured: u64,
     cleared: Nets,
 ) -> Done
-    requires { ⌜ (length (now held) ≡ heldLength) × (length (now kinds) ≡ applicationLimit) × (length (now units) ≡ applicationLimit) × (Kept (now table) (desk .trades)) ⌝ }
-    requires { let book = bookOf desk (rowsOf (now held) (now kinds) (now units)) in
-        ⌜ (withdrawalsFit (book .withdrawals) ≡ true)
-        × (securitiesFit (book .vault) ≡ true)
-        × (cashFit (desk .cash) (desk .guarantee) ≡ true) ⌝ }
+    requires { ⌜ (EveningFits desk (now held) (now kinds) (now units)) × (Kept (now table) (desk .trades)) ⌝ }
     ensures { λ r.
         let book = bookOf desk (rowsOf (now (held .entry)) (now (kinds .entry)) (now (units .entry))) in
         let trades = tradesOf (now (table .entry)) in
@@ -223,11 +215,7 @@ pub fn close(
     units: &mut [u64],
     table: &mut [u64],
 ) -> Done
-    requires { ⌜ (length (now held) ≡ heldLength)
-        × (length (now kinds) ≡ applicationLimit)
-        × (length (now units) ≡ applicationLimit)
-        × (length (now calendar) ≤ calendarLimit)
-        × (fit (now calendar) (bookOf desk (rowsOf (now held) (now kinds) (now units))) (tradesOf (now table)) ≡ true) ⌝ }
+    requires { ⌜ FitsWhole (now calendar) desk (now held) (now kinds) (now units) (tradesOf (now table)) ⌝ }
     ensures { λ r.
         let book = bookOf desk (rowsOf (now (held .entry)) (now (kinds .entry)) (now (units .entry))) in
         let trades = tradesOf (now (table .entry)) in

@@ -1,15 +1,9 @@
 // The twelve events on a book: which function each is, and when none is asked.
 ghost use mathlib.Core.Path.{_≡_};
-ghost use mathlib.Core.Bool.{true};
-ghost use Prim.Native.Nat.{_≤_};
-ghost use lib.ListN.{length};
-ghost use Rattle.money.specs.Limits.{calendarLimit};
-ghost use Rattle.rules.specs.Limits.{applicationLimit};
-ghost use Rattle.rules.specs.Fit.{fit};
 ghost use Rattle.rules.specs.Step.{step};
 ghost use Rattle.core.specs.Types.{Known};
-ghost use Rattle.core.specs.Flat.{rowsOf, bookOf, appliedAt, tradesOf, appliedOf, heldLength};
-ghost use Rattle.core.specs.Figures.{outstandingAt};
+ghost use Rattle.core.specs.Flat.{rowsOf, bookOf, appliedAt, tradesOf, appliedOf};
+ghost use Rattle.core.specs.Figures.{CountedWhole};
 use crate::close;
 use crate::early;
 use crate::freeze;
@@ -38,13 +32,7 @@ fn event_on(
     outstanding: u64,
     event: Event,
 ) -> Done
-    requires { let trades = tradesOf (now table) in
-        ⌜ (length (now held) ≡ heldLength)
-        × (length (now kinds) ≡ applicationLimit)
-        × (length (now units) ≡ applicationLimit)
-        × (length (now calendar) ≤ calendarLimit)
-        × (fit (now calendar) (bookOf desk (rowsOf (now held) (now kinds) (now units))) trades ≡ true)
-        × (outstanding ≡ outstandingAt desk trades) ⌝ }
+    requires { ⌜ CountedWhole (now calendar) desk (now held) (now kinds) (now units) (tradesOf (now table)) outstanding ⌝ }
     ensures { λ r.
         let book = bookOf desk (rowsOf (now (held .entry)) (now (kinds .entry)) (now (units .entry))) in
         let trades = tradesOf (now (table .entry)) in
@@ -100,13 +88,7 @@ pub fn entry_on(
     outstanding: u64,
     entry: Entry,
 ) -> Done
-    requires { let trades = tradesOf (now table) in
-        ⌜ (length (now held) ≡ heldLength)
-        × (length (now kinds) ≡ applicationLimit)
-        × (length (now units) ≡ applicationLimit)
-        × (length (now calendar) ≤ calendarLimit)
-        × (fit (now calendar) (bookOf desk (rowsOf (now held) (now kinds) (now units))) trades ≡ true)
-        × (outstanding ≡ outstandingAt desk trades) ⌝ }
+    requires { ⌜ CountedWhole (now calendar) desk (now held) (now kinds) (now units) (tradesOf (now table)) outstanding ⌝ }
     ensures { λ r.
         let book = bookOf desk (rowsOf (now (held .entry)) (now (kinds .entry)) (now (units .entry))) in
         let trades = tradesOf (now (table .entry)) in

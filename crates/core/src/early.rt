@@ -1,11 +1,10 @@
 // 10 Early: takes sheets off a trade at the price given; the amount joins today's net.
 ghost use mathlib.Core.Path.{_≡_};
 ghost use Prim.Native.Nat.{_≤_, _<_};
-ghost use lib.ListN.{length};
-ghost use Rattle.money.specs.Limits.{calendarLimit, priceLimit, tradeLimit};
+ghost use Rattle.money.specs.Limits.{tradeLimit};
 ghost use Rattle.money.specs.Causes.{firstOf, numberOf};
 ghost use Rattle.rules.specs.Early.{earlyAmount, pastDue, orderCauses, namedCauses, takeCauses, earlyCauses, earlyBook, earlyTable};
-ghost use Rattle.core.specs.Flat.{HasSlots, Rows, bookOf, Fits, appliedAt, tradesTo, tradesOf, placeOf, appliedBy, tableBy};
+ghost use Rattle.core.specs.Flat.{HasSlots, Rows, bookOf, Fits, Named, Running, appliedAt, tradesTo, tradesOf, placeOf, appliedBy, tableBy};
 use crate::days;
 use crate::flat;
 use crate::nets;
@@ -43,12 +42,7 @@ fn amount_at(
     count: Sheets,
     price: Ticks,
 ) -> u64
-    requires { ⌜ (Fits (now calendar) desk (tradesOf (now table)))
-        × (length (now calendar) ≤ calendarLimit)
-        × (place ≡ placeOf contract (tradesTo (now table) (desk .trades)))
-        × (place < desk .trades)
-        × (count .0 ≤ tradeLimit)
-        × (price .0 ≤ priceLimit) ⌝ }
+    requires { ⌜ (Running (now calendar) desk (now table) place contract price) × (count .0 ≤ tradeLimit) ⌝ }
     ensures { λ r.
         ⌜ ((rows : Rows) →
         r ≡ earlyAmount (now (calendar .entry)) (bookOf desk rows) (tradesOf (now (table .entry))) contract count price) ⌝ }
@@ -102,11 +96,7 @@ fn take_refusal(
     count: Sheets,
     price: Ticks,
 ) -> u8
-    requires { ⌜ (Fits (now calendar) desk (tradesOf (now table)))
-        × (length (now calendar) ≤ calendarLimit)
-        × (place ≡ placeOf contract (tradesTo (now table) (desk .trades)))
-        × (place < desk .trades)
-        × (price .0 ≤ priceLimit) ⌝ }
+    requires { ⌜ Running (now calendar) desk (now table) place contract price ⌝ }
     ensures { λ r.
         ⌜ ((rows : Rows) →
         r ≡ numberOf (firstOf (takeCauses (now (calendar .entry)) (bookOf desk rows) (tradesOf (now (table .entry))) contract count price))) ⌝ }
@@ -131,9 +121,7 @@ fn early_refusal(
     count: Sheets,
     price: Ticks,
 ) -> u8
-    requires { ⌜ (Fits (now calendar) desk (tradesOf (now table)))
-        × (length (now calendar) ≤ calendarLimit)
-        × (place ≡ placeOf contract (tradesTo (now table) (desk .trades))) ⌝ }
+    requires { ⌜ Named (now calendar) desk (now table) place contract ⌝ }
     ensures { λ r.
         let trades = tradesOf (now (table .entry)) in
         ⌜ ((rows : Rows) →
@@ -160,7 +148,7 @@ pub fn early(
     count: Sheets,
     price: Ticks,
 ) -> Done
-    requires { ⌜ (Fits (now calendar) desk (tradesOf (now table))) × (length (now calendar) ≤ calendarLimit) ⌝ }
+    requires { ⌜ Fits (now calendar) desk (tradesOf (now table)) ⌝ }
     ensures { λ r.
         let trades = tradesOf (now (table .entry)) in
         ⌜ ((rows : Rows) →

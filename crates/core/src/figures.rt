@@ -1,9 +1,8 @@
 // O and V of a book: counted over the table and the vault, or carried over an event that says how it moves them.
 ghost use mathlib.Core.Path.{_≡_};
-ghost use lib.ListN.{length};
 ghost use Rattle.rules.specs.Trades.{inUse, outstanding};
 ghost use Rattle.core.specs.Figures.{figuresAt, Moved, MovedBy};
-ghost use Rattle.core.specs.Flat.{FitsHeld, tradesOf, heldLength};
+ghost use Rattle.core.specs.Flat.{FitsHeld, tradesOf};
 use crate::trades;
 use crate::vault;
 use desk::state::Desk;
@@ -17,7 +16,7 @@ pub struct Figures {
 
 // Counted, over the trades in use and all kinds.
 pub fn figures_of(calendar: &[u32], desk: Desk, held: &[u64], table: &[u64]) -> Figures
-    requires { ⌜ (length (now held) ≡ heldLength) × (FitsHeld (now calendar) desk (now held) (tradesOf (now table))) ⌝ }
+    requires { ⌜ FitsHeld (now calendar) desk (now held) (tradesOf (now table)) ⌝ }
     ensures { λ r. ⌜ r ≡ figuresAt desk (now (held .entry)) (tradesOf (now (table .entry))) ⌝ }
 {
     let guarantee = desk.guarantee;
@@ -30,8 +29,7 @@ pub fn figures_of(calendar: &[u32], desk: Desk, held: &[u64], table: &[u64]) -> 
 // The vault has changed, and the table has not.
 fn revalued(calendar: &[u32], before: Figures, desk: Desk, held: &[u64], table: &[u64]) -> Figures
     requires { let trades = tradesOf (now table) in
-        ⌜ (length (now held) ≡ heldLength)
-        × (FitsHeld (now calendar) desk (now held) trades)
+        ⌜ (FitsHeld (now calendar) desk (now held) trades)
         × (outstanding (inUse (desk .trades) trades) ≡ before .outstanding) ⌝ }
     ensures { λ r. ⌜ r ≡ figuresAt desk (now (held .entry)) (tradesOf (now (table .entry))) ⌝ }
 {
@@ -52,8 +50,7 @@ fn figures_moved(
     table: &[u64],
 ) -> Figures
     requires { let trades = tradesOf (now table) in
-        ⌜ (length (now held) ≡ heldLength)
-        × (FitsHeld (now calendar) desk (now held) trades)
+        ⌜ (FitsHeld (now calendar) desk (now held) trades)
         × (Moved event before (figuresAt desk (now held) trades)) ⌝ }
     ensures { λ r. ⌜ r ≡ figuresAt desk (now (held .entry)) (tradesOf (now (table .entry))) ⌝ }
 {
@@ -93,8 +90,7 @@ pub fn figures_after(
     table: &[u64],
 ) -> Figures
     requires { let trades = tradesOf (now table) in
-        ⌜ (length (now held) ≡ heldLength)
-        × (FitsHeld (now calendar) desk (now held) trades)
+        ⌜ (FitsHeld (now calendar) desk (now held) trades)
         × (MovedBy entry number before (figuresAt desk (now held) trades)) ⌝ }
     ensures { λ r. ⌜ r ≡ figuresAt desk (now (held .entry)) (tradesOf (now (table .entry))) ⌝ }
 {

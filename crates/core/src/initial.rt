@@ -12,8 +12,8 @@ ghost use Rattle.rules.specs.Days.{dayNumber};
 ghost use Rattle.rules.specs.Trades.{inUse, onTable};
 ghost use Rattle.rules.specs.Vault.{headroom};
 ghost use Rattle.rules.specs.Initial.{badCount, badPrices, badDue, timeCauses, termCauses, slotCauses, sheetCauses, begun, initialCauses, initialBook, initialTable};
-ghost use Rattle.core.specs.Flat.{HasSlots, Rows, rowsOf, bookOf, FitsHeld, appliedAt, tradesOf, appliedBy, tableBy, heldLength};
-ghost use Rattle.core.specs.Figures.{outstandingAt};
+ghost use Rattle.core.specs.Flat.{HasSlots, Rows, rowsOf, bookOf, appliedAt, tradesOf, appliedBy, tableBy};
+ghost use Rattle.core.specs.Figures.{CountedHeld};
 use crate::days;
 use crate::flat;
 use crate::nets;
@@ -92,11 +92,7 @@ fn lacks_headroom(
     outstanding: u64,
     count: u64,
 ) -> bool
-    requires { let trades = tradesOf (now table) in
-        ⌜ (length (now held) ≡ heldLength)
-        × (FitsHeld (now calendar) desk (now held) trades)
-        × (outstanding ≡ outstandingAt desk trades)
-        × (count ≤ tradeLimit) ⌝ }
+    requires { ⌜ (CountedHeld (now calendar) desk (now held) (tradesOf (now table)) outstanding) × (count ≤ tradeLimit) ⌝ }
     ensures { λ r.
         ⌜ ((kinds units : List ℕ) →
         r ≡ ltZ (headroom (bookOf desk (rowsOf (now (held .entry)) kinds units)) (tradesOf (now (table .entry)))) (pos count)) ⌝ }
@@ -163,11 +159,7 @@ fn sheet_refusal(
     outstanding: u64,
     terms: Terms,
 ) -> u8
-    requires { let trades = tradesOf (now table) in
-        ⌜ (length (now held) ≡ heldLength)
-        × (FitsHeld (now calendar) desk (now held) trades)
-        × (outstanding ≡ outstandingAt desk trades)
-        × (terms .sheets .0 ≤ tradeLimit) ⌝ }
+    requires { ⌜ (CountedHeld (now calendar) desk (now held) (tradesOf (now table)) outstanding) × (terms .sheets .0 ≤ tradeLimit) ⌝ }
     ensures { λ r.
         ⌜ ((kinds units : List ℕ) →
         let book = bookOf desk (rowsOf (now (held .entry)) kinds units) in
@@ -191,11 +183,7 @@ fn initial_refusal(
     outstanding: u64,
     terms: Terms,
 ) -> u8
-    requires { let trades = tradesOf (now table) in
-        ⌜ (length (now held) ≡ heldLength)
-        × (FitsHeld (now calendar) desk (now held) trades)
-        × (length (now calendar) ≤ calendarLimit)
-        × (outstanding ≡ outstandingAt desk trades) ⌝ }
+    requires { ⌜ CountedHeld (now calendar) desk (now held) (tradesOf (now table)) outstanding ⌝ }
     ensures { λ r.
         let trades = tradesOf (now (table .entry)) in
         ⌜ ((kinds units : List ℕ) →
@@ -246,11 +234,7 @@ pub fn initial(
     outstanding: u64,
     terms: Terms,
 ) -> Done
-    requires { let trades = tradesOf (now table) in
-        ⌜ (length (now held) ≡ heldLength)
-        × (FitsHeld (now calendar) desk (now held) trades)
-        × (length (now calendar) ≤ calendarLimit)
-        × (outstanding ≡ outstandingAt desk trades) ⌝ }
+    requires { ⌜ CountedHeld (now calendar) desk (now held) (tradesOf (now table)) outstanding ⌝ }
     ensures { λ r.
         let trades = tradesOf (now (table .entry)) in
         ⌜ ((kinds units : List ℕ) →

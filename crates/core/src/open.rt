@@ -1,15 +1,12 @@
 // 1 Open: goes to the next trading day; on turning terminated every trade is redeemed at its fallback price.
 ghost use mathlib.Core.Path.{_≡_};
-ghost use mathlib.Core.Bool.{true};
 ghost use Prim.Native.Nat.{_≤_};
 ghost use lib.ListN.{length};
 ghost use Rattle.money.specs.Limits.{calendarLimit};
 ghost use Rattle.money.specs.Causes.{firstOf};
-ghost use Rattle.rules.specs.Book.{isClosed};
-ghost use Rattle.rules.specs.Days.{following, followed};
 ghost use Rattle.rules.specs.Open.{statusAtOpen, turnsTerminated, openedStanding, netWithFallbacks, openCauses, openedBook, openedTable};
 ghost use Rattle.core.specs.Types.{Normal, NotFailed, FailedOnce};
-ghost use Rattle.core.specs.Flat.{Rows, bookOf, Fits, appliedAt, tradesOf, appliedBy, tableBy};
+ghost use Rattle.core.specs.Flat.{Rows, bookOf, Fits, Opening, Ending, appliedAt, tradesOf, appliedBy, tableBy};
 use crate::days;
 use crate::nets;
 use crate::redemption;
@@ -101,9 +98,7 @@ fn turns_terminated(before: Standing, after: Standing) -> bool
 
 // Art. 72: every trade is redeemed whole at its fallback price on the day opened, into the cleared net.
 fn with_fallbacks(calendar: &[u32], desk: Desk, table: &[u64], after: Standing) -> Nets
-    requires { ⌜ (Fits (now calendar) desk (tradesOf (now table))) × (length (now calendar) ≤ calendarLimit) ⌝ }
-    requires { ⌜ (followed (now calendar) (following (now calendar) (desk .standing .day)) ≡ true)
-        × (after ≡ openedStanding (now calendar) (desk .standing)) ⌝ }
+    requires { ⌜ Opening (now calendar) desk (tradesOf (now table)) after ⌝ }
     ensures { λ r.
         let trades = tradesOf (now (table .entry)) in
         ⌜ ((rows : Rows) →
@@ -119,10 +114,7 @@ fn with_fallbacks(calendar: &[u32], desk: Desk, table: &[u64], after: Standing) 
 
 // On turning terminated the table is emptied, unless the net would leave its limit.
 fn terminated(calendar: &[u32], desk: Desk, table: &mut [u64], after: Standing) -> Done
-    requires { ⌜ (Fits (now calendar) desk (tradesOf (now table))) × (length (now calendar) ≤ calendarLimit) ⌝ }
-    requires { ⌜ (followed (now calendar) (following (now calendar) (desk .standing .day)) ≡ true)
-        × (after ≡ openedStanding (now calendar) (desk .standing)) ⌝ }
-    requires { ⌜ (isClosed (desk .standing .phase) ≡ true) × (turnsTerminated (desk .standing) ≡ true) ⌝ }
+    requires { ⌜ Ending (now calendar) desk (tradesOf (now table)) after ⌝ }
     ensures { λ r.
         let trades = tradesOf (now (table .entry)) in
         ⌜ ((rows : Rows) →
@@ -144,7 +136,7 @@ fn terminated(calendar: &[u32], desk: Desk, table: &mut [u64], after: Standing) 
 }
 
 pub fn open(calendar: &[u32], desk: Desk, table: &mut [u64]) -> Done
-    requires { ⌜ (Fits (now calendar) desk (tradesOf (now table))) × (length (now calendar) ≤ calendarLimit) ⌝ }
+    requires { ⌜ Fits (now calendar) desk (tradesOf (now table)) ⌝ }
     ensures { λ r.
         let trades = tradesOf (now (table .entry)) in
         ⌜ ((rows : Rows) →

@@ -50,7 +50,7 @@ from-cleared c = from-today (c .before .before .before)
 redeemable : (c : tie.After-day-number) → Redeemable (c .before .before .before .before .before .before .before .before .before .before .before .args .table .now) (c .before .before .before .before .before .before .before .before .before .before .before .args .desk .trades) (c .before .before .payment-day .result)
 redeemable c =
     let s = c .before .before .before .before .before .before .before .before .before .before .before in
-    rw (c .before .before .payment-day .ensures) (fit-redeemable (s .args .calendar .now) (book s) (s .args .table .now) (s .pre .4) (s .pre .3))
+    rw (c .before .before .payment-day .ensures) (fit-redeemable (s .args .calendar .now) (book s) (s .args .table .now) (s .pre .fits) (s .pre .few))
 
 -- the plan is what matures
 module _ (c : tie.After-maturity-plan) where
@@ -59,14 +59,14 @@ module _ (c : tie.After-maturity-plan) where
       let s = from-plan c in
       let day = c .before .day-number in
       let payment = c .before .before .before .payment-day in
-      sheets-planned (s .args .calendar .now) (book s) (s .args .table .now) (s .pre .4) (day .result) (payment .result) (day .ensures) (payment .ensures) (c .maturity-plan .result) (c .maturity-plan .ensures)
+      sheets-planned (s .args .calendar .now) (book s) (s .args .table .now) (s .pre .fits) (day .result) (payment .result) (day .ensures) (payment .ensures) (c .maturity-plan .result) (c .maturity-plan .ensures)
 
   amount-matured : c .maturity-plan .result .amount ≡ maturedAmount (from-plan c .args .calendar .now) (book (from-plan c)) (trades (from-plan c))
   amount-matured =
       let s = from-plan c in
       let day = c .before .day-number in
       let payment = c .before .before .before .payment-day in
-      amount-planned (s .args .calendar .now) (book s) (s .args .table .now) (s .pre .4) (day .result) (payment .result) (day .ensures) (payment .ensures) (c .maturity-plan .result) (c .maturity-plan .ensures)
+      amount-planned (s .args .calendar .now) (book s) (s .args .table .now) (s .pre .fits) (day .result) (payment .result) (day .ensures) (payment .ensures) (c .maturity-plan .result) (c .maturity-plan .ensures)
 
 -- today's net as (b) begins, and the cleared net after it
 with-matured : (c : tie.After-today-plus)
@@ -117,7 +117,7 @@ maturity-plan-requires c κs = redeemable c
 today-plus-requires : tie.Need-today-plus-requires
 today-plus-requires c κs =
     let s = from-plan c in
-    let nets = fit-parts (s .args .calendar .now) (book s) (trades s) (s .pre .4) .nets in
+    let nets = fit-parts (s .args .calendar .now) (book s) (trades s) (s .pre .fits) .nets in
     (le-leb (natAbs (s .args .desk .nets .today)) netLimit (nets .today), rw (c .maturity-plan .ensures) (maturity-bound _ _ _ (redeemable (c .before)) _))
 
 today-fit-requires : tie.Need-today-fit-requires
@@ -139,7 +139,7 @@ returns-2 c =
 joined-requires : tie.Need-joined-requires
 joined-requires c κs =
     let s = from-today (c .before) in
-    let nets = fit-parts (s .args .calendar .now) (book s) (trades s) (s .pre .4) .nets in
+    let nets = fit-parts (s .args .calendar .now) (book s) (trades s) (s .pre .fits) .nets in
     (sym (c .before .today-fit .ensures) ∙ holds _ (c .if2 .left), rw (with-matured (c .before .before)) (le-leb (natAbs (s .args .desk .nets .cleared)) netLimit (nets .cleared)))
 
 cleared-fit-requires : tie.Need-cleared-fit-requires
@@ -161,8 +161,17 @@ returns-3 c =
 closed-requires : tie.Need-closed-requires
 closed-requires c κs =
     let s = from-cleared (c .before .before .before .before .before) in
-    let fits = fit-parts (s .args .calendar .now) (book s) (trades s) (s .pre .4) in
-    ((s .pre .0, s .pre .1, s .pre .2, fit-keeps (s .args .calendar .now) (book s) (s .args .table .now) (s .pre .4)), (fit-withdrawals (book s .withdrawals) (fits .withdrawals), fit-securities (book s .vault) (fits .securities), fits-cash (s .args .desk .cash) (s .args .desk .guarantee) (fits .cash)))
+    let fits = fit-parts (s .args .calendar .now) (book s) (trades s) (s .pre .fits) in (
+      record {
+        held-long = s .pre .held-long;
+        kinds-long = s .pre .kinds-long;
+        units-long = s .pre .units-long;
+        withdrawals = fit-withdrawals (book s .withdrawals) (fits .withdrawals);
+        securities = fit-securities (book s .vault) (fits .securities);
+        cash = fits-cash (s .args .desk .cash) (s .args .desk .guarantee) (fits .cash);
+      },
+      fit-keeps (s .args .calendar .now) (book s) (s .args .table .now) (s .pre .fits),
+    )
 
 same-length-3 : tie.Need-same-length-3
 same-length-3 c = search needs

@@ -29,7 +29,7 @@ module _ (c : tie.After-outstanding-of) where
   trades-left : tradesTo (c .before .before .before .before .redeem-due .last .0) (from-count .args .desk .trades) ≡ left-of from-count
   trades-left =
       let redeemed = c .before .before .before .before in
-      trades-after-maturity (book from-count) _ _ _ (redeemed .before .day-number .ensures) (from-count .pre .0 .3) (redeemed .redeem-due .kept .0) (redeemed .redeem-due .ensures)
+      trades-after-maturity (book from-count) _ _ _ (redeemed .before .day-number .ensures) (from-count .pre .1) (redeemed .redeem-due .kept .0) (redeemed .redeem-due .ensures)
 
   sheets-left : c .outstanding-of .result ≡ outstanding (left-of from-count)
   sheets-left = c .outstanding-of .ensures ∙ ap outstanding trades-left
@@ -51,7 +51,7 @@ redeem-due-requires c κs = search needs
 outstanding-of-requires : tie.Need-outstanding-of-requires
 outstanding-of-requires c κs =
     let redeemed = c .before .before .before .redeem-due in
-    redeemed-kept _ _ _ _ (c .before .before .before .before .before .before .before .before .before .before .before .pre .0 .3) (redeemed .kept .0) (redeemed .ensures)
+    redeemed-kept _ _ _ _ (c .before .before .before .before .before .before .before .before .before .before .before .pre .1) (redeemed .kept .0) (redeemed .ensures)
 
 pack-requires : tie.Need-pack-requires
 pack-requires c κs = search needs
@@ -60,14 +60,14 @@ evening-end-requires : tie.Need-evening-end-requires
 evening-end-requires c κs = search needs
 
 clear-requires : tie.Need-clear-requires
-clear-requires c κs = let s = from-evening (c .before .before .before .before) in (s .pre .0 .1, s .pre .0 .2)
+clear-requires c κs = let s = from-evening (c .before .before .before .before) in (s .pre .0 .kinds-long, s .pre .0 .units-long)
 
 closed-desk-requires : tie.Need-closed-desk-requires
 closed-desk-requires c κs =
     let end = c .before .before .before .before .before .before .before .before .before .before in
     let s = from-evening end in
-    let sound = rw (sym (evening-over end)) at (evening-sound (book s) (s .pre .1 .1) (s .pre .1 .2) (left-of s)) in
-    (end .evening-end .kept .1 .0 ∙ s .pre .0 .0, sound .0, sound .1, sound .2)
+    let sound = rw (sym (evening-over end)) at (evening-sound (book s) (s .pre .0 .securities) (s .pre .0 .cash) (left-of s)) in
+    (end .evening-end .kept .1 .0 ∙ s .pre .0 .held-long, sound .0, sound .1, sound .2)
 
 of-close-requires : tie.Need-of-close-requires
 of-close-requires c κs = search needs
@@ -96,7 +96,7 @@ returns d =
       (λ calendar matured nets.
           let next = c .closed-desk .ensures calendar _ (left-of s) (trades s) nets (evening-over end) (sheets-left counted) (packed .pack .ensures .0 ∙ ap (λ l. length (remaining l)) (trades-left counted)) in
           rw (d .of-close .ensures) (close-done calendar (book s) (left-of s) (trades s) (s .args .matured) (end .evening-end .result) (securitiesOf (end .evening-end .last .1 .0)) (c .closed-desk .result) (rowsOf (end .evening-end .last .1 .0) (cleared .last .0) (cleared .last .1 .0)) matured (evening-over end) (rw (cleared .ensures .0, cleared .ensures .1) next))),
-      packed .pack .ensures .1 ∙ packed-after-maturity (book s) _ _ _ (redeemed .before .day-number .ensures) (s .pre .0 .3) (redeemed .redeem-due .kept .0) (redeemed .redeem-due .ensures),
+      packed .pack .ensures .1 ∙ packed-after-maturity (book s) _ _ _ (redeemed .before .day-number .ensures) (s .pre .1) (redeemed .redeem-due .kept .0) (redeemed .redeem-due .ensures),
     )
 
 pub closed-spec : {M : Type 1} → statement M

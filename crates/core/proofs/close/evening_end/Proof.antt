@@ -17,7 +17,7 @@ all-arrived-requires : tie.Need-all-arrived-requires
 all-arrived-requires c κs = search needs
 
 guarantee-arrived-requires : tie.Need-guarantee-arrived-requires
-guarantee-arrived-requires c κs = omega (arith, cash-fits _ _ (c .before .before .before .before .before .before .before .before .before .pre .1 .2) .sum)
+guarantee-arrived-requires c κs = omega (arith, cash-fits _ _ (c .before .before .before .before .before .before .before .before .before .pre .cash) .sum)
 
 is-served-requires : tie.Need-is-served-requires
 is-served-requires c κs = search needs
@@ -27,10 +27,10 @@ unfolding allArrived
 applications-requires c κs =
     let s = c .before .before .before .before .before .before .before .before .before .before .before .before in
     let arrived = c .before .before .before .before .before .all-arrived in
-    let kept = evening-begins (book s) (s .pre .1 .1) (s .pre .1 .2) in
+    let kept = evening-begins (book s) (s .pre .securities) (s .pre .cash) in
     let sound = sound-of (begun (book s)) kept in
     rw (c .before .before .guarantee-arrived .ensures, arrived .ensures)
-    ((s .pre .0 .1, s .pre .0 .2, arrived .kept .0 ∙ s .pre .0 .0, s .pre .1 .0), (sound .0, sound .1, sound .2, kept .cash, refl, refl))
+    ((s .pre .kinds-long, s .pre .units-long, arrived .kept .0 ∙ s .pre .held-long, s .pre .withdrawals), (sound .0, sound .1, sound .2, kept .cash, refl, refl))
 
 same-length : tie.Need-same-length
 same-length c = search needs

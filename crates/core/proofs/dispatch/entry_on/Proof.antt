@@ -35,7 +35,7 @@ returns c = rw (c .before .before .before .before .before .before .before .befor
 returns-2 : tie.Need-returns-2
 returns-2 c =
     let s = c .before .before .before .before .before .before .before .before in
-    rw (fit-step _ _ _ (s .pre .4) (s .pre .3) _, c .before .enum-told .given .1, hit 2 _ refl, c .answered .ensures) (refl, refl)
+    rw (fit-step _ _ _ (s .pre .book .fits) (s .pre .book .few) _, c .before .enum-told .given .1, hit 2 _ refl, c .answered .ensures) (refl, refl)
 
 pub entry-on-spec : {M : Type 1} → statement M
 entry-on-spec =

@@ -27,7 +27,7 @@ module _ (s : tie.Start) where
   table = tradesOf (s .args .table .now)
 
   parts : Fit calendar book table
-  parts = fit-parts _ _ _ (s .pre .4)
+  parts = fit-parts _ _ _ (s .pre .book .fits)
 
   cash : cashFit (book .cash) (book .vault .guarantee) ≡ true
   cash = fits-cash _ _ (parts .cash)
@@ -47,7 +47,7 @@ enum-told c = search needs
 open-requires : tie.Need-open-requires
 open-requires c κs =
     let s = c .before .before .before .before .before .before .before .before in
-    (record { rows = rows s; fits = s .pre .4 }, s .pre .3)
+    record { rows = rows s; few = s .pre .book .few; fits = s .pre .book .fits }
 
 enum-known-event : tie.Need-enum-known-event
 enum-known-event c = search needs
@@ -75,7 +75,7 @@ enum-known-event-4 c = search needs
 set-rate-requires : tie.Need-set-rate-requires
 set-rate-requires c κs =
     let s = c .before .before .before .before .before .before .before .before .before in
-    s .pre .0
+    s .pre .book .held-long
 
 enum-known-event-5 : tie.Need-enum-known-event-5
 enum-known-event-5 c = search needs
@@ -83,7 +83,7 @@ enum-known-event-5 c = search needs
 pledge-requires : tie.Need-pledge-requires
 pledge-requires c κs =
     let s = c .before .before .before .before .before .before .before .before .before in
-    (s .pre .0, securities s, cash s)
+    (s .pre .book .held-long, securities s, cash s)
 
 enum-known-event-6 : tie.Need-enum-known-event-6
 enum-known-event-6 c = search needs
@@ -91,7 +91,7 @@ enum-known-event-6 c = search needs
 freeze-requires : tie.Need-freeze-requires
 freeze-requires c κs =
     let s = c .before .before .before .before .before .before .before .before .before in
-    s .pre .0
+    s .pre .book .held-long
 
 enum-known-event-7 : tie.Need-enum-known-event-7
 enum-known-event-7 c = search needs
@@ -99,7 +99,7 @@ enum-known-event-7 c = search needs
 withdraw-requires : tie.Need-withdraw-requires
 withdraw-requires c κs =
     let s = c .before .before .before .before .before .before .before .before .before .before .before in
-    ((s .pre .0, s .pre .1, s .pre .2), (withdrawals s, securities s, cash s))
+    ((s .pre .book .held-long, s .pre .book .kinds-long, s .pre .book .units-long), (withdrawals s, securities s, cash s))
 
 enum-known-event-8 : tie.Need-enum-known-event-8
 enum-known-event-8 c = search needs
@@ -107,7 +107,10 @@ enum-known-event-8 c = search needs
 initial-requires : tie.Need-initial-requires
 initial-requires c κs =
     let s = c .before .before .before .before .before .before .before .before .before .before in
-    (s .pre .0, record { kinds = s .args .kinds .now; units = s .args .units .now; fits = s .pre .4 }, s .pre .3, s .pre .5)
+    record {
+      book = record { kinds = s .args .kinds .now; units = s .args .units .now; held-long = s .pre .book .held-long; few = s .pre .book .few; fits = s .pre .book .fits };
+      counted = s .pre .counted;
+    }
 
 enum-known-event-9 : tie.Need-enum-known-event-9
 enum-known-event-9 c = search needs
@@ -115,7 +118,7 @@ enum-known-event-9 c = search needs
 early-requires : tie.Need-early-requires
 early-requires c κs =
     let s = c .before .before .before .before .before .before .before .before .before in
-    (record { rows = rows s; fits = s .pre .4 }, s .pre .3)
+    record { rows = rows s; few = s .pre .book .few; fits = s .pre .book .fits }
 
 enum-told-2 : tie.Need-enum-told-2
 enum-told-2 c = search needs
@@ -131,7 +134,7 @@ enum-told-3 c = search needs
 close-requires : tie.Need-close-requires
 close-requires c κs =
     let s = c .before .before .before .before .before .before .before .before .before .before .before in
-    (s .pre .0, s .pre .1, s .pre .2, s .pre .3, s .pre .4)
+    s .pre .book
 
 same-length : tie.Need-same-length
 same-length c = search needs
@@ -140,25 +143,25 @@ returns : tie.Need-returns
 unfolding eventCauses act
 returns c =
     let s = c .before .before .before .before .before .before .before .before .before .before .before in
-    rw (c .before .before .before .before .enum-told .given .1) (changes-table _ (book s) (table s) (s .pre .4) (s .pre .3) _ _ _ refl _ _ (c .before .before .«open» .ensures (rows s)))
+    rw (c .before .before .before .before .enum-told .given .1) (changes-table _ (book s) (table s) (s .pre .book .fits) (s .pre .book .few) _ _ _ refl _ _ (c .before .before .«open» .ensures (rows s)))
 
 returns-2 : tie.Need-returns-2
 unfolding eventCauses act
 returns-2 c =
     let s = c .before .before .before .before .before .before .before .before .before in
-    rw (c .before .before .event .given .1) (leaves-table _ (book s) (table s) (s .pre .4) (s .pre .3) _ _ refl _ (c .fund-in .ensures (rows s)))
+    rw (c .before .before .event .given .1) (leaves-table _ (book s) (table s) (s .pre .book .fits) (s .pre .book .few) _ _ refl _ (c .fund-in .ensures (rows s)))
 
 returns-3 : tie.Need-returns-3
 unfolding eventCauses act
 returns-3 c =
     let s = c .before .before .before .before .before .before .before .before .before in
-    rw (c .before .before .event2 .given .1) (leaves-table _ (book s) (table s) (s .pre .4) (s .pre .3) _ _ refl _ (c .fund-out .ensures (rows s)))
+    rw (c .before .before .event2 .given .1) (leaves-table _ (book s) (table s) (s .pre .book .fits) (s .pre .book .few) _ _ refl _ (c .fund-out .ensures (rows s)))
 
 returns-4 : tie.Need-returns-4
 unfolding eventCauses act
 returns-4 c =
     let s = c .before .before .before .before .before .before .before .before .before in
-    rw (c .before .before .event3 .given .1) (leaves-table _ (book s) (table s) (s .pre .4) (s .pre .3) _ _ refl _ (c .set-size .ensures (rows s) (table s) (s .pre .5)))
+    rw (c .before .before .event3 .given .1) (leaves-table _ (book s) (table s) (s .pre .book .fits) (s .pre .book .few) _ _ refl _ (c .set-size .ensures (rows s) (table s) (s .pre .counted)))
 
 same-length-2 : tie.Need-same-length-2
 same-length-2 c = search needs
@@ -167,7 +170,7 @@ returns-5 : tie.Need-returns-5
 unfolding eventCauses act
 returns-5 c =
     let s = c .before .before .before .before .before .before .before .before .before .before .before .before in
-    rw (c .before .before .before .before .before .event4 .given .1) (leaves-table _ (book s) (table s) (s .pre .4) (s .pre .3) _ _ refl _ (c .before .before .set-rate .ensures (s .args .kinds .now) (s .args .units .now)))
+    rw (c .before .before .before .before .before .event4 .given .1) (leaves-table _ (book s) (table s) (s .pre .book .fits) (s .pre .book .few) _ _ refl _ (c .before .before .set-rate .ensures (s .args .kinds .now) (s .args .units .now)))
 
 same-length-3 : tie.Need-same-length-3
 same-length-3 c = search needs
@@ -176,7 +179,7 @@ returns-6 : tie.Need-returns-6
 unfolding eventCauses act
 returns-6 c =
     let s = c .before .before .before .before .before .before .before .before .before .before .before .before in
-    rw (c .before .before .before .before .before .event5 .given .1) (leaves-table _ (book s) (table s) (s .pre .4) (s .pre .3) _ _ refl _ (c .before .before .pledge .ensures (s .args .kinds .now) (s .args .units .now)))
+    rw (c .before .before .before .before .before .event5 .given .1) (leaves-table _ (book s) (table s) (s .pre .book .fits) (s .pre .book .few) _ _ refl _ (c .before .before .pledge .ensures (s .args .kinds .now) (s .args .units .now)))
 
 same-length-4 : tie.Need-same-length-4
 same-length-4 c = search needs
@@ -185,7 +188,7 @@ returns-7 : tie.Need-returns-7
 unfolding eventCauses act
 returns-7 c =
     let s = c .before .before .before .before .before .before .before .before .before .before .before .before in
-    rw (c .before .before .before .before .before .event6 .given .1) (leaves-table _ (book s) (table s) (s .pre .4) (s .pre .3) _ _ refl _ (c .before .before .freeze .ensures (s .args .kinds .now) (s .args .units .now)))
+    rw (c .before .before .before .before .before .event6 .given .1) (leaves-table _ (book s) (table s) (s .pre .book .fits) (s .pre .book .few) _ _ refl _ (c .before .before .freeze .ensures (s .args .kinds .now) (s .args .units .now)))
 
 same-length-5 : tie.Need-same-length-5
 same-length-5 c = search needs
@@ -200,7 +203,7 @@ returns-8 : tie.Need-returns-8
 unfolding eventCauses act
 returns-8 c =
     let s = c .before .before .before .before .before .before .before .before .before .before .before .before .before .before .before .before in
-    rw (c .before .before .before .before .before .before .before .before .before .event7 .given .1) (leaves-table _ (book s) (table s) (s .pre .4) (s .pre .3) _ _ refl _ (c .before .before .before .before .withdraw .ensures))
+    rw (c .before .before .before .before .before .before .before .before .before .event7 .given .1) (leaves-table _ (book s) (table s) (s .pre .book .fits) (s .pre .book .few) _ _ refl _ (c .before .before .before .before .withdraw .ensures))
 
 same-length-8 : tie.Need-same-length-8
 same-length-8 c = search needs
@@ -212,7 +215,7 @@ returns-9 : tie.Need-returns-9
 unfolding eventCauses act
 returns-9 c =
     let s = c .before .before .before .before .before .before .before .before .before .before .before .before .before in
-    rw (c .before .before .before .before .before .before .event8 .given .1) (changes-table _ (book s) (table s) (s .pre .4) (s .pre .3) _ _ _ refl _ _ (c .before .before .initial .ensures (s .args .kinds .now) (s .args .units .now)))
+    rw (c .before .before .before .before .before .before .event8 .given .1) (changes-table _ (book s) (table s) (s .pre .book .fits) (s .pre .book .few) _ _ _ refl _ _ (c .before .before .initial .ensures (s .args .kinds .now) (s .args .units .now)))
 
 same-length-10 : tie.Need-same-length-10
 same-length-10 c = search needs
@@ -221,13 +224,13 @@ returns-10 : tie.Need-returns-10
 unfolding eventCauses act
 returns-10 c =
     let s = c .before .before .before .before .before .before .before .before .before .before .before .before in
-    rw (c .before .before .before .before .before .event9 .given .1) (changes-table _ (book s) (table s) (s .pre .4) (s .pre .3) _ _ _ refl _ _ (c .before .before .early .ensures (rows s)))
+    rw (c .before .before .before .before .before .event9 .given .1) (changes-table _ (book s) (table s) (s .pre .book .fits) (s .pre .book .few) _ _ _ refl _ _ (c .before .before .early .ensures (rows s)))
 
 returns-11 : tie.Need-returns-11
 unfolding eventCauses act
 returns-11 c =
     let s = c .before .before .before .before .before .before .before .before in
-    rw (c .before .enum-told2 .given .1) (leaves-table _ (book s) (table s) (s .pre .4) (s .pre .3) _ _ refl _ (c .pay .ensures (rows s)))
+    rw (c .before .enum-told2 .given .1) (leaves-table _ (book s) (table s) (s .pre .book .fits) (s .pre .book .few) _ _ refl _ (c .pay .ensures (rows s)))
 
 same-length-11 : tie.Need-same-length-11
 same-length-11 c = search needs
@@ -245,7 +248,7 @@ returns-12 : tie.Need-returns-12
 unfolding eventCauses act
 returns-12 c =
     let s = c .before .before .before .before .before .before .before .before .before .before .before .before .before .before .before .before .before .before .before .before in
-    rw (c .before .before .before .before .before .before .before .before .before .before .before .before .before .enum-told3 .given .1) (changes-table _ (book s) (table s) (s .pre .4) (s .pre .3) _ _ _ refl _ _ (c .before .before .before .before .before .before .before .before .close .ensures))
+    rw (c .before .before .before .before .before .before .before .before .before .before .before .before .before .enum-told3 .given .1) (changes-table _ (book s) (table s) (s .pre .book .fits) (s .pre .book .few) _ _ _ refl _ _ (c .before .before .before .before .before .before .before .before .close .ensures))
 
 pub event-on-spec : {M : Type 1} → statement M
 event-on-spec =

@@ -13,16 +13,16 @@ payment-day-requires c κs = search needs
 redeemed-for-requires : tie.Need-redeemed-for-requires
 redeemed-for-requires c κs =
     let start = c .before .before .before .before in
-    let redeemable = fit-redeemable (start .args .calendar .now) (bookOf (start .args .desk) (start .pre .0 .rows)) (start .args .table .now) (start .pre .0 .fits) (start .pre .1) in
-    let begun = begun-before _ _ _ redeemable _ (start .pre .3) in (
-      (omega (arith, redeemable .kept .room, start .pre .3), start .pre .4, start .pre .5),
+    let redeemable = fit-redeemable (start .args .calendar .now) (bookOf (start .args .desk) (start .pre .0 .named .book .rows)) (start .args .table .now) (start .pre .0 .named .book .fits) (start .pre .0 .named .book .few) in
+    let begun = begun-before _ _ _ redeemable _ (start .pre .0 .below) in (
+      (omega (arith, redeemable .kept .room, start .pre .0 .below), start .pre .1, start .pre .0 .cheap),
       rw (c .payment-day .ensures) (begun, redeemable .term),
     )
 
 returns : tie.Need-returns
 returns c rows =
     let start = c .before .before .before .before .before in
-    let own = trade-here _ _ _ _ (fit-keeps (start .args .calendar .now) (bookOf (start .args .desk) (start .pre .0 .rows)) (start .args .table .now) (start .pre .0 .fits) .room) (start .pre .2) (start .pre .3) in
+    let own = trade-here _ _ _ _ (fit-keeps (start .args .calendar .now) (bookOf (start .args .desk) (start .pre .0 .named .book .rows)) (start .args .table .now) (start .pre .0 .named .book .fits) .room) (start .pre .0 .named .stands) (start .pre .0 .below) in
     rw (c .redeemed-for .ensures, c .before .payment-day .ensures, own)
 
 pub amount-at-spec : {M : Type 1} → statement M

@@ -14,7 +14,7 @@ use Rattle.core.proofs.early.early.Tie as tie
 
 -- the trades in use stand in the table, within their limits
 kept : (s : tie.Start) → Kept (s .args .table .now) (s .args .desk .trades)
-kept s = fit-keeps (s .args .calendar .now) (bookOf (s .args .desk) (s .pre .0 .rows)) (s .args .table .now) (s .pre .0 .fits)
+kept s = fit-keeps (s .args .calendar .now) (bookOf (s .args .desk) (s .pre .rows)) (s .args .table .now) (s .pre .fits)
 
 clear : (c : tie.Else1) (rows : Rows) → (let s = c .before .before .before .before .before .before .before .args in firstOf (earlyCauses (s .calendar .now) (bookOf (s .desk) rows) (tradesOf (s .table .now)) (s .contract) (s .count) (s .price)) ≡ none)
 clear c rows =
@@ -24,7 +24,7 @@ clear c rows =
 redeems : (c : tie.Else1) → (let s = c .before .before .before .before .before .before .before .args in Redeems (s .table .now) (s .desk .trades) (c .before .before .before .place-of .result) (s .count) (s .price))
 redeems c =
     let start = c .before .before .before .before .before .before .before in
-    early-redeems (start .args .calendar .now) (bookOf (start .args .desk) (start .pre .0 .rows)) _ _ _ _ _ (start .pre .0 .fits) (c .before .before .before .place-of .ensures) (clear c (start .pre .0 .rows))
+    early-redeems (start .args .calendar .now) (bookOf (start .args .desk) (start .pre .rows)) _ _ _ _ _ (start .pre .fits) (c .before .before .before .place-of .ensures) (clear c (start .pre .rows))
 
 place-of-requires : tie.Need-place-of-requires
 place-of-requires c κs = kept (c .before .before .before) .room
@@ -49,7 +49,7 @@ amount-at-requires : tie.Need-amount-at-requires
 amount-at-requires c κs =
     let start = c .before .before .before .before .before .before .before .before in
     let r = redeems (c .before) in
-    (start .pre .0, start .pre .1, c .before .before .before .before .place-of .ensures, r .below, r .few, r .cheap)
+    (record { named = record { book = start .pre; stands = c .before .before .before .before .place-of .ensures }; below = r .below; cheap = r .cheap }, r .few)
 
 sheets-at-requires : tie.Need-sheets-at-requires
 sheets-at-requires c κs = omega (arith, redeems (c .before .before .before) .below, kept (c .before .before .before .before .before .before .before .before .before .before) .room)
@@ -65,7 +65,7 @@ today-plus-requires c κs =
     let start = c .before .before .before .before .before .before .before .before .before .before .before .before .before .before .before .before .before in
     let s = start .args in
     let r = redeems (c .before .before .before .before .before .before .before .before .before .before) in
-    (fit-net (s .calendar .now) (bookOf (s .desk) (start .pre .0 .rows)) (s .table .now) (start .pre .0 .fits), rw (c .before .before .before .before .before .before .before .before .amount-at .ensures (start .pre .0 .rows)) (early-at-most (s .calendar .now) (bookOf (s .desk) (start .pre .0 .rows)) (tradesOf (s .table .now)) (s .contract) (s .count) (s .price) (start .pre .1) (r .few) (r .cheap)))
+    (fit-net (s .calendar .now) (bookOf (s .desk) (start .pre .rows)) (s .table .now) (start .pre .fits), rw (c .before .before .before .before .before .before .before .before .amount-at .ensures (start .pre .rows)) (early-at-most (s .calendar .now) (bookOf (s .desk) (start .pre .rows)) (tradesOf (s .table .now)) (s .contract) (s .count) (s .price) (start .pre .few) (r .few) (r .cheap)))
 
 answered-requires-2 : tie.Need-answered-requires-2
 answered-requires-2 c κs = search needs

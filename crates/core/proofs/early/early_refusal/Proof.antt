@@ -11,7 +11,7 @@ use Rattle.core.proofs.early.early_refusal.Statement.{statement}
 use Rattle.core.proofs.early.early_refusal.Tie as tie
 
 kept : (s : tie.Start) → Kept (s .args .table .now) (s .args .desk .trades)
-kept s = fit-keeps (s .args .calendar .now) (bookOf (s .args .desk) (s .pre .0 .rows)) (s .args .table .now) (s .pre .0 .fits)
+kept s = fit-keeps (s .args .calendar .now) (bookOf (s .args .desk) (s .pre .book .rows)) (s .args .table .now) (s .pre .book .fits)
 
 order-refusal-requires : tie.Need-order-refusal-requires
 order-refusal-requires c κs = search needs
@@ -21,7 +21,7 @@ unfolding earlyCauses
 returns c rows = group-applies _ _ _ (c .before .order-refusal .ensures rows) (c .if1 .taken)
 
 named-refusal-requires : tie.Need-named-refusal-requires
-named-refusal-requires c κs = let s : tie.Start = search needs in (kept s .room, s .pre .2)
+named-refusal-requires c κs = let s : tie.Start = search needs in (kept s .room, s .pre .stands)
 
 returns-2 : tie.Need-returns-2
 unfolding earlyCauses
@@ -35,7 +35,7 @@ take-refusal-requires c κs =
     let s : tie.Start = search needs in
     let on = group-clear _ refl (c .before .named-refusal .ensures noRows) (c .if2 .left) 10 in
     let cheap = group-clear _ refl (order .before .order-refusal .ensures noRows) (order .if1 .left) 8 in
-    (s .pre .0, s .pre .1, s .pre .2, below-where-on _ _ _ _ (kept s .room) (s .pre .2) on, ltb-false _ _ cheap)
+    record { named = s .pre; below = below-where-on _ _ _ _ (kept s .room) (s .pre .stands) on; cheap = ltb-false _ _ cheap }
 
 returns-3 : tie.Need-returns-3
 unfolding earlyCauses

@@ -12,7 +12,7 @@ use Rattle.core.proofs.early.take_refusal.Statement.{statement}
 use Rattle.core.proofs.early.take_refusal.Tie as tie
 
 kept : (s : tie.Start) → Kept (s .args .table .now) (s .args .desk .trades)
-kept s = fit-keeps (s .args .calendar .now) (bookOf (s .args .desk) (s .pre .0 .rows)) (s .args .table .now) (s .pre .0 .fits)
+kept s = fit-keeps (s .args .calendar .now) (bookOf (s .args .desk) (s .pre .named .book .rows)) (s .args .table .now) (s .pre .named .book .fits)
 
 -- the sheets are a trade's
 module _ (c : tie.Else1) where
@@ -20,7 +20,7 @@ module _ (c : tie.Else1) where
   start = c .before .before .before .before .before
 
   few : start .args .count .0 ≤ tradeLimit
-  few = omega (arith, kept-within _ _ (kept start) _ (start .pre .3) .sheets, c .before .before .sheets-at .ensures, c .if1 .left)
+  few = omega (arith, kept-within _ _ (kept start) _ (start .pre .below) .sheets, c .before .before .sheets-at .ensures, c .if1 .left)
 
 sheets-at-requires : tie.Need-sheets-at-requires
 sheets-at-requires c κs = omega (arith, kept (c .before .before) .room)
@@ -28,30 +28,30 @@ sheets-at-requires c κs = omega (arith, kept (c .before .before) .room)
 returns : tie.Need-returns
 returns c rows =
     let s : tie.Start = search needs in
-    let short = short-of _ _ _ _ (kept s .room) (s .pre .2) _ _ (c .before .before .sheets-at .ensures) (s .pre .3) (c .if1 .taken) in search column depth 20
+    let short = short-of _ _ _ _ (kept s .room) (s .pre .named .stands) _ _ (c .before .before .sheets-at .ensures) (s .pre .below) (c .if1 .taken) in search column depth 20
 
 amount-at-requires : tie.Need-amount-at-requires
 amount-at-requires c κs =
-    let s = start (c .before) in (s .pre .0, s .pre .1, s .pre .2, s .pre .3, few (c .before), s .pre .4)
+    let s = start (c .before) in (s .pre, few (c .before))
 
 over-plus-requires : tie.Need-over-plus-requires
 over-plus-requires c κs =
     let s = start (c .before .before) in
-    let rows = s .pre .0 .rows in
-    (fit-net (s .args .calendar .now) (bookOf (s .args .desk) rows) (s .args .table .now) (s .pre .0 .fits), rw (c .amount-at .ensures rows) (early-at-most (s .args .calendar .now) (bookOf (s .args .desk) rows) (tradesOf (s .args .table .now)) (s .args .contract) (s .args .count) (s .args .price) (s .pre .1) (few (c .before .before)) (s .pre .4)))
+    let rows = s .pre .named .book .rows in
+    (fit-net (s .args .calendar .now) (bookOf (s .args .desk) rows) (s .args .table .now) (s .pre .named .book .fits), rw (c .amount-at .ensures rows) (early-at-most (s .args .calendar .now) (bookOf (s .args .desk) rows) (tradesOf (s .args .table .now)) (s .args .contract) (s .args .count) (s .args .price) (s .pre .named .book .few) (few (c .before .before)) (s .pre .cheap)))
 
 returns-2 : tie.Need-returns-2
 returns-2 c rows =
     let enough = c .before .before .before .before in
     let s = start enough in
-    let has = not-short-of _ _ _ _ (kept s .room) (s .pre .2) _ _ (enough .before .before .sheets-at .ensures) (s .pre .3) (enough .if1 .left) in
+    let has = not-short-of _ _ _ _ (kept s .room) (s .pre .named .stands) _ _ (enough .before .before .sheets-at .ensures) (s .pre .below) (enough .if1 .left) in
     let net = rw (c .before .before .amount-at .ensures rows) at (c .before .over-plus .ensures) in search column depth 20
 
 returns-3 : tie.Need-returns-3
 returns-3 c rows =
     let enough = c .before .before .before .before in
     let s = start enough in
-    let has = not-short-of _ _ _ _ (kept s .room) (s .pre .2) _ _ (enough .before .before .sheets-at .ensures) (s .pre .3) (enough .if1 .left) in
+    let has = not-short-of _ _ _ _ (kept s .room) (s .pre .named .stands) _ _ (enough .before .before .sheets-at .ensures) (s .pre .below) (enough .if1 .left) in
     let net = rw (c .before .before .amount-at .ensures rows) at (c .before .over-plus .ensures) in search column depth 20
 
 pub take-refusal-spec : {M : Type 1} → statement M

@@ -21,13 +21,13 @@ module _ (s : tie.Start) where
 
   -- what the event tells of them, once it is known
   told : {event : Event} → s .args .event ≡ event → Moved event (s .args .before) now
-  told e = rw e at (s .pre .2)
+  told e = rw e at (s .pre .1)
 
 enum-told : tie.Need-enum-told
 enum-told c = search needs
 
 outstanding-of-requires : tie.Need-outstanding-of-requires
-outstanding-of-requires c κs = fit-keeps _ _ _ (c .before .before .before .before .before .pre .1 .fits)
+outstanding-of-requires c κs = fit-keeps _ _ _ (c .before .before .before .before .before .pre .0 .fits)
 
 enum-told-2 : tie.Need-enum-told-2
 enum-told-2 c = search needs
@@ -42,19 +42,19 @@ enum-told-5 : tie.Need-enum-told-5
 enum-told-5 c = search needs
 
 revalued-requires : tie.Need-revalued-requires
-revalued-requires c κs = let s = c .before .before .before .before .before in (s .pre .0, s .pre .1, told s (c .enum-told5 .given .1))
+revalued-requires c κs = let s = c .before .before .before .before .before in (s .pre .0, told s (c .enum-told5 .given .1))
 
 enum-told-6 : tie.Need-enum-told-6
 enum-told-6 c = search needs
 
 revalued-requires-2 : tie.Need-revalued-requires-2
-revalued-requires-2 c κs = let s = c .before .before .before .before .before in (s .pre .0, s .pre .1, told s (c .enum-told6 .given .1))
+revalued-requires-2 c κs = let s = c .before .before .before .before .before in (s .pre .0, told s (c .enum-told6 .given .1))
 
 enum-told-7 : tie.Need-enum-told-7
 enum-told-7 c = search needs
 
 revalued-requires-3 : tie.Need-revalued-requires-3
-revalued-requires-3 c κs = let s = c .before .before .before .before .before in (s .pre .0, s .pre .1, told s (c .enum-told7 .given .1))
+revalued-requires-3 c κs = let s = c .before .before .before .before .before in (s .pre .0, told s (c .enum-told7 .given .1))
 
 enum-told-8 : tie.Need-enum-told-8
 enum-told-8 c = search needs
@@ -65,7 +65,7 @@ enum-known-event c = search needs
 add-t11 : tie.Need-add-t11
 add-t11 c =
     let s = c .before .before .before .before .before .before .before .before in
-    let parts = fit-parts _ _ _ (s .pre .1 .fits) in
+    let parts = fit-parts _ _ _ (s .pre .0 .fits) in
     omega (arith, told s (c .before .before .before .event .given .1) .0, parts .size .within, parts .size .covers)
 
 enum-known-event-2 : tie.Need-enum-known-event-2
@@ -81,12 +81,12 @@ enum-told-10 : tie.Need-enum-told-10
 enum-told-10 c = search needs
 
 figures-of-requires : tie.Need-figures-of-requires
-figures-of-requires c κs = let s = c .before .before .before .before .before in (s .pre .0, s .pre .1)
+figures-of-requires c κs = let s = c .before .before .before .before .before in s .pre .0
 
 returns : tie.Need-returns
 returns c =
     let s = c .before .before .before .before .before .before in
-    rw (c .outstanding-of .ensures ∙ ap outstanding (sym (fit-in-use _ _ _ (s .pre .1 .fits))), told s (c .before .enum-told .given .1))
+    rw (c .outstanding-of .ensures ∙ ap outstanding (sym (fit-in-use _ _ _ (s .pre .0 .fits))), told s (c .before .enum-told .given .1))
 
 returns-2 : tie.Need-returns-2
 returns-2 c = sym (told (c .before .before .before .before .before) (c .enum-told2 .given .1))

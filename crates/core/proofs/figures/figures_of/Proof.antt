@@ -7,18 +7,18 @@ use Rattle.core.proofs.figures.figures_of.Statement.{statement}
 use Rattle.core.proofs.figures.figures_of.Tie as tie
 
 outstanding-of-requires : tie.Need-outstanding-of-requires
-outstanding-of-requires c κs = fit-keeps _ _ _ (c .before .before .before .before .pre .1 .fits)
+outstanding-of-requires c κs = fit-keeps _ _ _ (c .before .before .before .before .pre .fits)
 
 value-of-requires : tie.Need-value-of-requires
 value-of-requires c κs =
     let s = c .before .before .before .before .before in
-    let parts = fit-parts _ _ _ (s .pre .1 .fits) in
-    (s .pre .0, fit-securities _ (parts .securities), parts .cash .free, omega (arith, parts .cash .sum))
+    let parts = fit-parts _ _ _ (s .pre .fits) in
+    (s .pre .held-long, fit-securities _ (parts .securities), parts .cash .free, omega (arith, parts .cash .sum))
 
 returns : tie.Need-returns
 returns c =
     let s = c .before .before .before .before .before .before in
-    rw (c .before .outstanding-of .ensures ∙ ap outstanding (sym (fit-in-use _ _ _ (s .pre .1 .fits))), c .value-of .ensures)
+    rw (c .before .outstanding-of .ensures ∙ ap outstanding (sym (fit-in-use _ _ _ (s .pre .fits))), c .value-of .ensures)
 
 pub figures-of-spec : {M : Type 1} → statement M
 figures-of-spec = tie.close (tie.spec outstanding-of-requires value-of-requires returns)

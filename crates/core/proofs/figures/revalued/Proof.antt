@@ -7,13 +7,13 @@ use Rattle.core.proofs.figures.revalued.Tie as tie
 value-of-requires : tie.Need-value-of-requires
 value-of-requires c κs =
     let s = c .before .before .before .before in
-    let parts = fit-parts _ _ _ (s .pre .1 .fits) in
-    (s .pre .0, fit-securities _ (parts .securities), parts .cash .free, omega (arith, parts .cash .sum))
+    let parts = fit-parts _ _ _ (s .pre .0 .fits) in
+    (s .pre .0 .held-long, fit-securities _ (parts .securities), parts .cash .free, omega (arith, parts .cash .sum))
 
 returns : tie.Need-returns
 returns c =
     let s = c .before .before .before .before .before in
-    rw (c .value-of .ensures, sym (s .pre .2))
+    rw (c .value-of .ensures, sym (s .pre .1))
 
 pub revalued-spec : {M : Type 1} → statement M
 revalued-spec = tie.close (tie.spec value-of-requires returns)

@@ -49,10 +49,10 @@ mul-today-less : tie.Need-mul-today-less
 mul-today-less c = omega (arith, begins (c .before .before .before .before .before .before) .few)
 
 today-less-requires : tie.Need-today-less-requires
-today-less-requires c κs = (fit-net _ _ _ (c .before .before .before .before .before .before .before .before .before .before .before .before .pre .1 .fits), omega (arith, begins (c .before .before .before .before .before .before) .few))
+today-less-requires c κs = (fit-net _ _ _ (c .before .before .before .before .before .before .before .before .before .before .before .before .pre .book .fits), omega (arith, begins (c .before .before .before .before .before .before) .few))
 
 add-with-trades : tie.Need-add-with-trades
-add-with-trades c = omega (arith, fit-keeps _ _ _ (c .before .before .before .before .before .before .before .before .before .before .before .before .before .pre .1 .fits) .few)
+add-with-trades c = omega (arith, fit-keeps _ _ _ (c .before .before .before .before .before .before .before .before .before .before .before .before .before .pre .book .fits) .few)
 
 with-trades-requires : tie.Need-with-trades-requires
 with-trades-requires c κs = search needs

@@ -42,14 +42,14 @@ returns-2 c kinds units =
 
 term-refusal-requires : tie.Need-term-refusal-requires
 term-refusal-requires c κs =
-    let s = start c in (s .pre .2, today-within _ _ _ (s .pre .1 .fits) (s .pre .2))
+    let s = start c in (s .pre .book .few, today-within _ _ _ (s .pre .book .fits) (s .pre .book .few))
 
 returns-3 : tie.Need-returns-3
 unfolding initialCauses
 returns-3 c kinds units = past-count (c .before .before) _ _ (group-applies _ _ _ (c .before .term-refusal .ensures noRows) (c .if3 .taken))
 
 slot-refusal-requires : tie.Need-slot-refusal-requires
-slot-refusal-requires c κs = fit-keeps _ _ _ (start (c .before .before) .pre .1 .fits) .room
+slot-refusal-requires c κs = fit-keeps _ _ _ (start (c .before .before) .pre .book .fits) .room
 
 returns-4 : tie.Need-returns-4
 unfolding initialCauses
@@ -63,7 +63,7 @@ sheet-refusal-requires : tie.Need-sheet-refusal-requires
 sheet-refusal-requires c κs =
     let counted = c .before .before .before .before in
     let s = start counted in
-    (s .pre .0, s .pre .1, s .pre .3, count-within _ (asked-not (counted .before .bad-count .ensures) (counted .if2 .left)))
+    (s .pre, count-within _ (asked-not (counted .before .bad-count .ensures) (counted .if2 .left)))
 
 returns-5 : tie.Need-returns-5
 unfolding initialCauses

@@ -16,7 +16,7 @@ mul-over-less : tie.Need-mul-over-less
 mul-over-less c = omega arith
 
 over-less-requires : tie.Need-over-less-requires
-over-less-requires c κs = (fit-net _ _ _ (c .before .before .before .before .before .before .before .pre .1 .fits), omega arith)
+over-less-requires c κs = (fit-net _ _ _ (c .before .before .before .before .before .before .before .pre .0 .book .fits), omega arith)
 
 returns-2 : tie.Need-returns-2
 unfolding principal

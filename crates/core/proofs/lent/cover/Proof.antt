@@ -22,7 +22,7 @@ returns c = c .refused .ensures ∙ sym (refused-cover _ _ (refuted (c .before .
 figures-of-requires : tie.Need-figures-of-requires
 figures-of-requires c κs =
     let found = fit-in _ _ (upheld (c .before .fitness-in .ensures .0) (c .if1 .left)) in
-    (found .long .held, record { kinds = _; units = _; fits = found .fits })
+    record { kinds = _; units = _; held-long = found .long .held; few = found .few; fits = found .fits }
 
 cover-from-requires : tie.Need-cover-from-requires
 cover-from-requires c κs =

@@ -51,7 +51,7 @@ run-events-requires : tie.Need-run-events-requires
 run-events-requires c κs =
     let passed = c .before .before .before .before .before in
     let found = fit-in _ _ (upheld (passed .before .before .before .fitness-in .ensures .0) (passed .before .before .if1 .left)) in
-    (found .long .held, found .long .kinds, found .long .units, found .few, found .fits, lines-fit _ _ (lengths-clear _ _ _ (passed .before .lengths-refusal .ensures) (passed .if2 .left)))
+    (record { held-long = found .long .held; kinds-long = found .long .kinds; units-long = found .long .units; few = found .few; fits = found .fits }, lines-fit _ _ (lengths-clear _ _ _ (passed .before .lengths-refusal .ensures) (passed .if2 .left)))
 
 same-length-9 : tie.Need-same-length-9
 same-length-9 c = search needs

@@ -59,7 +59,11 @@ terminated-requires c κs =
     let t = c .before .before in
     let q = t .before .before in
     let s = q .before .before .before .before .before .before .before in
-    (s .pre, ((follows q, t .before .opened-standing .ensures), (closed (q .before .before), sym (t .turns-terminated .ensures) ∙ c .before .if3 .taken)))
+    record {
+      opening = record { book = s .pre; follows = follows q; opened = t .before .opened-standing .ensures };
+      closed = closed (q .before .before);
+      ended = sym (t .turns-terminated .ensures) ∙ c .before .if3 .taken;
+    }
 
 same-length : tie.Need-same-length
 same-length c = search needs

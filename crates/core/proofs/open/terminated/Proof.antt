@@ -15,7 +15,7 @@ use Rattle.core.proofs.open.terminated.Tie as tie
 
 -- the book that the desk is fit as
 abbrev book : tie.Start → Book
-book s = bookOf (s .args .desk) (s .pre .0 .0 .rows)
+book s = bookOf (s .args .desk) (s .pre .opening .book .rows)
 
 abbrev net : tie.Start → Rows → ℤ
 net s rows = netWithFallbacks (now (s .args .calendar)) (bookOf (s .args .desk) rows) (tradesOf (now (s .args .table)))
@@ -40,13 +40,13 @@ returns : tie.Need-returns
 returns c rows =
     let q = c .before .before in
     let s = q .before .before .before .before .before in
-    let e = net-too-large (now (s .args .calendar)) (bookOf (s .args .desk) rows) (tradesOf (now (s .args .table))) (s .pre .1 .1 .0) (s .pre .1 .0 .0) (s .pre .1 .1 .1) (net-tested q rows ∙ not-true _ (c .before .if1 .taken)) in
+    let e = net-too-large (now (s .args .calendar)) (bookOf (s .args .desk) rows) (tradesOf (now (s .args .table))) (s .pre .closed) (s .pre .opening .follows) (s .pre .ended) (net-tested q rows ∙ not-true _ (c .before .if1 .taken)) in
     (rw (c .answered .ensures, e), rw e)
 
 redeem-due-requires : tie.Need-redeem-due-requires
 redeem-due-requires c κs =
     let s = c .before .before .before .before .before .before .before in
-    fit-keeps (now (s .args .calendar)) (book s) (now (s .args .table)) (s .pre .0 .0 .fits) .room
+    fit-keeps (now (s .args .calendar)) (book s) (now (s .args .table)) (s .pre .opening .book .fits) .room
 
 answered-requires-2 : tie.Need-answered-requires-2
 answered-requires-2 c κs = search needs
@@ -62,10 +62,10 @@ returns-2 c rows =
     let s = q .before .before .before .before .before in
     let calendar = now (s .args .calendar) in
     let table = now (s .args .table) in
-    let ended = s .pre .1 .1 .1 in
-    let e = none-within-net calendar (bookOf (s .args .desk) rows) (tradesOf table) (s .pre .1 .1 .0) (s .pre .1 .0 .0) ended (net-tested q rows ∙ not-false _ (r .before .before .if1 .left)) in (
-      rw (c .answered2 .ensures, e, q .before .with-fallbacks .ensures rows, s .pre .1 .0 .1, ended),
-      r .redeem-due .ensures ∙ rw (e, ended, fit-in-use calendar (book s) table (s .pre .0 .0 .fits), all-due table (s .args .desk .trades)),
+    let ended = s .pre .ended in
+    let e = none-within-net calendar (bookOf (s .args .desk) rows) (tradesOf table) (s .pre .closed) (s .pre .opening .follows) ended (net-tested q rows ∙ not-false _ (r .before .before .if1 .left)) in (
+      rw (c .answered2 .ensures, e, q .before .with-fallbacks .ensures rows, s .pre .opening .opened, ended),
+      r .redeem-due .ensures ∙ rw (e, ended, fit-in-use calendar (book s) table (s .pre .opening .book .fits), all-due table (s .args .desk .trades)),
     )
 
 pub terminated-spec : {M : Type 1} → statement M

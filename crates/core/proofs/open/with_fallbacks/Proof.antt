@@ -14,12 +14,12 @@ use Rattle.core.proofs.open.with_fallbacks.Tie as tie
 
 -- the book that the desk is fit as
 abbrev book : tie.Start → Book
-book s = bookOf (s .args .desk) (s .pre .0 .0 .rows)
+book s = bookOf (s .args .desk) (s .pre .book .rows)
 
 -- the trades in use can be redeemed on the payment day of the day opened
 redeemable : (s : tie.Start) → Redeemable (now (s .args .table)) (s .args .desk .trades) (paymentDay (now (s .args .calendar)) (s .args .after .day))
 redeemable s =
-    rw (s .pre .1 .1) (redeemable-next-day (now (s .args .calendar)) (book s) (now (s .args .table)) (s .pre .0 .0 .fits) (s .pre .1 .0) (s .pre .0 .1))
+    rw (s .pre .opened) (redeemable-next-day (now (s .args .calendar)) (book s) (now (s .args .table)) (s .pre .book .fits) (s .pre .follows) (s .pre .book .few))
 
 payment-day-requires : tie.Need-payment-day-requires
 payment-day-requires c κs = search needs
@@ -30,14 +30,14 @@ fallback-total-requires c κs = rw (c .payment-day .ensures) (redeemable (c .bef
 cleared-plus-requires : tie.Need-cleared-plus-requires
 cleared-plus-requires c κs =
     let s = c .before .before .before .before .before in
-    let f = fit-parts (now (s .args .calendar)) (book s) (tradesOf (now (s .args .table))) (s .pre .0 .0 .fits) in
+    let f = fit-parts (now (s .args .calendar)) (book s) (tradesOf (now (s .args .table))) (s .pre .book .fits) in
     (le-leb _ _ (f .nets .cleared), rw (c .fallback-total .ensures, c .before .payment-day .ensures) (fallback-bound _ _ _ (redeemable s)))
 
 returns : tie.Need-returns
 returns c rows =
     let s = c .before .before .before .before .before .before in
     c .cleared-plus .ensures
-    ∙ rw (c .before .fallback-total .ensures, c .before .before .payment-day .ensures, s .pre .1 .1, fit-in-use (now (s .args .calendar)) (book s) (now (s .args .table)) (s .pre .0 .0 .fits))
+    ∙ rw (c .before .fallback-total .ensures, c .before .before .payment-day .ensures, s .pre .opened, fit-in-use (now (s .args .calendar)) (book s) (now (s .args .table)) (s .pre .book .fits))
 
 pub with-fallbacks-spec : {M : Type 1} → statement M
 with-fallbacks-spec =

@@ -36,10 +36,10 @@ module _ (c : tie.After-entry-on) where
   tabled = rw (c .before .before .before .before .before .decode .ensures) at (c .entry-on .ensures .1)
 
   still-fit : fit (start .args .calendar .now) (bookOf (c .entry-on .result .desk) rows) (tradesOf (c .entry-on .last .1 .1 .1 .1 .1 .0)) ≡ true
-  still-fit = fit-after _ _ _ _ (start .pre .4) (appliedAt (c .entry-on .result) rows) _ (c .entry-on .ensures .0) (c .entry-on .ensures .1)
+  still-fit = fit-after _ _ _ _ (start .pre .0 .fits) (appliedAt (c .entry-on .result) rows) _ (c .entry-on .ensures .0) (c .entry-on .ensures .1)
 
   still-long : length (c .entry-on .last .1 .1 .0) ≡ 128
-  still-long = c .entry-on .kept .1 .1 .0 ∙ start .pre .0
+  still-long = c .entry-on .kept .1 .1 .0 ∙ start .pre .0 .held-long
 
 decode-requires : tie.Need-decode-requires
 decode-requires c κs = search needs
@@ -47,14 +47,13 @@ decode-requires c κs = search needs
 entry-on-requires : tie.Need-entry-on-requires
 entry-on-requires c κs =
     let s = c .before .before .before .before .before .before .before .before .before .before .before .before in
-    (s .pre .0, s .pre .1, s .pre .2, s .pre .3, s .pre .4, ap (λ (f : Figures). f .outstanding) (s .pre .5))
+    record { book = s .pre .0; counted = ap (λ (f : Figures). f .outstanding) (s .pre .1) }
 
 figures-after-requires : tie.Need-figures-after-requires
 figures-after-requires c κs =
     let called = c .before .before .before .before .before .before .before .before .before .before .before .before in (
-      still-long called,
-      record { kinds = called .entry-on .last .1 .1 .1 .0; units = called .entry-on .last .1 .1 .1 .1 .0; fits = still-fit called },
-      moved-after _ _ _ _ (start called .pre .4) _ (start called .pre .5) (appliedAt (called .entry-on .result) (rows called)) _ (called .entry-on .ensures .0) (called .entry-on .ensures .1),
+      record { kinds = called .entry-on .last .1 .1 .1 .0; units = called .entry-on .last .1 .1 .1 .1 .0; held-long = still-long called; few = start called .pre .0 .few; fits = still-fit called },
+      moved-after _ _ _ _ (start called .pre .0 .fits) _ (start called .pre .1) (appliedAt (called .entry-on .result) (rows called)) _ (called .entry-on .ensures .0) (called .entry-on .ensures .1),
     )
 
 cover-from-requires : tie.Need-cover-from-requires
@@ -69,7 +68,7 @@ covered c = c .cover-from .ensures ∙ counted-from (bookOf (c .before .before .
 write-line-requires : tie.Need-write-line-requires
 write-line-requires c κs =
     let called = c .before .before .before .before .before .before .before .before .before .before .before .before .before .before .before in
-    (start called .pre .6, rw (covered (c .before)) (headroom-size _ _ _ (still-fit called)), omega (arith, fit-parts _ _ _ (still-fit called) .cash .sum))
+    (start called .pre .2, rw (covered (c .before)) (headroom-size _ _ _ (still-fit called)), omega (arith, fit-parts _ _ _ (still-fit called) .cash .sum))
 
 same-length : tie.Need-same-length
 same-length c = search needs

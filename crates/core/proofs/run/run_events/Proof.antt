@@ -19,12 +19,12 @@ abbrev μ-loop : tie.MeasureT-loop
 figures-of-requires : tie.Need-figures-of-requires Inv-loop μ-loop
 figures-of-requires c κs =
     let s = c .before .before .before .before .before .before .before .before .before in
-    (s .pre .0, record { kinds = s .args .kinds .now; units = s .args .units .now; fits = s .pre .4 })
+    record { kinds = s .args .kinds .now; units = s .args .units .now; held-long = s .pre .0 .held-long; few = s .pre .0 .few; fits = s .pre .0 .fits }
 
 loop-holds : tie.Need-loop-holds Inv-loop μ-loop
 loop-holds c =
     let s = c .before .before .before .before .before .before .before .before .before .before in
-    (none-run _ _ _ _ _ _ (s .pre .4), s .pre .0, s .pre .1, s .pre .2, c .figures-of .ensures)
+    (none-run _ _ _ _ _ _ (s .pre .0 .fits), s .pre .0 .held-long, s .pre .0 .kinds-long, s .pre .0 .units-long, c .figures-of .ensures)
 
 mul-bytes : tie.Need-mul-bytes Inv-loop μ-loop
 mul-bytes c = search needs
@@ -51,7 +51,7 @@ run-event-requires : tie.Need-run-event-requires Inv-loop μ-loop
 run-event-requires c κs =
     let s = c .before .before .before .before .before .before .before .before .before .before .before .before .before .before .before .before .before .before in
     let inv = c .before .before .before .before .before .before .before .loop .inv in
-    (inv .1, inv .2, inv .3, s .pre .3, inv .0 .fits, inv .4, omega (arith, inv .0 .wide, s .pre .5, c .before .before .before .before .before .before .loop-test .taken))
+    (record { held-long = inv .1; kinds-long = inv .2; units-long = inv .3; few = s .pre .0 .few; fits = inv .0 .fits }, inv .4, omega (arith, inv .0 .wide, s .pre .1, c .before .before .before .before .before .before .loop-test .taken))
 
 add-k : tie.Need-add-k Inv-loop μ-loop
 add-k c = omega (arith, c .before .before .before .before .before .before .before .before .before .before .before .before .before .before .before .before .before .loop-test .taken, c .before .before .before .before .before .before .before .before .before .before .before .before .before .before .before .before .before .before .before .before .before .before .before .before .before .before .before .before .before .good)
@@ -66,7 +66,7 @@ loop-again c =
     let called = c .before .before .before .before .before .before .before .before .before .before .run-event in
     let inv = here .loop .inv in
     let length-40 : 40 ≡ (here .loop .k * 40 + 40) - here .loop .k * 40 = omega arith in (
-      next-run _ _ _ _ _ _ _ _ _ _ (inv .0) (c .before .before .before .before .before .before .before .before .before .before .before .before .before .before .before .before .before .loop-test .taken) (omega (arith, s .pre .5)) _
+      next-run _ _ _ _ _ _ _ _ _ _ (inv .0) (c .before .before .before .before .before .before .before .before .before .before .before .before .before .before .before .before .before .loop-test .taken) (omega (arith, s .pre .1)) _
           (ap (λ n. take n (drop (here .loop .k * 40) (s .args .events .now))) length-40)
           _ _ _ (called .kept .1 .1 .1 .1 .1 .1 .0) (called .ensures .0) (called .ensures .1) (called .ensures .2),
       called .kept .1 .1 .1 .0 ∙ inv .1,
@@ -91,7 +91,7 @@ same-length-5 : tie.Need-same-length-5 Inv-loop μ-loop
 same-length-5 c = search needs
 
 returns : tie.Need-returns Inv-loop μ-loop
-returns c = all-run _ _ _ _ _ _ _ _ _ _ refl (c .before .before .loop .inv .0) (c .before .loop-test .left) (omega (arith, c .before .before .before .before .before .before .before .before .before .before .before .before .before .pre .5))
+returns c = all-run _ _ _ _ _ _ _ _ _ _ refl (c .before .before .loop .inv .0) (c .before .loop-test .left) (omega (arith, c .before .before .before .before .before .before .before .before .before .before .before .before .before .pre .1))
 
 pub run-events-spec : {M : Type 1} → statement M
 run-events-spec =
