@@ -29,7 +29,7 @@ use Rattle.desk.specs.declared.state.Desk.{Desk}
 use Rattle.desk.specs.declared.done.Done.{Done}
 use Rattle.core.specs.declared.evening.Evened.{Evened}
 use Rattle.core.specs.declared.redemption.Plan.{Plan}
-use Rattle.core.specs.Flat.{Rows, tradesTo, tradesOf, bookOf, eveningAt, appliedAt, closedBy, tableBy, Kept}
+use Rattle.core.specs.Flat.{Rows, rowsOf, tradesTo, tradesOf, bookOf, eveningAt, appliedAt, closedBy, tableBy, Kept}
 use Rattle.core.proofs.FitFacts.{fit-in-use}
 use Rattle.core.proofs.FlatLaws.{length-trades, take-trades}
 use Rattle.core.proofs.VaultLaws.{Sound}
@@ -156,6 +156,11 @@ module _ (calendar : Calendar) (desk : Desk) (rows : Rows) (left table : List Tr
   pub close-refused : (n : ℕ) (r : Done) → outcome ≡ some n → r ≡ record { answer = answer n; desk = desk }
       → (appliedAt r rows ≡ closedBy outcome calendar (bookOf desk rows) left table) × (table ≡ tableBy outcome table (closedTable (bookOf desk rows) left table))
   close-refused n r e same = rw (e, same) (refl, refl)
+
+-- the applications as they were cleared
+pub rows-cleared : (desk : Desk) (held : List ℕ) {kinds cleared-kinds units cleared-units : List ℕ} {book : Book} → kinds ≡ cleared-kinds → units ≡ cleared-units
+    → bookOf desk (rowsOf held cleared-kinds cleared-units) ≡ book → bookOf desk (rowsOf held kinds units) ≡ book
+rows-cleared desk held k u e = rw (k, u) e
 
 pub close-done : (calendar : Calendar) (book : Book) (left table : List Trade) (matured : ℕ) (evened : Evened) (securities : List Security) (desk : Desk) (rows : Rows)
     → matured ≡ maturedSheets book table → eveningAt evened securities ≡ evening book left → bookOf desk rows ≡ closedBook calendar book left table

@@ -19,7 +19,7 @@ abbrev μ-loop : tie.MeasureT-loop
 -- the bucket is that of the trade's contract, and lies within
 module _ (c : tie.After-bucket-of Inv-loop μ-loop) where
   abbrev start : tie.Start Inv-loop μ-loop
-  start = c .before .before .before .before .before .before .before
+  start = search needs
 
   fell : c .bucket-of .result ≡ bucketOf (start .args .buckets) (tradeAt (start .args .table .now) (c .before .before .before .loop .i) .contract)
   fell = rw (c .before .contract-at .ensures) at (c .bucket-of .ensures)
@@ -42,10 +42,14 @@ loop-holds : tie.Need-loop-holds Inv-loop μ-loop
 loop-holds c = let s = c .before .before .before in (none-linked _ _ _ _ _ (s .pre .2) (s .pre .3) (s .pre .4) (s .pre .5), search needs, search needs)
 
 contract-at-requires : tie.Need-contract-at-requires Inv-loop μ-loop
-contract-at-requires c κs = omega (arith, c .loop-test .taken, c .before .before .before .before .before .pre .0)
+contract-at-requires c κs =
+    let s : tie.Start Inv-loop μ-loop = search needs in
+    omega (arith, c .loop-test .taken, s .pre .0)
 
 bucket-of-requires : tie.Need-bucket-of-requires Inv-loop μ-loop
-bucket-of-requires c κs = c .before .before .before .before .before .before .pre .2
+bucket-of-requires c κs =
+    let s : tie.Start Inv-loop μ-loop = search needs in
+    s .pre .2
 
 mul-first : tie.Need-mul-first Inv-loop μ-loop
 mul-first c = record { fits = omega (arith, within c, c .before .before .before .loop .inv .0 .wide, c .before .before .before .loop .inv .0 .most) }
@@ -54,14 +58,20 @@ slice-read-first : tie.Need-slice-read-first Inv-loop μ-loop
 slice-read-first c = within (c .before)
 
 cast-look-along : tie.Need-cast-look-along Inv-loop μ-loop
-cast-look-along c = let l = c .before .before .before .before .before .loop in record { fits = omega (arith, l .inv .0 .low (c .before .before .bucket-of .result), c .before .before .before .before .loop-test .taken, c .before .before .before .before .before .before .before .before .before .pre .1) }
+cast-look-along c =
+    let at-loop-at : tie.At-loop Inv-loop μ-loop = search needs in
+    let at-loop-in : tie.In-loop Inv-loop μ-loop = search needs in
+    let s : tie.Start Inv-loop μ-loop = search needs in
+    let l = at-loop-at .loop in record { fits = omega (arith, l .inv .0 .low (c .before .before .bucket-of .result), at-loop-in .loop-test .taken, s .pre .1) }
 
 look-along-requires : tie.Need-look-along-requires Inv-loop μ-loop
 look-along-requires c κs =
-    let s = c .before .before .before .before .before .before .before .before .before in
-    let linked = c .before .before .before .before .before .loop .inv .0 in
+    let at-loop-at : tie.At-loop Inv-loop μ-loop = search needs in
+    let at-loop-in : tie.In-loop Inv-loop μ-loop = search needs in
+    let s : tie.Start Inv-loop μ-loop = search needs in
+    let linked = at-loop-at .loop .inv .0 in
     let low = linked .low (c .before .before .bucket-of .result) in
-    let more = c .before .before .before .before .loop-test .taken in
+    let more = at-loop-in .loop-test .taken in
     (omega (arith, low, more, s .pre .0), omega (arith, low, more, linked .long), λ at l. linked .falls at (omega (arith, l, low)))
 
 enum-told : tie.Need-enum-told Inv-loop μ-loop
@@ -77,7 +87,10 @@ same-length-2 : tie.Need-same-length-2 Inv-loop μ-loop
 same-length-2 c = search needs
 
 returns : tie.Need-returns Inv-loop μ-loop
-returns c = repeated _ _ _ _ _ _ (c .before .before .before .before .before .before .before .before .loop .inv .0) (c .before .before .before .before .before .before .before .loop-test .taken) (rw (c .enum-told2 .given .1) at (told (c .before .before)))
+returns c =
+    let at-loop-at : tie.At-loop Inv-loop μ-loop = search needs in
+    let at-loop-in : tie.In-loop Inv-loop μ-loop = search needs in
+    repeated _ _ _ _ _ _ (at-loop-at .loop .inv .0) (at-loop-in .loop-test .taken) (rw (c .enum-told2 .given .1) at (told (c .before .before)))
 
 enum-told-3 : tie.Need-enum-told-3 Inv-loop μ-loop
 enum-told-3 c = search needs
@@ -92,22 +105,39 @@ returns-2 : tie.Need-returns-2 Inv-loop μ-loop
 returns-2 c = tt
 
 mul-next : tie.Need-mul-next Inv-loop μ-loop
-mul-next c = record { fits = omega (arith, c .before .before .before .before .before .before .before .loop-test .taken, c .before .before .before .before .before .before .before .before .before .before .before .before .pre .1) }
+mul-next c =
+    let at-loop-in : tie.In-loop Inv-loop μ-loop = search needs in
+    let s : tie.Start Inv-loop μ-loop = search needs in
+    record { fits = omega (arith, at-loop-in .loop-test .taken, s .pre .1) }
 
 slice-write-next : tie.Need-slice-write-next Inv-loop μ-loop
-slice-write-next c = omega (arith, c .before .before .before .before .before .before .before .loop-test .taken, c .before .before .before .before .before .before .before .before .loop .inv .0 .long)
+slice-write-next c =
+    let at-loop-in : tie.In-loop Inv-loop μ-loop = search needs in
+    let at-loop-at : tie.At-loop Inv-loop μ-loop = search needs in
+    omega (arith, at-loop-in .loop-test .taken, at-loop-at .loop .inv .0 .long)
 
 add-heads : tie.Need-add-heads Inv-loop μ-loop
-add-heads c = omega (arith, c .before .before .before .before .before .before .before .loop-test .taken, c .before .before .before .before .before .before .before .before .before .before .before .before .pre .1)
+add-heads c =
+    let at-loop-in : tie.In-loop Inv-loop μ-loop = search needs in
+    let s : tie.Start Inv-loop μ-loop = search needs in
+    omega (arith, at-loop-in .loop-test .taken, s .pre .1)
 
 cast-heads : tie.Need-cast-heads Inv-loop μ-loop
-cast-heads c = record { fits = omega (arith, c .before .before .before .before .before .before .before .loop-test .taken, c .before .before .before .before .before .before .before .before .before .before .before .before .pre .1) }
+cast-heads c =
+    let at-loop-in : tie.In-loop Inv-loop μ-loop = search needs in
+    let s : tie.Start Inv-loop μ-loop = search needs in
+    record { fits = omega (arith, at-loop-in .loop-test .taken, s .pre .1) }
 
 mul-heads : tie.Need-mul-heads Inv-loop μ-loop
-mul-heads c = record { fits = omega (arith, within (c .before .before .before .before .before), c .before .before .before .before .before .before .before .before .loop .inv .0 .wide, c .before .before .before .before .before .before .before .before .loop .inv .0 .most) }
+mul-heads c =
+    let at-bucket-of : tie.After-bucket-of Inv-loop μ-loop = search needs in
+    let at-loop-at : tie.At-loop Inv-loop μ-loop = search needs in
+    record { fits = omega (arith, within at-bucket-of, at-loop-at .loop .inv .0 .wide, at-loop-at .loop .inv .0 .most) }
 
 slice-write-heads : tie.Need-slice-write-heads Inv-loop μ-loop
-slice-write-heads c = within (c .before .before .before .before .before)
+slice-write-heads c =
+    let at-bucket-of : tie.After-bucket-of Inv-loop μ-loop = search needs in
+    within at-bucket-of
 
 add-i : tie.Need-add-i Inv-loop μ-loop
 add-i c = search needs
@@ -117,9 +147,12 @@ loop-less c = search needs
 
 loop-again : tie.Need-loop-again Inv-loop μ-loop
 loop-again c =
-    let here = c .before .before .before .before .before .before .before .before .loop in
-    let linked = next-linked _ _ _ _ _ _ (here .inv .0) (c .before .before .before .before .before .before .before .loop-test .taken) (rw (c .enum-told .given .1) at (told (c .before .before))) in
-    (rw (fell (c .before .before .before .before .before)) linked, length-set {A = ℕ} (here .heads) _ _ ∙ here .inv .1, length-set {A = ℕ} (here .next) _ _ ∙ here .inv .2)
+    let at-loop-at : tie.At-loop Inv-loop μ-loop = search needs in
+    let at-loop-in : tie.In-loop Inv-loop μ-loop = search needs in
+    let at-bucket-of : tie.After-bucket-of Inv-loop μ-loop = search needs in
+    let here = at-loop-at .loop in
+    let linked = next-linked _ _ _ _ _ _ (here .inv .0) (at-loop-in .loop-test .taken) (rw (c .enum-told .given .1) at (told (c .before .before))) in
+    (rw (fell at-bucket-of) linked, length-set {A = ℕ} (here .heads) _ _ ∙ here .inv .1, length-set {A = ℕ} (here .next) _ _ ∙ here .inv .2)
 
 same-length-5 : tie.Need-same-length-5 Inv-loop μ-loop
 same-length-5 c = search needs
@@ -128,7 +161,9 @@ same-length-6 : tie.Need-same-length-6 Inv-loop μ-loop
 same-length-6 c = search needs
 
 returns-3 : tie.Need-returns-3 Inv-loop μ-loop
-returns-3 c = let e : c .before .loop .i ≡ c .before .before .before .before .before .args .count = omega (arith, c .before .loop .inv .0 .high, c .loop-test .left) in rw e at (c .before .loop .inv .0 .differing)
+returns-3 c =
+    let s : tie.Start Inv-loop μ-loop = search needs in
+    let e : c .before .loop .i ≡ s .args .count = omega (arith, c .before .loop .inv .0 .high, c .loop-test .left) in rw e at (c .before .loop .inv .0 .differing)
 
 pub linked-differ-spec : {M : Type 1} → statement M
 linked-differ-spec =

@@ -28,25 +28,36 @@ sub-place : tie.Need-sub-place Inv-loop μ-loop
 sub-place c = omega (arith, c .before .loop-test .taken)
 
 contract-at-requires : tie.Need-contract-at-requires Inv-loop μ-loop
-contract-at-requires c κs = omega (arith, c .before .loop-test .taken, c .before .before .loop .inv .0, c .before .before .before .before .before .pre .0)
+contract-at-requires c κs =
+    let s : tie.Start Inv-loop μ-loop = search needs in
+    omega (arith, c .before .loop-test .taken, c .before .before .loop .inv .0, s .pre .0)
 
 same-contract-requires : tie.Need-same-contract-requires Inv-loop μ-loop
 same-contract-requires c κs = search needs
 
 returns-2 : tie.Need-returns-2 Inv-loop μ-loop
-returns-2 c = (c .before .before .before .before .before .loop .link - 1, omega (arith, c .before .before .before .before .loop-test .taken, c .before .before .before .before .before .loop .inv .0), tested (c .before) ∙ c .if2 .taken)
+returns-2 c =
+    let at-loop-at : tie.At-loop Inv-loop μ-loop = search needs in
+    let at-loop-in : tie.In-loop Inv-loop μ-loop = search needs in
+    (at-loop-at .loop .link - 1, omega (arith, at-loop-in .loop-test .taken, at-loop-at .loop .inv .0), tested (c .before) ∙ c .if2 .taken)
 
 mul-link : tie.Need-mul-link Inv-loop μ-loop
 mul-link c = search needs
 
 shared-slice-read-link : tie.Need-shared-slice-read-link Inv-loop μ-loop
-shared-slice-read-link c = omega (arith, c .before .before .before .before .before .loop-test .taken, c .before .before .before .before .before .before .loop .inv .0, c .before .before .before .before .before .before .before .before .before .pre .1)
+shared-slice-read-link c =
+    let at-loop-in : tie.In-loop Inv-loop μ-loop = search needs in
+    let at-loop-at : tie.At-loop Inv-loop μ-loop = search needs in
+    let s : tie.Start Inv-loop μ-loop = search needs in
+    omega (arith, at-loop-in .loop-test .taken, at-loop-at .loop .inv .0, s .pre .1)
 
 cast-link : tie.Need-cast-link Inv-loop μ-loop
 cast-link c =
-    let s = c .before .before .before .before .before .before .before .before .before in
-    let here = c .before .before .before .before .before .before .loop in
-    let down = s .pre .2 (here .link - 1) (omega (arith, here .inv .0, c .before .before .before .before .before .loop-test .taken)) in
+    let at-loop-at : tie.At-loop Inv-loop μ-loop = search needs in
+    let at-loop-in : tie.In-loop Inv-loop μ-loop = search needs in
+    let s : tie.Start Inv-loop μ-loop = search needs in
+    let here = at-loop-at .loop in
+    let down = s .pre .2 (here .link - 1) (omega (arith, here .inv .0, at-loop-in .loop-test .taken)) in
     record { fits = omega (arith, down, here .inv .0, s .good) }
 
 add-steps : tie.Need-add-steps Inv-loop μ-loop
@@ -57,10 +68,12 @@ loop-less c = search needs
 
 loop-again : tie.Need-loop-again Inv-loop μ-loop
 loop-again c =
-    let s = c .before .before .before .before .before .before .before .before .before in
-    let here = c .before .before .before .before .before .before .loop in
-    let link : here .link ≡ suc (here .link - 1) = omega (arith, c .before .before .before .before .before .loop-test .taken) in
-    let down = s .pre .2 (here .link - 1) (omega (arith, here .inv .0, c .before .before .before .before .before .loop-test .taken)) in
+    let at-loop-at : tie.At-loop Inv-loop μ-loop = search needs in
+    let at-loop-in : tie.In-loop Inv-loop μ-loop = search needs in
+    let s : tie.Start Inv-loop μ-loop = search needs in
+    let here = at-loop-at .loop in
+    let link : here .link ≡ suc (here .link - 1) = omega (arith, at-loop-in .loop-test .taken) in
+    let down = s .pre .2 (here .link - 1) (omega (arith, here .inv .0, at-loop-in .loop-test .taken)) in
     (omega (arith, down, here .inv .0), search needs, ahead-next _ _ _ _ _ _ link (here .inv .2) (tested (c .before .before) ∙ c .before .if2 .left))
 
 returns-3 : tie.Need-returns-3 Inv-loop μ-loop

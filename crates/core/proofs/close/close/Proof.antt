@@ -1,6 +1,7 @@
-use mathlib.Core.Path.{_≡_, sym, ap, _∙_}
+use mathlib.Core.Path.{_≡_, sym, ap, subst, _∙_}
 use mathlib.Core.Bool.{false, not}
 use mathlib.Core.List.{List}
+use Prim.Native.Nat.{ℕ}
 use borrow.Author.Needs.{needs}
 use borrow.Author.Tests.{le-leb}
 use lib.IntN.{ℤ, pos, natAbs, _+ℤ_}
@@ -39,7 +40,7 @@ module _ (s : tie.Start) where
 
 -- the arguments, seen from the plan on and from the two tests
 abbrev from-plan : tie.After-maturity-plan → tie.Start
-from-plan c = c .before .before .before .before .before .before .before .before .before .before .before .before
+from-plan c = search needs
 
 abbrev from-today : tie.After-today-fit → tie.Start
 from-today c = from-plan (c .before .before)
@@ -47,10 +48,17 @@ from-today c = from-plan (c .before .before)
 abbrev from-cleared : tie.After-cleared-fit → tie.Start
 from-cleared c = from-today (c .before .before .before)
 
-redeemable : (c : tie.After-day-number) → Redeemable (c .before .before .before .before .before .before .before .before .before .before .before .args .table .now) (c .before .before .before .before .before .before .before .before .before .before .before .args .desk .trades) (c .before .before .payment-day .result)
+abbrev from-day : tie.After-day-number → tie.Start
+from-day c = search needs
+
+abbrev past-first : tie.After-today-fit → tie.Else1
+past-first c = search needs
+
+redeemable : (c : tie.After-day-number) → Redeemable (from-day c .args .table .now) (from-day c .args .desk .trades) (c .before .before .payment-day .result)
 redeemable c =
-    let s = c .before .before .before .before .before .before .before .before .before .before .before in
-    rw (c .before .before .payment-day .ensures) (fit-redeemable (s .args .calendar .now) (book s) (s .args .table .now) (s .pre .fits) (s .pre .few))
+    let s = from-day c in
+    subst (λ (day : ℕ). Redeemable (s .args .table .now) (s .args .desk .trades) day) (sym (c .before .before .payment-day .ensures))
+    (fit-redeemable (s .args .calendar .now) (book s) (s .args .table .now) (s .pre .fits) (s .pre .few))
 
 -- the plan is what matures
 module _ (c : tie.After-maturity-plan) where
@@ -100,7 +108,7 @@ answered-requires c κs = search needs
 
 returns : tie.Need-returns
 returns c =
-    let s = c .before .before .before .before .before .before .before .before .before in
+    let s : tie.Start = search needs in
     close-refused (s .args .calendar .now) (s .args .desk) (rows s) (left-of s) (trades s) 4 _
     (not-now (s .args .calendar .now) (book s) (trades s) (denied (c .before .before .may-close .ensures) (c .before .if1 .taken)))
     (c .answered .ensures)
@@ -131,9 +139,10 @@ same-length c = search needs
 
 returns-2 : tie.Need-returns-2
 returns-2 c =
+    let past1 : tie.Else1 = search needs in
     let s = from-today (c .before .before) in
     close-refused (s .args .calendar .now) (s .args .desk) (rows s) (left-of s) (trades s) 14 _
-    (today-outside (s .args .calendar .now) (book s) (trades s) (may-go-on (c .before .before .before .before .before .before .before .before)) (denied (today-asked (c .before .before)) (c .before .if2 .taken)))
+    (today-outside (s .args .calendar .now) (book s) (trades s) (may-go-on past1) (denied (today-asked (c .before .before)) (c .before .if2 .taken)))
     (c .answered2 .ensures)
 
 joined-requires : tie.Need-joined-requires
@@ -153,14 +162,18 @@ same-length-2 c = search needs
 
 returns-3 : tie.Need-returns-3
 returns-3 c =
+    let past1 : tie.Else1 = search needs in
+    let at-today-fit : tie.After-today-fit = search needs in
+    let past2 : tie.Else2 = search needs in
     let s = from-cleared (c .before .before) in
     close-refused (s .args .calendar .now) (s .args .desk) (rows s) (left-of s) (trades s) 14 _
-    (cleared-outside (s .args .calendar .now) (book s) (trades s) (may-go-on (c .before .before .before .before .before .before .before .before .before .before .before)) (denied-not (today-asked (c .before .before .before .before .before)) (c .before .before .before .before .if2 .left)) (denied (cleared-asked (c .before .before)) (c .before .if3 .taken)))
+    (cleared-outside (s .args .calendar .now) (book s) (trades s) (may-go-on past1) (denied-not (today-asked at-today-fit) (past2 .if2 .left)) (denied (cleared-asked (c .before .before)) (c .before .if3 .taken)))
     (c .answered3 .ensures)
 
 closed-requires : tie.Need-closed-requires
 closed-requires c κs =
-    let s = from-cleared (c .before .before .before .before .before) in
+    let at-cleared-fit : tie.After-cleared-fit = search needs in
+    let s = from-cleared at-cleared-fit in
     let fits = fit-parts (s .args .calendar .now) (book s) (trades s) (s .pre .fits) in (
       record {
         held-long = s .pre .held-long;
@@ -187,12 +200,12 @@ same-length-6 c = search needs
 
 returns-4 : tie.Need-returns-4
 returns-4 c =
-    let closed = c .before .before .before .before .before .before .before .before in
-    let left = closed .before .before .before .before .before in
+    let closed : tie.After-closed = search needs in
+    let left : tie.Else3 = search needs in
     let tested = left .before in
     let today = tested .before .before .before in
     let s = from-cleared tested in
-    rw (may-be-closed (s .args .calendar .now) (book s) (trades s) (may-go-on (today .before .before .before .before .before .before)) (denied-not (today-asked today) (tested .before .before .if2 .left)) (denied-not (cleared-asked tested) (left .if3 .left)))
+    rw (may-be-closed (s .args .calendar .now) (book s) (trades s) (may-go-on (past-first today)) (denied-not (today-asked today) (tested .before .before .if2 .left)) (denied-not (cleared-asked tested) (left .if3 .left)))
     (closed .closed .ensures .0 (s .args .calendar .now) (sheets-matured (today .before .before)) (all-joined (tested .before)), closed .closed .ensures .1)
 
 pub close-spec : {M : Type 1} → statement M

@@ -6,7 +6,7 @@ use Rattle.rules.specs.Trades.{outstanding, remaining}
 use Rattle.rules.specs.Close.{maturedTrades, evening}
 use Rattle.core.specs.Types.{Book, Trade}
 use Rattle.core.specs.Flat.{tradesTo, tradesOf, securitiesOf, rowsOf, bookOf, eveningAt}
-use Rattle.core.proofs.CloseLaws.{redeemed-kept, trades-after-maturity, packed-after-maturity, evening-sound, close-done}
+use Rattle.core.proofs.CloseLaws.{redeemed-kept, trades-after-maturity, packed-after-maturity, evening-sound, rows-cleared, close-done}
 use Rattle.core.proofs.close.closed.Statement.{statement}
 use Rattle.core.proofs.close.closed.Tie as tie
 
@@ -21,15 +21,31 @@ module _ (s : tie.Start) where
   abbrev left-of : List Trade
   left-of = maturedTrades book trades
 
+-- back from the end, a few steps at a time: a search looks so far and no further
+abbrev evened : tie.After-clear → tie.After-evening-end
+evened c = search needs
+
+abbrev cleared : tie.After-of-close → tie.After-clear
+cleared c = search needs
+
+abbrev packed : tie.After-evening-end → tie.After-pack
+packed c = search needs
+
+abbrev counted : tie.After-evening-end → tie.After-outstanding-of
+counted c = search needs
+
+abbrev redeemed : tie.After-outstanding-of → tie.After-redeem-due
+redeemed c = search needs
+
 -- those stand in the table, and O counts their sheets
 module _ (c : tie.After-outstanding-of) where
   abbrev from-count : tie.Start
-  from-count = c .before .before .before .before .before .before .before .before .before .before .before .before
+  from-count = search needs
 
-  trades-left : tradesTo (c .before .before .before .before .redeem-due .last .0) (from-count .args .desk .trades) ≡ left-of from-count
+  trades-left : tradesTo (redeemed c .redeem-due .last .0) (from-count .args .desk .trades) ≡ left-of from-count
   trades-left =
-      let redeemed = c .before .before .before .before in
-      trades-after-maturity (book from-count) _ _ _ (redeemed .before .day-number .ensures) (from-count .pre .1) (redeemed .redeem-due .kept .0) (redeemed .redeem-due .ensures)
+      let due = redeemed c in
+      trades-after-maturity (book from-count) _ _ _ (due .before .day-number .ensures) (from-count .pre .1) (due .redeem-due .kept .0) (due .redeem-due .ensures)
 
   sheets-left : c .outstanding-of .result ≡ outstanding (left-of from-count)
   sheets-left = c .outstanding-of .ensures ∙ ap outstanding trades-left
@@ -37,10 +53,10 @@ module _ (c : tie.After-outstanding-of) where
 -- the evening's end
 module _ (c : tie.After-evening-end) where
   abbrev from-evening : tie.Start
-  from-evening = from-count (c .before .before .before .before .before .before .before .before)
+  from-evening = from-count (counted c)
 
   evening-over : eveningAt (c .evening-end .result) (securitiesOf (c .evening-end .last .1 .0)) ≡ evening (book from-evening) (left-of from-evening)
-  evening-over = c .evening-end .ensures (left-of from-evening) (sheets-left (c .before .before .before .before .before .before .before .before))
+  evening-over = c .evening-end .ensures (left-of from-evening) (sheets-left (counted c))
 
 day-number-requires : tie.Need-day-number-requires
 day-number-requires c κs = search needs
@@ -50,8 +66,9 @@ redeem-due-requires c κs = search needs
 
 outstanding-of-requires : tie.Need-outstanding-of-requires
 outstanding-of-requires c κs =
-    let redeemed = c .before .before .before .redeem-due in
-    redeemed-kept _ _ _ _ (c .before .before .before .before .before .before .before .before .before .before .before .pre .1) (redeemed .kept .0) (redeemed .ensures)
+    let s : tie.Start = search needs in
+    let due : tie.After-redeem-due = search needs in
+    redeemed-kept _ _ _ _ (s .pre .1) (due .redeem-due .kept .0) (due .redeem-due .ensures)
 
 pack-requires : tie.Need-pack-requires
 pack-requires c κs = search needs
@@ -60,11 +77,13 @@ evening-end-requires : tie.Need-evening-end-requires
 evening-end-requires c κs = search needs
 
 clear-requires : tie.Need-clear-requires
-clear-requires c κs = let s = from-evening (c .before .before .before .before) in (s .pre .0 .kinds-long, s .pre .0 .units-long)
+clear-requires c κs =
+    let at-evening-end : tie.After-evening-end = search needs in
+    let s = from-evening at-evening-end in (s .pre .0 .kinds-long, s .pre .0 .units-long)
 
 closed-desk-requires : tie.Need-closed-desk-requires
 closed-desk-requires c κs =
-    let end = c .before .before .before .before .before .before .before .before .before .before in
+    let end : tie.After-evening-end = search needs in
     let s = from-evening end in
     let sound = rw (sym (evening-over end)) at (evening-sound (book s) (s .pre .0 .securities) (s .pre .0 .cash) (left-of s)) in
     (end .evening-end .kept .1 .0 ∙ s .pre .0 .held-long, sound .0, sound .1, sound .2)
@@ -73,7 +92,7 @@ of-close-requires : tie.Need-of-close-requires
 of-close-requires c κs = search needs
 
 same-length : tie.Need-same-length
-same-length c = c .before .before .before .before .before .before .before .before .before .before .before .before .evening-end .kept .1 .0
+same-length c = evened (cleared c) .evening-end .kept .1 .0
 
 same-length-2 : tie.Need-same-length-2
 same-length-2 c = search needs
@@ -82,21 +101,25 @@ same-length-3 : tie.Need-same-length-3
 same-length-3 c = search needs
 
 same-length-4 : tie.Need-same-length-4
-same-length-4 c = let packed = c .before .before .before .before .before .before .before .before .before .before .before .before .before .before .before .before .before .before in packed .pack .kept .0 ∙ packed .before .before .before .before .before .before .redeem-due .kept .0
+same-length-4 c =
+    let end = evened (cleared c) in packed end .pack .kept .0 ∙ redeemed (counted end) .redeem-due .kept .0
 
 returns : tie.Need-returns
-returns d =
-    let c = d .before in
-    let cleared = c .before .before .before .before .before .before .clear in
-    let end = c .before .before .before .before .before .before .before .before .before .before .before in
-    let packed = end .before .before .before .before .before .before in
-    let counted = packed .before .before in
-    let redeemed = counted .before .before .before .before in
-    let s = from-count counted in (
+returns c =
+    let clear = cleared c .clear in
+    let end = evened (cleared c) in
+    let pack = packed end .pack in
+    let count = counted end in
+    let due = redeemed count in
+    let s = from-count count in
+    let desk = c .before .closed-desk in (
       (λ calendar matured nets.
-          let next = c .closed-desk .ensures calendar _ (left-of s) (trades s) nets (evening-over end) (sheets-left counted) (packed .pack .ensures .0 ∙ ap (λ l. length (remaining l)) (trades-left counted)) in
-          rw (d .of-close .ensures) (close-done calendar (book s) (left-of s) (trades s) (s .args .matured) (end .evening-end .result) (securitiesOf (end .evening-end .last .1 .0)) (c .closed-desk .result) (rowsOf (end .evening-end .last .1 .0) (cleared .last .0) (cleared .last .1 .0)) matured (evening-over end) (rw (cleared .ensures .0, cleared .ensures .1) next))),
-      packed .pack .ensures .1 ∙ packed-after-maturity (book s) _ _ _ (redeemed .before .day-number .ensures) (s .pre .1) (redeemed .redeem-due .kept .0) (redeemed .redeem-due .ensures),
+          let kept = pack .ensures .0 ∙ ap (λ l. length (remaining l)) (trades-left count) in
+          let next = desk .ensures calendar _ (left-of s) (trades s) nets (evening-over end) (sheets-left count) kept in
+          rw (c .of-close .ensures)
+          (close-done calendar (book s) (left-of s) (trades s) (s .args .matured) (end .evening-end .result) (securitiesOf (end .evening-end .last .1 .0))
+          (desk .result) (rowsOf (end .evening-end .last .1 .0) (clear .last .0) (clear .last .1 .0)) matured (evening-over end) (rows-cleared _ _ (clear .ensures .0) (clear .ensures .1) next))),
+      pack .ensures .1 ∙ packed-after-maturity (book s) _ _ _ (due .before .day-number .ensures) (s .pre .1) (due .redeem-due .kept .0) (due .redeem-due .ensures),
     )
 
 pub closed-spec : {M : Type 1} → statement M

@@ -17,7 +17,9 @@ all-arrived-requires : tie.Need-all-arrived-requires
 all-arrived-requires c κs = search needs
 
 guarantee-arrived-requires : tie.Need-guarantee-arrived-requires
-guarantee-arrived-requires c κs = omega (arith, cash-fits _ _ (c .before .before .before .before .before .before .before .before .before .pre .cash) .sum)
+guarantee-arrived-requires c κs =
+    let s : tie.Start = search needs in
+    omega (arith, cash-fits _ _ (s .pre .cash) .sum)
 
 is-served-requires : tie.Need-is-served-requires
 is-served-requires c κs = search needs
@@ -25,8 +27,9 @@ is-served-requires c κs = search needs
 applications-requires : tie.Need-applications-requires
 unfolding allArrived
 applications-requires c κs =
-    let s = c .before .before .before .before .before .before .before .before .before .before .before .before in
-    let arrived = c .before .before .before .before .before .all-arrived in
+    let at-all-arrived : tie.After-all-arrived = search needs in
+    let s : tie.Start = search needs in
+    let arrived = at-all-arrived .all-arrived in
     let kept = evening-begins (book s) (s .pre .securities) (s .pre .cash) in
     let sound = sound-of (begun (book s)) kept in
     rw (c .before .before .guarantee-arrived .ensures, arrived .ensures)
@@ -37,9 +40,11 @@ same-length c = search needs
 
 returns : tie.Need-returns
 unfolding evening allArrived
-returns c = λ trades left.
+returns c =
+    let at-all-arrived : tie.After-all-arrived = search needs in
+    λ trades left.
     let end = c .before .before in
-    rw (end .applications .ensures, end .before .before .is-served .ensures, end .before .before .before .guarantee-arrived .ensures, end .before .before .before .before .before .before .all-arrived .ensures, left)
+    rw (end .applications .ensures, end .before .before .is-served .ensures, end .before .before .before .guarantee-arrived .ensures, at-all-arrived .all-arrived .ensures, left)
 
 pub evening-end-spec : {M : Type 1} → statement M
 evening-end-spec =

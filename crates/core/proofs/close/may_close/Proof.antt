@@ -22,7 +22,8 @@ is-terminated-requires c κs = search needs
 
 returns-3 : tie.Need-returns-3
 returns-3 c =
-    rw (sym (c .before .before .before .before .is-paid .ensures) ∙ c .before .before .before .if1 .left, sym (c .before .before .is-trading .ensures) ∙ not-false _ (c .before .if2 .left))
+    let at-is-paid : tie.After-is-paid = search needs in
+    rw (sym (at-is-paid .is-paid .ensures) ∙ c .before .before .before .if1 .left, sym (c .before .before .is-trading .ensures) ∙ not-false _ (c .before .if2 .left))
     (c .is-terminated .ensures)
 
 pub may-close-spec : {M : Type 1} → statement M

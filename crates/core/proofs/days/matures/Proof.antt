@@ -13,7 +13,9 @@ at-or-after-requires c κs = search needs
 
 -- number is not 0: there is no such day
 returns : tie.Need-returns
-returns c = none-followed _ _ (c .before .before .before .before .pre) (λ z. c .if1 .taken (ap (λ (f : Found). f .number) (c .before .before .at-or-after .ensures) ∙ z))
+returns c =
+    let s : tie.Start = search needs in
+    none-followed _ _ (s .pre) (λ z. c .if1 .taken (ap (λ (f : Found). f .number) (c .before .before .at-or-after .ensures) ∙ z))
 
 has-next-requires : tie.Need-has-next-requires
 has-next-requires c κs = search needs
@@ -21,8 +23,9 @@ has-next-requires c κs = search needs
 -- number 0: the day found is looked at
 returns-2 : tie.Need-returns-2
 returns-2 c =
+    let s : tie.Start = search needs in
     let answered = c .before .before .before .at-or-after .ensures in
-    let found = found-at-0 _ _ (c .before .before .before .before .before .pre) (sym (ap (λ (f : Found). f .number) answered) ∙ c .before .if1 .left) in
+    let found = found-at-0 _ _ (s .pre) (sym (ap (λ (f : Found). f .number) answered) ∙ c .before .if1 .left) in
     c .has-next .ensures ∙ ap (followed _) (sym (found ∙ ap (λ (f : Found). some (f .day)) (sym answered)))
 
 pub matures-spec : {M : Type 1} → statement M

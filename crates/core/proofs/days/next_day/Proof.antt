@@ -12,12 +12,14 @@ next-found-requires c κs = search needs
 
 returns : tie.Need-returns
 returns c =
-    ap toDay (sym (none-elsewhere _ _ (c .before .before .before .before .pre) (λ z. c .if1 .taken (ap (λ (f : Found). f .number) (c .before .before .next-found .ensures) ∙ z))))
+    let s : tie.Start = search needs in
+    ap toDay (sym (none-elsewhere _ _ (s .pre) (λ z. c .if1 .taken (ap (λ (f : Found). f .number) (c .before .before .next-found .ensures) ∙ z))))
 
 returns-2 : tie.Need-returns-2
 returns-2 c =
+    let s : tie.Start = search needs in
     let answered = c .before .before .next-found .ensures in
-    let found = found-at-0 _ _ (c .before .before .before .before .pre) (sym (ap (λ (f : Found). f .number) answered) ∙ c .if1 .left) in
+    let found = found-at-0 _ _ (s .pre) (sym (ap (λ (f : Found). f .number) answered) ∙ c .if1 .left) in
     ap toDay (sym (found ∙ ap (λ (f : Found). some (f .day)) (sym answered)))
 
 pub next-day-spec : {M : Type 1} → statement M

@@ -30,11 +30,14 @@ same-length-4 : tie.Need-same-length-4
 same-length-4 c = search needs
 
 returns : tie.Need-returns
-returns c = rw (c .before .before .before .before .before .before .before .before .before .before .before .before .before .before .entry .given .1) (c .before .before .before .before .before .before .before .before .event-on .ensures)
+returns c =
+    let at-entry : tie.After-entry = search needs in
+    let at-event-on : tie.After-event-on = search needs in
+    rw (at-entry .entry .given .1) (at-event-on .event-on .ensures)
 
 returns-2 : tie.Need-returns-2
 returns-2 c =
-    let s = c .before .before .before .before .before .before .before .before in
+    let s : tie.Start = search needs in
     rw (fit-step _ _ _ (s .pre .book .fits) (s .pre .book .few) _, c .before .enum-told .given .1, hit 2 _ refl, c .answered .ensures) (refl, refl)
 
 pub entry-on-spec : {M : Type 1} → statement M

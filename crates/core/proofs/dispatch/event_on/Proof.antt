@@ -46,7 +46,7 @@ enum-told c = search needs
 
 open-requires : tie.Need-open-requires
 open-requires c κs =
-    let s = c .before .before .before .before .before .before .before .before in
+    let s : tie.Start = search needs in
     record { rows = rows s; few = s .pre .book .few; fits = s .pre .book .fits }
 
 enum-known-event : tie.Need-enum-known-event
@@ -54,7 +54,7 @@ enum-known-event c = search needs
 
 fund-in-requires : tie.Need-fund-in-requires
 fund-in-requires c κs =
-    let s = c .before .before .before .before .before .before .before .before in
+    let s : tie.Start = search needs in
     cash s
 
 enum-known-event-2 : tie.Need-enum-known-event-2
@@ -74,7 +74,7 @@ enum-known-event-4 c = search needs
 
 set-rate-requires : tie.Need-set-rate-requires
 set-rate-requires c κs =
-    let s = c .before .before .before .before .before .before .before .before .before in
+    let s : tie.Start = search needs in
     s .pre .book .held-long
 
 enum-known-event-5 : tie.Need-enum-known-event-5
@@ -82,7 +82,7 @@ enum-known-event-5 c = search needs
 
 pledge-requires : tie.Need-pledge-requires
 pledge-requires c κs =
-    let s = c .before .before .before .before .before .before .before .before .before in
+    let s : tie.Start = search needs in
     (s .pre .book .held-long, securities s, cash s)
 
 enum-known-event-6 : tie.Need-enum-known-event-6
@@ -90,7 +90,7 @@ enum-known-event-6 c = search needs
 
 freeze-requires : tie.Need-freeze-requires
 freeze-requires c κs =
-    let s = c .before .before .before .before .before .before .before .before .before in
+    let s : tie.Start = search needs in
     s .pre .book .held-long
 
 enum-known-event-7 : tie.Need-enum-known-event-7
@@ -98,7 +98,7 @@ enum-known-event-7 c = search needs
 
 withdraw-requires : tie.Need-withdraw-requires
 withdraw-requires c κs =
-    let s = c .before .before .before .before .before .before .before .before .before .before .before in
+    let s : tie.Start = search needs in
     ((s .pre .book .held-long, s .pre .book .kinds-long, s .pre .book .units-long), (withdrawals s, securities s, cash s))
 
 enum-known-event-8 : tie.Need-enum-known-event-8
@@ -106,7 +106,7 @@ enum-known-event-8 c = search needs
 
 initial-requires : tie.Need-initial-requires
 initial-requires c κs =
-    let s = c .before .before .before .before .before .before .before .before .before .before in
+    let s : tie.Start = search needs in
     record {
       book = record { kinds = s .args .kinds .now; units = s .args .units .now; held-long = s .pre .book .held-long; few = s .pre .book .few; fits = s .pre .book .fits };
       counted = s .pre .counted;
@@ -117,7 +117,7 @@ enum-known-event-9 c = search needs
 
 early-requires : tie.Need-early-requires
 early-requires c κs =
-    let s = c .before .before .before .before .before .before .before .before .before in
+    let s : tie.Start = search needs in
     record { rows = rows s; few = s .pre .book .few; fits = s .pre .book .fits }
 
 enum-told-2 : tie.Need-enum-told-2
@@ -125,7 +125,7 @@ enum-told-2 c = search needs
 
 pay-requires : tie.Need-pay-requires
 pay-requires c κs =
-    let s = c .before .before .before .before .before .before .before in
+    let s : tie.Start = search needs in
     (nets s, cash s)
 
 enum-told-3 : tie.Need-enum-told-3
@@ -133,7 +133,7 @@ enum-told-3 c = search needs
 
 close-requires : tie.Need-close-requires
 close-requires c κs =
-    let s = c .before .before .before .before .before .before .before .before .before .before .before in
+    let s : tie.Start = search needs in
     s .pre .book
 
 same-length : tie.Need-same-length
@@ -142,25 +142,26 @@ same-length c = search needs
 returns : tie.Need-returns
 unfolding eventCauses act
 returns c =
-    let s = c .before .before .before .before .before .before .before .before .before .before .before in
-    rw (c .before .before .before .before .enum-told .given .1) (changes-table _ (book s) (table s) (s .pre .book .fits) (s .pre .book .few) _ _ _ refl _ _ (c .before .before .«open» .ensures (rows s)))
+    let at-enum-told : tie.After-enum-told = search needs in
+    let s : tie.Start = search needs in
+    rw (at-enum-told .enum-told .given .1) (changes-table _ (book s) (table s) (s .pre .book .fits) (s .pre .book .few) _ _ _ refl _ _ (c .before .before .«open» .ensures (rows s)))
 
 returns-2 : tie.Need-returns-2
 unfolding eventCauses act
 returns-2 c =
-    let s = c .before .before .before .before .before .before .before .before .before in
+    let s : tie.Start = search needs in
     rw (c .before .before .event .given .1) (leaves-table _ (book s) (table s) (s .pre .book .fits) (s .pre .book .few) _ _ refl _ (c .fund-in .ensures (rows s)))
 
 returns-3 : tie.Need-returns-3
 unfolding eventCauses act
 returns-3 c =
-    let s = c .before .before .before .before .before .before .before .before .before in
+    let s : tie.Start = search needs in
     rw (c .before .before .event2 .given .1) (leaves-table _ (book s) (table s) (s .pre .book .fits) (s .pre .book .few) _ _ refl _ (c .fund-out .ensures (rows s)))
 
 returns-4 : tie.Need-returns-4
 unfolding eventCauses act
 returns-4 c =
-    let s = c .before .before .before .before .before .before .before .before .before in
+    let s : tie.Start = search needs in
     rw (c .before .before .event3 .given .1) (leaves-table _ (book s) (table s) (s .pre .book .fits) (s .pre .book .few) _ _ refl _ (c .set-size .ensures (rows s) (table s) (s .pre .counted)))
 
 same-length-2 : tie.Need-same-length-2
@@ -169,8 +170,9 @@ same-length-2 c = search needs
 returns-5 : tie.Need-returns-5
 unfolding eventCauses act
 returns-5 c =
-    let s = c .before .before .before .before .before .before .before .before .before .before .before .before in
-    rw (c .before .before .before .before .before .event4 .given .1) (leaves-table _ (book s) (table s) (s .pre .book .fits) (s .pre .book .few) _ _ refl _ (c .before .before .set-rate .ensures (s .args .kinds .now) (s .args .units .now)))
+    let at-event4 : tie.After-event4 = search needs in
+    let s : tie.Start = search needs in
+    rw (at-event4 .event4 .given .1) (leaves-table _ (book s) (table s) (s .pre .book .fits) (s .pre .book .few) _ _ refl _ (c .before .before .set-rate .ensures (s .args .kinds .now) (s .args .units .now)))
 
 same-length-3 : tie.Need-same-length-3
 same-length-3 c = search needs
@@ -178,8 +180,9 @@ same-length-3 c = search needs
 returns-6 : tie.Need-returns-6
 unfolding eventCauses act
 returns-6 c =
-    let s = c .before .before .before .before .before .before .before .before .before .before .before .before in
-    rw (c .before .before .before .before .before .event5 .given .1) (leaves-table _ (book s) (table s) (s .pre .book .fits) (s .pre .book .few) _ _ refl _ (c .before .before .pledge .ensures (s .args .kinds .now) (s .args .units .now)))
+    let at-event5 : tie.After-event5 = search needs in
+    let s : tie.Start = search needs in
+    rw (at-event5 .event5 .given .1) (leaves-table _ (book s) (table s) (s .pre .book .fits) (s .pre .book .few) _ _ refl _ (c .before .before .pledge .ensures (s .args .kinds .now) (s .args .units .now)))
 
 same-length-4 : tie.Need-same-length-4
 same-length-4 c = search needs
@@ -187,8 +190,9 @@ same-length-4 c = search needs
 returns-7 : tie.Need-returns-7
 unfolding eventCauses act
 returns-7 c =
-    let s = c .before .before .before .before .before .before .before .before .before .before .before .before in
-    rw (c .before .before .before .before .before .event6 .given .1) (leaves-table _ (book s) (table s) (s .pre .book .fits) (s .pre .book .few) _ _ refl _ (c .before .before .freeze .ensures (s .args .kinds .now) (s .args .units .now)))
+    let at-event6 : tie.After-event6 = search needs in
+    let s : tie.Start = search needs in
+    rw (at-event6 .event6 .given .1) (leaves-table _ (book s) (table s) (s .pre .book .fits) (s .pre .book .few) _ _ refl _ (c .before .before .freeze .ensures (s .args .kinds .now) (s .args .units .now)))
 
 same-length-5 : tie.Need-same-length-5
 same-length-5 c = search needs
@@ -202,8 +206,10 @@ same-length-7 c = search needs
 returns-8 : tie.Need-returns-8
 unfolding eventCauses act
 returns-8 c =
-    let s = c .before .before .before .before .before .before .before .before .before .before .before .before .before .before .before .before in
-    rw (c .before .before .before .before .before .before .before .before .before .event7 .given .1) (leaves-table _ (book s) (table s) (s .pre .book .fits) (s .pre .book .few) _ _ refl _ (c .before .before .before .before .withdraw .ensures))
+    let at-event7 : tie.After-event7 = search needs in
+    let at-withdraw : tie.After-withdraw = search needs in
+    let s : tie.Start = search needs in
+    rw (at-event7 .event7 .given .1) (leaves-table _ (book s) (table s) (s .pre .book .fits) (s .pre .book .few) _ _ refl _ (at-withdraw .withdraw .ensures))
 
 same-length-8 : tie.Need-same-length-8
 same-length-8 c = search needs
@@ -214,8 +220,9 @@ same-length-9 c = search needs
 returns-9 : tie.Need-returns-9
 unfolding eventCauses act
 returns-9 c =
-    let s = c .before .before .before .before .before .before .before .before .before .before .before .before .before in
-    rw (c .before .before .before .before .before .before .event8 .given .1) (changes-table _ (book s) (table s) (s .pre .book .fits) (s .pre .book .few) _ _ _ refl _ _ (c .before .before .initial .ensures (s .args .kinds .now) (s .args .units .now)))
+    let at-event8 : tie.After-event8 = search needs in
+    let s : tie.Start = search needs in
+    rw (at-event8 .event8 .given .1) (changes-table _ (book s) (table s) (s .pre .book .fits) (s .pre .book .few) _ _ _ refl _ _ (c .before .before .initial .ensures (s .args .kinds .now) (s .args .units .now)))
 
 same-length-10 : tie.Need-same-length-10
 same-length-10 c = search needs
@@ -223,13 +230,14 @@ same-length-10 c = search needs
 returns-10 : tie.Need-returns-10
 unfolding eventCauses act
 returns-10 c =
-    let s = c .before .before .before .before .before .before .before .before .before .before .before .before in
-    rw (c .before .before .before .before .before .event9 .given .1) (changes-table _ (book s) (table s) (s .pre .book .fits) (s .pre .book .few) _ _ _ refl _ _ (c .before .before .early .ensures (rows s)))
+    let at-event9 : tie.After-event9 = search needs in
+    let s : tie.Start = search needs in
+    rw (at-event9 .event9 .given .1) (changes-table _ (book s) (table s) (s .pre .book .fits) (s .pre .book .few) _ _ _ refl _ _ (c .before .before .early .ensures (rows s)))
 
 returns-11 : tie.Need-returns-11
 unfolding eventCauses act
 returns-11 c =
-    let s = c .before .before .before .before .before .before .before .before in
+    let s : tie.Start = search needs in
     rw (c .before .enum-told2 .given .1) (leaves-table _ (book s) (table s) (s .pre .book .fits) (s .pre .book .few) _ _ refl _ (c .pay .ensures (rows s)))
 
 same-length-11 : tie.Need-same-length-11
@@ -247,8 +255,10 @@ same-length-14 c = search needs
 returns-12 : tie.Need-returns-12
 unfolding eventCauses act
 returns-12 c =
-    let s = c .before .before .before .before .before .before .before .before .before .before .before .before .before .before .before .before .before .before .before .before in
-    rw (c .before .before .before .before .before .before .before .before .before .before .before .before .before .enum-told3 .given .1) (changes-table _ (book s) (table s) (s .pre .book .fits) (s .pre .book .few) _ _ _ refl _ _ (c .before .before .before .before .before .before .before .before .close .ensures))
+    let at-enum-told3 : tie.After-enum-told3 = search needs in
+    let at-close : tie.After-close = search needs in
+    let s : tie.Start = search needs in
+    rw (at-enum-told3 .enum-told3 .given .1) (changes-table _ (book s) (table s) (s .pre .book .fits) (s .pre .book .few) _ _ _ refl _ _ (at-close .close .ensures))
 
 pub event-on-spec : {M : Type 1} → statement M
 event-on-spec =

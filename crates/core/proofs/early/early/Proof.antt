@@ -18,12 +18,13 @@ kept s = fit-keeps (s .args .calendar .now) (bookOf (s .args .desk) (s .pre .row
 
 clear : (c : tie.Else1) (rows : Rows) → (let s = c .before .before .before .before .before .before .before .args in firstOf (earlyCauses (s .calendar .now) (bookOf (s .desk) rows) (tradesOf (s .table .now)) (s .contract) (s .count) (s .price)) ≡ none)
 clear c rows =
-    let s = c .before .before .before .before .before .before .before .args in
+    let s′ : tie.Start = search needs in
+    let s = s′ .args in
     early-clear (s .calendar .now) (bookOf (s .desk) rows) _ _ _ _ _ (c .before .early-refusal .ensures rows) (c .if1 .left)
 
 redeems : (c : tie.Else1) → (let s = c .before .before .before .before .before .before .before .args in Redeems (s .table .now) (s .desk .trades) (c .before .before .before .place-of .result) (s .count) (s .price))
 redeems c =
-    let start = c .before .before .before .before .before .before .before in
+    let start : tie.Start = search needs in
     early-redeems (start .args .calendar .now) (bookOf (start .args .desk) (start .pre .rows)) _ _ _ _ _ (start .pre .fits) (c .before .before .before .place-of .ensures) (clear c (start .pre .rows))
 
 place-of-requires : tie.Need-place-of-requires
@@ -40,32 +41,43 @@ same-length c = search needs
 
 returns : tie.Need-returns
 returns c rows =
-    let s = c .before .before .before .before .before .before .before .before .args in
+    let s′ : tie.Start = search needs in
+    let s = s′ .args in
     let causes = earlyCauses (s .calendar .now) (bookOf (s .desk) rows) (tradesOf (s .table .now)) (s .contract) (s .count) (s .price) in
     let refusal = refused (firstOf causes) _ (c .before .before .early-refusal .ensures rows) (c .before .if1 .taken) in
     (turned-down causes _ rows _ _ (c .before .before .early-refusal .ensures rows) (c .before .if1 .taken) (c .answered .ensures) refl, rw refusal)
 
 amount-at-requires : tie.Need-amount-at-requires
 amount-at-requires c κs =
-    let start = c .before .before .before .before .before .before .before .before in
+    let at-place-of : tie.After-place-of = search needs in
+    let start : tie.Start = search needs in
     let r = redeems (c .before) in
-    (record { named = record { book = start .pre; stands = c .before .before .before .before .place-of .ensures }; below = r .below; cheap = r .cheap }, r .few)
+    (record { named = record { book = start .pre; stands = at-place-of .place-of .ensures }; below = r .below; cheap = r .cheap }, r .few)
 
 sheets-at-requires : tie.Need-sheets-at-requires
-sheets-at-requires c κs = omega (arith, redeems (c .before .before .before) .below, kept (c .before .before .before .before .before .before .before .before .before .before) .room)
+sheets-at-requires c κs =
+    let s : tie.Start = search needs in
+    omega (arith, redeems (c .before .before .before) .below, kept s .room)
 
 sub-left : tie.Need-sub-left
-sub-left c = omega (arith, redeems (c .before .before .before .before .before) .enough, c .before .sheets-at .ensures)
+sub-left c =
+    let past1 : tie.Else1 = search needs in
+    omega (arith, redeems past1 .enough, c .before .sheets-at .ensures)
 
 put-sheets-requires : tie.Need-put-sheets-requires
-put-sheets-requires c κs = omega (arith, redeems (c .before .before .before .before .before .before) .below, kept (c .before .before .before .before .before .before .before .before .before .before .before .before .before) .room)
+put-sheets-requires c κs =
+    let past1 : tie.Else1 = search needs in
+    let s : tie.Start = search needs in
+    omega (arith, redeems past1 .below, kept s .room)
 
 today-plus-requires : tie.Need-today-plus-requires
 today-plus-requires c κs =
-    let start = c .before .before .before .before .before .before .before .before .before .before .before .before .before .before .before .before .before in
+    let past1 : tie.Else1 = search needs in
+    let at-amount-at : tie.After-amount-at = search needs in
+    let start : tie.Start = search needs in
     let s = start .args in
-    let r = redeems (c .before .before .before .before .before .before .before .before .before .before) in
-    (fit-net (s .calendar .now) (bookOf (s .desk) (start .pre .rows)) (s .table .now) (start .pre .fits), rw (c .before .before .before .before .before .before .before .before .amount-at .ensures (start .pre .rows)) (early-at-most (s .calendar .now) (bookOf (s .desk) (start .pre .rows)) (tradesOf (s .table .now)) (s .contract) (s .count) (s .price) (start .pre .few) (r .few) (r .cheap)))
+    let r = redeems past1 in
+    (fit-net (s .calendar .now) (bookOf (s .desk) (start .pre .rows)) (s .table .now) (start .pre .fits), rw (at-amount-at .amount-at .ensures (start .pre .rows)) (early-at-most (s .calendar .now) (bookOf (s .desk) (start .pre .rows)) (tradesOf (s .table .now)) (s .contract) (s .count) (s .price) (start .pre .few) (r .few) (r .cheap)))
 
 answered-requires-2 : tie.Need-answered-requires-2
 answered-requires-2 c κs = search needs
@@ -76,12 +88,17 @@ same-length-2 c = search needs
 returns-2 : tie.Need-returns-2
 unfolding earlyBook earlyTable
 returns-2 c rows =
-    let start = c .before .before .before .before .before .before .before .before .before .before .before .before .before .before .before .before .before .before .before in
-    let r = redeems (c .before .before .before .before .before .before .before .before .before .before .before .before) in
-    let written = rw (c .before .before .before .before .before .before .before .before .sheets-at .ensures) at (c .before .before .before .before .before .put-sheets .ensures) in
-    let taken-off = take-off-here _ _ _ _ (kept start .room) (c .before .before .before .before .before .before .before .before .before .before .before .before .before .before .before .place-of .ensures) _ (r .below) in
-    let e = clear (c .before .before .before .before .before .before .before .before .before .before .before .before) rows in
-    (carried-out _ _ rows _ _ e (c .answered2 .ensures) (rw (c .before .today-plus .ensures, c .before .before .before .before .before .before .before .before .before .before .amount-at .ensures rows)), rw e (written ∙ taken-off))
+    let past1 : tie.Else1 = search needs in
+    let at-sheets-at : tie.After-sheets-at = search needs in
+    let at-put-sheets : tie.After-put-sheets = search needs in
+    let at-place-of : tie.After-place-of = search needs in
+    let at-amount-at : tie.After-amount-at = search needs in
+    let start : tie.Start = search needs in
+    let r = redeems past1 in
+    let written = rw (at-sheets-at .sheets-at .ensures) at (at-put-sheets .put-sheets .ensures) in
+    let taken-off = take-off-here _ _ _ _ (kept start .room) (at-place-of .place-of .ensures) _ (r .below) in
+    let e = clear past1 rows in
+    (carried-out _ _ rows _ _ e (c .answered2 .ensures) (rw (c .before .today-plus .ensures, at-amount-at .amount-at .ensures rows)), rw e (written ∙ taken-off))
 
 pub early-spec : {M : Type 1} → statement M
 early-spec =

@@ -16,7 +16,7 @@ day-number-requires c κs = search needs
 
 returns-2 : tie.Need-returns-2
 returns-2 c rows =
-    let start = c .before .before .before .before .before .before in
+    let start : tie.Start = search needs in
     let below = c .before .before .before .if1 .left in
     rw (c .before .due-at .ensures, c .day-number .ensures, present _ _ _ _ (start .pre .0) (start .pre .1) below, trade-here _ _ _ _ (start .pre .0) (start .pre .1) below)
 

@@ -17,7 +17,7 @@ kept s = fit-keeps (s .args .calendar .now) (bookOf (s .args .desk) (s .pre .nam
 -- the sheets are a trade's
 module _ (c : tie.Else1) where
   abbrev start : tie.Start
-  start = c .before .before .before .before .before
+  start = search needs
 
   few : start .args .count .0 ≤ tradeLimit
   few = omega (arith, kept-within _ _ (kept start) _ (start .pre .below) .sheets, c .before .before .sheets-at .ensures, c .if1 .left)
@@ -42,14 +42,14 @@ over-plus-requires c κs =
 
 returns-2 : tie.Need-returns-2
 returns-2 c rows =
-    let enough = c .before .before .before .before in
+    let enough : tie.Else1 = search needs in
     let s = start enough in
     let has = not-short-of _ _ _ _ (kept s .room) (s .pre .named .stands) _ _ (enough .before .before .sheets-at .ensures) (s .pre .below) (enough .if1 .left) in
     let net = rw (c .before .before .amount-at .ensures rows) at (c .before .over-plus .ensures) in search column depth 20
 
 returns-3 : tie.Need-returns-3
 returns-3 c rows =
-    let enough = c .before .before .before .before in
+    let enough : tie.Else1 = search needs in
     let s = start enough in
     let has = not-short-of _ _ _ _ (kept s .room) (s .pre .named .stands) _ _ (enough .before .before .sheets-at .ensures) (s .pre .below) (enough .if1 .left) in
     let net = rw (c .before .before .amount-at .ensures rows) at (c .before .over-plus .ensures) in search column depth 20

@@ -33,8 +33,9 @@ at-hand c =
 
 security-arrived-requires : tie.Need-security-arrived-requires Inv-loop μ-loop
 security-arrived-requires c κs =
-    let s = c .before .before .before .before .before .before in
-    rw (at-hand (c .before)) (securities-fit _ (s .pre .1) (c .before .before .before .before .loop .kind) (omega arith) .units)
+    let at-loop-at : tie.At-loop Inv-loop μ-loop = search needs in
+    let s : tie.Start Inv-loop μ-loop = search needs in
+    rw (at-hand (c .before)) (securities-fit _ (s .pre .1) (at-loop-at .loop .kind) (omega arith) .units)
 
 put-security-requires : tie.Need-put-security-requires Inv-loop μ-loop
 put-security-requires c κs = search needs
@@ -47,13 +48,14 @@ loop-less c = search needs
 
 loop-again : tie.Need-loop-again Inv-loop μ-loop
 loop-again c =
+    let s : tie.Start Inv-loop μ-loop = search needs in
     let put = c .before .before in
     let at = put .before .before .before in
     let loop = at .before .before .before .loop in
-    let l = securitiesOf (at .before .before .before .before .before .args .held .now) in (
+    let l = securitiesOf (s .args .held .now) in (
       search needs,
       put .put-security .kept .0 ∙ loop .inv .1,
-      put .put-security .ensures ∙ rw (put .before .security-arrived .ensures, at-hand at, loop .inv .2) (map-more securityArrived (loop .kind) l noSecurity (omega (arith, length-securities (at .before .before .before .before .before .args .held .now) 32))),
+      put .put-security .ensures ∙ rw (put .before .security-arrived .ensures, at-hand at, loop .inv .2) (map-more securityArrived (loop .kind) l noSecurity (omega (arith, length-securities (s .args .held .now) 32))),
     )
 
 same-length : tie.Need-same-length Inv-loop μ-loop

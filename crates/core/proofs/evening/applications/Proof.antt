@@ -65,7 +65,7 @@ loop-holds c = (omega arith, refl, sym (turn-none _ _), c .value-of .ensures)
 -- the turn at hand: the application, and the evening before it
 module _ (c : tie.In-loop Inv-loop μ-loop) where
   abbrev s : tie.Start Inv-loop μ-loop
-  s = c .before .before .before .before .before .before .before .before
+  s = search needs
 
   abbrev w : Withdrawals
   w = asked (s .args .kinds .now) (s .args .units .now) (s .args .count)
@@ -136,7 +136,7 @@ security-at-requires c κs = search needs
 -- what is had of the kind
 module _ (c : tie.Joined1 Inv-loop μ-loop) where
   abbrev at : tie.In-loop Inv-loop μ-loop
-  at = c .before .before .before .before
+  at = search needs
 
   had-security : kind at < 32 → c .if1 .had ≡ securityAt (vault at) (kind at)
   had-security h =
@@ -163,7 +163,7 @@ judged-requires c κs =
 -- what is judged, of this vault
 module _ (c : tie.After-judged Inv-loop μ-loop) where
   abbrev turn-at : tie.In-loop Inv-loop μ-loop
-  turn-at = c .before .before .before .before .before
+  turn-at = search needs
 
   judgement : (c .judged .result .goes ≡ mayGo (s turn-at .args .served) (s turn-at .args .outstanding) (kind turn-at) (units turn-at) (vault turn-at))
       × (c .judged .result .value ≡ cond (c .judged .result .goes) (valueOf (takenOut (kind turn-at) (units turn-at) (vault turn-at))) (turn-at .before .loop .value))
@@ -189,7 +189,9 @@ as-guarantee-requires : tie.Need-as-guarantee-requires Inv-loop μ-loop
 as-guarantee-requires c κs = search needs
 
 add-own : tie.Need-add-own Inv-loop μ-loop
-add-own c = let at = turn-at (c .before .before .before .before) in omega (arith, kept at .cash, application at .within)
+add-own c =
+    let at-judged : tie.After-judged Inv-loop μ-loop = search needs in
+    let at = turn-at at-judged in omega (arith, kept at .cash, application at .within)
 
 add-dropped : tie.Need-add-dropped Inv-loop μ-loop
 add-dropped c = let at = turn-at (c .before) in omega (arith, seen at, few at, at .loop-test .taken)
@@ -279,7 +281,7 @@ same-length c = c .before .loop .inv .1
 returns : tie.Need-returns Inv-loop μ-loop
 unfolding applications
 returns c =
-    let s = c .before .before .before .before .before .before .before .before in
+    let s : tie.Start Inv-loop μ-loop = search needs in
     let e : c .before .loop .i ≡ s .args .count = omega arith in
     let first = eveningAt (s .args .begun) (securitiesOf (s .args .held .now)) in
     c .before .loop .inv .2

@@ -36,7 +36,7 @@ worth-requires-2 c κs = search needs
 
 add-after : tie.Need-add-after
 add-after c =
-    let s = c .before .before .before .before .before .before in
+    let s : tie.Start = search needs in
     let had = s .args .had in
     let small : kindValue (s .args .kind) (had .effective - s .args .units) (had .frozen) (had .rate) .0 ≤ 2000000000000 = value-bound _ _ _ _ (omega (arith, s .pre .2)) (s .pre .3) in
     omega (arith, small, s .pre .5)
@@ -58,16 +58,20 @@ module _ (c : tie.After-worth2) (vault : Vault) where
   enough held = omega (arith, held .effective, held .frozen, s .pre .1, c .before .before .before .if2 .left)
 
 returns-3 : tie.Need-returns-3
-returns-3 c = λ vault full e f r v.
+returns-3 c =
+    let past1 : tie.Else1 = search needs in
+    λ vault full e f r v.
     let w = c .before in
     let held : Held vault (s w vault .args .kind) (s w vault .args .had) = record { effective = e; frozen = f; rate = r } in
-    (uncovered _ _ _ _ vault (not-false _ (c .before .before .before .before .before .before .if1 .left)) (enough w vault held) (rw (after w vault held full v) at (c .if3 .taken)), refl)
+    (uncovered _ _ _ _ vault (not-false _ (past1 .if1 .left)) (enough w vault held) (rw (after w vault held full v) at (c .if3 .taken)), refl)
 
 returns-4 : tie.Need-returns-4
-returns-4 c = λ vault full e f r v.
+returns-4 c =
+    let past1 : tie.Else1 = search needs in
+    λ vault full e f r v.
     let w = c .before in
     let held : Held vault (s w vault .args .kind) (s w vault .args .had) = record { effective = e; frozen = f; rate = r } in
-    (may-go _ _ _ _ vault (not-false _ (c .before .before .before .before .before .before .if1 .left)) (enough w vault held) (rw (after w vault held full v) at (c .if3 .left)), after w vault held full v)
+    (may-go _ _ _ _ vault (not-false _ (past1 .if1 .left)) (enough w vault held) (rw (after w vault held full v) at (c .if3 .left)), after w vault held full v)
 
 pub judged-spec : {M : Type 1} → statement M
 judged-spec =

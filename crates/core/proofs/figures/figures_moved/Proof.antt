@@ -27,7 +27,9 @@ enum-told : tie.Need-enum-told
 enum-told c = search needs
 
 outstanding-of-requires : tie.Need-outstanding-of-requires
-outstanding-of-requires c κs = fit-keeps _ _ _ (c .before .before .before .before .before .pre .0 .fits)
+outstanding-of-requires c κs =
+    let s : tie.Start = search needs in
+    fit-keeps _ _ _ (s .pre .0 .fits)
 
 enum-told-2 : tie.Need-enum-told-2
 enum-told-2 c = search needs
@@ -42,19 +44,19 @@ enum-told-5 : tie.Need-enum-told-5
 enum-told-5 c = search needs
 
 revalued-requires : tie.Need-revalued-requires
-revalued-requires c κs = let s = c .before .before .before .before .before in (s .pre .0, told s (c .enum-told5 .given .1))
+revalued-requires c κs = let s : tie.Start = search needs in (s .pre .0, told s (c .enum-told5 .given .1))
 
 enum-told-6 : tie.Need-enum-told-6
 enum-told-6 c = search needs
 
 revalued-requires-2 : tie.Need-revalued-requires-2
-revalued-requires-2 c κs = let s = c .before .before .before .before .before in (s .pre .0, told s (c .enum-told6 .given .1))
+revalued-requires-2 c κs = let s : tie.Start = search needs in (s .pre .0, told s (c .enum-told6 .given .1))
 
 enum-told-7 : tie.Need-enum-told-7
 enum-told-7 c = search needs
 
 revalued-requires-3 : tie.Need-revalued-requires-3
-revalued-requires-3 c κs = let s = c .before .before .before .before .before in (s .pre .0, told s (c .enum-told7 .given .1))
+revalued-requires-3 c κs = let s : tie.Start = search needs in (s .pre .0, told s (c .enum-told7 .given .1))
 
 enum-told-8 : tie.Need-enum-told-8
 enum-told-8 c = search needs
@@ -64,7 +66,7 @@ enum-known-event c = search needs
 
 add-t11 : tie.Need-add-t11
 add-t11 c =
-    let s = c .before .before .before .before .before .before .before .before in
+    let s : tie.Start = search needs in
     let parts = fit-parts _ _ _ (s .pre .0 .fits) in
     omega (arith, told s (c .before .before .before .event .given .1) .0, parts .size .within, parts .size .covers)
 
@@ -72,7 +74,9 @@ enum-known-event-2 : tie.Need-enum-known-event-2
 enum-known-event-2 c = search needs
 
 sub-t12 : tie.Need-sub-t12
-sub-t12 c = omega (arith, told (c .before .before .before .before .before .before .before .before) (c .before .before .before .event2 .given .1) .0)
+sub-t12 c =
+    let s : tie.Start = search needs in
+    omega (arith, told s (c .before .before .before .event2 .given .1) .0)
 
 enum-told-9 : tie.Need-enum-told-9
 enum-told-9 c = search needs
@@ -81,21 +85,27 @@ enum-told-10 : tie.Need-enum-told-10
 enum-told-10 c = search needs
 
 figures-of-requires : tie.Need-figures-of-requires
-figures-of-requires c κs = let s = c .before .before .before .before .before in s .pre .0
+figures-of-requires c κs = let s : tie.Start = search needs in s .pre .0
 
 returns : tie.Need-returns
 returns c =
-    let s = c .before .before .before .before .before .before in
+    let s : tie.Start = search needs in
     rw (c .outstanding-of .ensures ∙ ap outstanding (sym (fit-in-use _ _ _ (s .pre .0 .fits))), told s (c .before .enum-told .given .1))
 
 returns-2 : tie.Need-returns-2
-returns-2 c = sym (told (c .before .before .before .before .before) (c .enum-told2 .given .1))
+returns-2 c =
+    let s : tie.Start = search needs in
+    sym (told s (c .enum-told2 .given .1))
 
 returns-3 : tie.Need-returns-3
-returns-3 c = sym (told (c .before .before .before .before .before) (c .enum-told3 .given .1))
+returns-3 c =
+    let s : tie.Start = search needs in
+    sym (told s (c .enum-told3 .given .1))
 
 returns-4 : tie.Need-returns-4
-returns-4 c = sym (told (c .before .before .before .before .before) (c .enum-told4 .given .1))
+returns-4 c =
+    let s : tie.Start = search needs in
+    sym (told s (c .enum-told4 .given .1))
 
 returns-5 : tie.Need-returns-5
 returns-5 c = c .revalued .ensures
@@ -107,20 +117,26 @@ returns-7 : tie.Need-returns-7
 returns-7 c = c .revalued3 .ensures
 
 returns-8 : tie.Need-returns-8
-returns-8 c = sym (told (c .before .before .before .before .before) (c .enum-told8 .given .1))
+returns-8 c =
+    let s : tie.Start = search needs in
+    sym (told s (c .enum-told8 .given .1))
 
 returns-9 : tie.Need-returns-9
 returns-9 c =
-    let p = told (c .before .before .before .before .before .before .before .before) (c .before .before .before .event .given .1) in
+    let s : tie.Start = search needs in
+    let p = told s (c .before .before .before .event .given .1) in
     rw (sym (p .0), sym (p .1))
 
 returns-10 : tie.Need-returns-10
 returns-10 c =
-    let p = told (c .before .before .before .before .before .before .before .before) (c .before .before .before .event2 .given .1) in
+    let s : tie.Start = search needs in
+    let p = told s (c .before .before .before .event2 .given .1) in
     rw (less _ _ _ (p .0), p .1)
 
 returns-11 : tie.Need-returns-11
-returns-11 c = sym (told (c .before .before .before .before .before) (c .enum-told9 .given .1))
+returns-11 c =
+    let s : tie.Start = search needs in
+    sym (told s (c .enum-told9 .given .1))
 
 returns-12 : tie.Need-returns-12
 returns-12 c = c .figures-of .ensures

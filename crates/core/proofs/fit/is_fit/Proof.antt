@@ -10,7 +10,7 @@ securities-fit-requires c κs = search needs
 
 returns : tie.Need-returns
 returns c =
-    let s = c .before .before .before .before .before .before .before in
+    let s : tie.Start = search needs in
     let capacity = s .pre .4 in
     let row = c .before .securities-fit .ensures (s .args .desk .guarantee) in
     by-flat-tests _ _ _ _ (search fitting depth 12)
@@ -20,16 +20,18 @@ cash-fit-requires c κs = search needs
 
 returns-2 : tie.Need-returns-2
 returns-2 c =
-    let s = c .before .before .before .before .before .before .before .before .before .before .before in
+    let at-securities-fit : tie.After-securities-fit = search needs in
+    let s : tie.Start = search needs in
     let capacity = s .pre .4 in
-    let row = c .before .before .before .before .before .securities-fit .ensures (s .args .desk .guarantee) in
+    let row = at-securities-fit .securities-fit .ensures (s .args .desk .guarantee) in
     by-flat-tests _ _ _ _ (search fitting depth 12)
 
 returns-3 : tie.Need-returns-3
 returns-3 c =
-    let s = c .before .before .before .before .before .before .before .before .before .before .before .before in
+    let at-securities-fit : tie.After-securities-fit = search needs in
+    let s : tie.Start = search needs in
     let capacity = s .pre .4 in
-    let row = c .before .before .before .before .before .before .securities-fit .ensures (s .args .desk .guarantee) in
+    let row = at-securities-fit .securities-fit .ensures (s .args .desk .guarantee) in
     let each = gathered-where _ _ (s .pre .5) .0 in
     by-flat-tests _ _ _ _ (search fitting depth 12)
 
@@ -38,9 +40,10 @@ size-fit-requires c κs = search needs
 
 returns-4 : tie.Need-returns-4
 returns-4 c =
-    let s = c .before .before .before .before .before .before .before .before .before .before .before .before .before .before in
+    let at-securities-fit : tie.After-securities-fit = search needs in
+    let s : tie.Start = search needs in
     let capacity = s .pre .4 in
-    let row = c .before .before .before .before .before .before .before .before .securities-fit .ensures (s .args .desk .guarantee) in
+    let row = at-securities-fit .securities-fit .ensures (s .args .desk .guarantee) in
     let gathered = gathered-where _ _ (s .pre .5) in
     let each = upheld (gathered .0) (c .before .before .if3 .left) in
     let size = rw (gathered .1 each .0) at (c .before .size-fit .ensures) in
@@ -48,7 +51,7 @@ returns-4 c =
 
 others-fit-requires : tie.Need-others-fit-requires
 others-fit-requires c κs =
-    let s = c .before .before .before .before .before .before .before .before .before .before .before .before .before .before in
+    let s : tie.Start = search needs in
     let gathered = gathered-where _ _ (s .pre .5) in
     let each = upheld (gathered .0) (c .before .before .if3 .left) in
     (s .pre .3, s .pre .1, s .pre .2, kept-where-fit _ _ (s .pre .4) each, gathered .1 each .1)

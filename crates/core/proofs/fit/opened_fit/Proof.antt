@@ -26,7 +26,7 @@ payment-day-requires c κs = search needs
 
 returns-3 : tie.Need-returns-3
 returns-3 c trades e =
-    let s = c .before .before .before .before .before .before in
+    let s : tie.Start = search needs in
     let begun : leb (s .args .latest) (c .payment-day .result) ≡ allTrades (λ trade. leb (trade .first) (paymentDay (s .args .calendar .now) (On (s .args .today)))) trades = rw (e, c .payment-day .ensures) (latest-decides trades _) in
     search fitting depth 10
 

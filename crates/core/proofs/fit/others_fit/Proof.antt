@@ -25,7 +25,9 @@ day-fit-requires : tie.Need-day-fit-requires
 day-fit-requires c κs = search needs
 
 returns-4 : tie.Need-returns-4
-returns-4 c = let day = c .day-fit .ensures _ (c .before .before .before .before .before .before .before .before .before .before .before .before .before .pre .4) in search fitting depth 12
+returns-4 c =
+    let s : tie.Start = search needs in
+    let day = c .day-fit .ensures _ (s .pre .4) in search fitting depth 12
 
 pub others-fit-spec : {M : Type 1} → statement M
 others-fit-spec =

@@ -12,7 +12,9 @@ same-length : tie.Need-same-length
 same-length c = search needs
 
 returns : tie.Need-returns
-returns c = rw (← (c .before .before .before .before .trade-at .ensures)) (c .before .before .put-trade .ensures .0)
+returns c =
+    let at-trade-at : tie.After-trade-at = search needs in
+    rw (← (at-trade-at .trade-at .ensures)) (c .before .before .put-trade .ensures .0)
 
 pub move-trade-spec : {M : Type 1} → statement M
 move-trade-spec = tie.close (tie.spec trade-at-requires put-trade-requires same-length returns)

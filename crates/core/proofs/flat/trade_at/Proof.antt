@@ -21,7 +21,10 @@ due-at-requires : tie.Need-due-at-requires
 due-at-requires c κs = search needs
 
 returns : tie.Need-returns
-returns c = rw (c .before .before .before .before .before .contract-at .ensures, c .before .before .before .before .sheets-at .ensures, c .before .before .before .price-at .ensures, c .before .before .fallback-at .ensures, c .before .first-at .ensures, c .due-at .ensures)
+returns c =
+    let at-contract-at : tie.After-contract-at = search needs in
+    let at-sheets-at : tie.After-sheets-at = search needs in
+    rw (at-contract-at .contract-at .ensures, at-sheets-at .sheets-at .ensures, c .before .before .before .price-at .ensures, c .before .before .fallback-at .ensures, c .before .first-at .ensures, c .due-at .ensures)
 
 pub trade-at-spec : {M : Type 1} → statement M
 trade-at-spec =

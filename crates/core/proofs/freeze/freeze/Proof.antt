@@ -17,7 +17,7 @@ use Rattle.core.proofs.freeze.freeze.Statement.{statement}
 use Rattle.core.proofs.freeze.freeze.Tie as tie
 
 abbrev start : tie.Else1 → tie.Start
-start c = c .before .before .before .before
+start c = search needs
 
 none-applies : (c : tie.Else1) (kinds amounts : List ℕ) → (let a = start c .args in firstOf (freezeCauses (bookOf (a .desk) (rowsOf (a .held .now) kinds amounts)) (a .kind) (a .units)) ≡ none)
 unfolding eventCauses
@@ -72,7 +72,7 @@ same-length-3 c = search needs
 returns-3 : tie.Need-returns-3
 unfolding frozen
 returns-3 c kinds amounts =
-    let q = c .before .before .before .before .before in
+    let q : tie.Else2 = search needs in
     let a = start (q .before) .args in
     let row = security-at-row (a .held .now) (a .desk .guarantee) (a .kind) (security-kind q) in
     carried-out _ _ (rowsOf (a .held .now) kinds amounts) _ _ (none-applies (q .before) kinds amounts) (c .answered3 .ensures)

@@ -13,7 +13,9 @@ same-length : tie.Need-same-length
 same-length c = search needs
 
 returns : tie.Need-returns
-returns c = c .before .before .put-security .ensures ∙ rw (c .before .before .before .before .security-at .ensures)
+returns c =
+    let at-security-at : tie.After-security-at = search needs in
+    c .before .before .put-security .ensures ∙ rw (at-security-at .security-at .ensures)
 
 pub put-frozen-spec : {M : Type 1} → statement M
 put-frozen-spec = tie.close (tie.spec security-at-requires put-security-requires same-length returns)

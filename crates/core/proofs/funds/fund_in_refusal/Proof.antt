@@ -1,3 +1,4 @@
+use borrow.Author.Needs.{needs}
 use Prim.Native.Nat.{_+_, _≤_, _<_}
 use native.Mathlib.Omega.{arith}
 use Rattle.money.specs.Limits.{cashLimit}
@@ -20,25 +21,31 @@ add-cash : tie.Need-add-cash
 add-cash c = omega (arith, cash-within (c .before .before .before))
 
 add-cash-2 : tie.Need-add-cash-2
-add-cash-2 c = omega (arith, cash-within (c .before .before .before .before))
+add-cash-2 c =
+    let s : tie.Start = search needs in
+    omega (arith, cash-within s)
 
 add-cash-3 : tie.Need-add-cash-3
-add-cash-3 c = omega (arith, cash-within (c .before .before .before .before .before))
+add-cash-3 c =
+    let s : tie.Start = search needs in
+    omega (arith, cash-within s)
 
 sub-if2 : tie.Need-sub-if2
-sub-if2 c = omega (arith, cash-within (c .before .before .before .before .before))
+sub-if2 c =
+    let s : tie.Start = search needs in
+    omega (arith, cash-within s)
 
 returns-2 : tie.Need-returns-2
 unfolding fundInCauses
 returns-2 c rows =
-    let s = c .before .before .before .before .before .before .before in
+    let s : tie.Start = search needs in
     let over : cashLimit < allCash (s .args .desk .cash) (s .args .desk .guarantee) + s .args .amount .0 = omega (arith, cash-within s) in
     search column
 
 returns-3 : tie.Need-returns-3
 unfolding fundInCauses
 returns-3 c rows =
-    let s = c .before .before .before .before .before .before .before in
+    let s : tie.Start = search needs in
     let room : allCash (s .args .desk .cash) (s .args .desk .guarantee) + s .args .amount .0 ≤ cashLimit = omega (arith, cash-within s) in
     search column
 

@@ -52,7 +52,9 @@ answered-requires-2 c κs = search needs
 
 returns-2 : tie.Need-returns-2
 unfolding fundedOut
-returns-2 c rows = carried-out _ _ rows _ _ (none-applies (c .before .before .before .before .before) rows) (c .answered2 .ensures) (rw (c .before .with-account .ensures, c .before .before .before .balance .ensures))
+returns-2 c rows =
+    let past1 : tie.Else1 = search needs in
+    carried-out _ _ rows _ _ (none-applies past1 rows) (c .answered2 .ensures) (rw (c .before .with-account .ensures, c .before .before .before .balance .ensures))
 
 pub fund-out-spec : {M : Type 1} → statement M
 fund-out-spec =

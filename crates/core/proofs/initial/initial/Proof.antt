@@ -15,7 +15,7 @@ use Rattle.core.proofs.initial.initial.Statement.{statement}
 use Rattle.core.proofs.initial.initial.Tie as tie
 
 abbrev start : tie.Else1 → tie.Start
-start c = c .before .before .before .before .before .before
+start c = search needs
 
 clear : (c : tie.Else1) (kinds units : List ℕ) → (let a = start c .args in firstOf (initialCauses (a .calendar .now) (bookOf (a .desk) (rowsOf (a .held .now) kinds units)) (tradesOf (a .table .now)) (a .terms)) ≡ none)
 clear c kinds units = initial-clear _ _ _ _ _ (c .before .initial-refusal .ensures kinds units) (c .if1 .left)
@@ -34,7 +34,8 @@ same-length c = search needs
 
 returns : tie.Need-returns
 returns c kinds units =
-    let a = c .before .before .before .before .before .before .before .args in
+    let s : tie.Start = search needs in
+    let a = s .args in
     let causes = initialCauses (a .calendar .now) (bookOf (a .desk) (rowsOf (a .held .now) kinds units)) (tradesOf (a .table .now)) (a .terms) in
     let said = c .before .before .initial-refusal .ensures kinds units in
     (turned-down causes (a .desk) (rowsOf (a .held .now) kinds units) _ _ said (c .before .if1 .taken) (c .answered .ensures) refl, rw (refused (firstOf causes) _ said (c .before .if1 .taken)) refl)
@@ -46,13 +47,20 @@ put-trade-requires : tie.Need-put-trade-requires
 put-trade-requires c κs = omega (arith, begins (c .before .before) .room)
 
 mul-today-less : tie.Need-mul-today-less
-mul-today-less c = omega (arith, begins (c .before .before .before .before .before .before) .few)
+mul-today-less c =
+    let past1 : tie.Else1 = search needs in
+    omega (arith, begins past1 .few)
 
 today-less-requires : tie.Need-today-less-requires
-today-less-requires c κs = (fit-net _ _ _ (c .before .before .before .before .before .before .before .before .before .before .before .before .pre .book .fits), omega (arith, begins (c .before .before .before .before .before .before) .few))
+today-less-requires c κs =
+    let s : tie.Start = search needs in
+    let past1 : tie.Else1 = search needs in
+    (fit-net _ _ _ (s .pre .book .fits), omega (arith, begins past1 .few))
 
 add-with-trades : tie.Need-add-with-trades
-add-with-trades c = omega (arith, fit-keeps _ _ _ (c .before .before .before .before .before .before .before .before .before .before .before .before .before .pre .book .fits) .few)
+add-with-trades c =
+    let s : tie.Start = search needs in
+    omega (arith, fit-keeps _ _ _ (s .pre .book .fits) .few)
 
 with-trades-requires : tie.Need-with-trades-requires
 with-trades-requires c κs = search needs
@@ -66,12 +74,14 @@ same-length-2 c = search needs
 returns-2 : tie.Need-returns-2
 unfolding initialBook initialTable principal
 returns-2 c kinds units =
-    let q = c .before .before .before .before .before .before .before .before .before in
+    let at-put-trade : tie.After-put-trade = search needs in
+    let at-begun-trade : tie.After-begun-trade = search needs in
+    let q : tie.Else1 = search needs in
     let a = start q .args in
     let rows = rowsOf (a .held .now) kinds units in
     let none-applies = clear q kinds units in (
       carried-out _ _ rows _ _ none-applies (c .answered2 .ensures) (rw (c .before .with-trades .ensures, c .before .before .today-less .ensures)),
-      c .before .before .before .before .before .before .put-trade .ensures .0 ∙ rw (c .before .before .before .before .before .before .before .begun-trade .ensures rows, none-applies) refl,
+      at-put-trade .put-trade .ensures .0 ∙ rw (at-begun-trade .begun-trade .ensures rows, none-applies) refl,
     )
 
 pub initial-spec : {M : Type 1} → statement M

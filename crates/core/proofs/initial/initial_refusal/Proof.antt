@@ -16,7 +16,7 @@ use Rattle.core.proofs.initial.initial_refusal.Tie as tie
 -- neither the time nor the count refuses, and the other causes decide
 module _ (c : tie.Else2) where
   abbrev start : tie.Start
-  start = c .before .before .before .before .before .before .before
+  start = search needs
 
   past-count : (bs : List Cause) (n : ℕ) → n ≡ numberOf (firstOf bs)
       → n ≡ numberOf (firstOf (timeCauses (bookOf (start .args .desk) noRows) ++ (countCauses (start .args .terms) ++ bs)))
@@ -61,7 +61,7 @@ returns-4 c kinds units =
 
 sheet-refusal-requires : tie.Need-sheet-refusal-requires
 sheet-refusal-requires c κs =
-    let counted = c .before .before .before .before in
+    let counted : tie.Else2 = search needs in
     let s = start counted in
     (s .pre, count-within _ (asked-not (counted .before .bad-count .ensures) (counted .if2 .left)))
 

@@ -7,7 +7,7 @@ use Rattle.core.proofs.initial.lacks_headroom.Tie as tie
 
 value-of-requires : tie.Need-value-of-requires
 value-of-requires c κs =
-    let s = c .before .before .before .before in
+    let s : tie.Start = search needs in
     let parts = fit-parts _ _ _ (s .pre .0 .book .fits) in
     (s .pre .0 .book .held-long, fit-securities _ (parts .securities), parts .cash .free, omega (arith, parts .cash .sum))
 
@@ -16,7 +16,9 @@ above-headroom-requires c κs = search needs
 
 returns : tie.Need-returns
 unfolding headroom
-returns c kinds units = rw (c .before .before .before .before .before .before .pre .0 .counted, c .before .value-of .ensures) at (c .above-headroom .ensures)
+returns c kinds units =
+    let s : tie.Start = search needs in
+    rw (s .pre .0 .counted, c .before .value-of .ensures) at (c .above-headroom .ensures)
 
 pub lacks-headroom-spec : {M : Type 1} → statement M
 lacks-headroom-spec = tie.close (tie.spec value-of-requires above-headroom-requires returns)

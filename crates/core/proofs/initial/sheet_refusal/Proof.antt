@@ -16,15 +16,21 @@ mul-over-less : tie.Need-mul-over-less
 mul-over-less c = omega arith
 
 over-less-requires : tie.Need-over-less-requires
-over-less-requires c κs = (fit-net _ _ _ (c .before .before .before .before .before .before .before .pre .0 .book .fits), omega arith)
+over-less-requires c κs =
+    let s : tie.Start = search needs in
+    (fit-net _ _ _ (s .pre .0 .book .fits), omega arith)
 
 returns-2 : tie.Need-returns-2
 unfolding principal
-returns-2 c kinds units = let short = c .before .before .before .before .before .lacks-headroom .ensures kinds units in search column depth 20
+returns-2 c kinds units =
+    let at-lacks-headroom : tie.After-lacks-headroom = search needs in
+    let short = at-lacks-headroom .lacks-headroom .ensures kinds units in search column depth 20
 
 returns-3 : tie.Need-returns-3
 unfolding principal
-returns-3 c kinds units = let short = c .before .before .before .before .before .lacks-headroom .ensures kinds units in search column depth 20
+returns-3 c kinds units =
+    let at-lacks-headroom : tie.After-lacks-headroom = search needs in
+    let short = at-lacks-headroom .lacks-headroom .ensures kinds units in search column depth 20
 
 pub sheet-refusal-spec : {M : Type 1} → statement M
 sheet-refusal-spec = tie.close (tie.spec lacks-headroom-requires returns mul-over-less over-less-requires returns-2 returns-3)

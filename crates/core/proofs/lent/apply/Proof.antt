@@ -30,7 +30,7 @@ returns c = rw (c .answered .ensures) (sym (refused-step _ _ (refuted (c .before
 
 entry-on-requires : tie.Need-entry-on-requires
 entry-on-requires c κs =
-    let passed = c .before .before .before .before in
+    let passed : tie.Else1 = search needs in
     let found = fit-in _ _ (upheld (passed .before .fitness-in .ensures .0) (passed .if1 .left)) in
     record { book = record { held-long = found .long .held; kinds-long = found .long .kinds; units-long = found .long .units; few = found .few; fits = found .fits }; counted = passed .before .fitness-in .ensures .1 (not-false _ (passed .if1 .left)) }
 
@@ -48,9 +48,10 @@ same-length-8 c = search needs
 
 returns-2 : tie.Need-returns-2
 returns-2 c =
-    let passed = c .before .before .before .before .before .before .before .before .before .before .before .before .before in
+    let at-entry-on : tie.After-entry-on = search needs in
+    let passed : tie.Else1 = search needs in
     let found = fit-in _ _ (upheld (passed .before .fitness-in .ensures .0) (passed .if1 .left)) in
-    let done = c .before .before .before .before .before .before .before .before .entry-on .ensures in
+    let done = at-entry-on .entry-on .ensures in
     (step-parts _ _ _ (done .0) (done .1) ∙ sym (by-step _ _ (found .whole) _), λ z. absurd (false≢true (sym z ∙ found .whole)))
 
 pub apply-spec : {M : Type 1} → statement M

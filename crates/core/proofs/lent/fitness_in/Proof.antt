@@ -37,7 +37,8 @@ fitness-of-requires c κs =
 
 returns-3 : tie.Need-returns-3
 returns-3 c =
-    let whole = upheld (c .before .before .before .before .is-whole .ensures) (c .before .before .before .if1 .left) in
+    let at-is-whole : tie.After-is-whole = search needs in
+    let whole = upheld (at-is-whole .is-whole .ensures) (c .before .before .before .if1 .left) in
     (c .fitness-of .ensures .0 ∙ by-fitness _ _ whole (few (c .before)), c .fitness-of .ensures .1)
 
 pub fitness-in-spec : {M : Type 1} → statement M

@@ -15,8 +15,9 @@ same-length c = search needs
 
 returns : tie.Need-returns
 returns c =
+    let in1 : tie.Then1 = search needs in
     let put = c .before .before .put-trade in
-    (put .ensures .0, λ k h. put .ensures .1 k (omega (arith, h, c .before .before .before .before .if1 .taken)))
+    (put .ensures .0, λ k h. put .ensures .1 k (omega (arith, h, in1 .if1 .taken)))
 
 returns-2 : tie.Need-returns-2
 returns-2 c =

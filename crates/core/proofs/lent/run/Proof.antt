@@ -49,7 +49,7 @@ returns-2 c =
 
 run-events-requires : tie.Need-run-events-requires
 run-events-requires c κs =
-    let passed = c .before .before .before .before .before in
+    let passed : tie.Else2 = search needs in
     let found = fit-in _ _ (upheld (passed .before .before .before .fitness-in .ensures .0) (passed .before .before .if1 .left)) in
     (record { held-long = found .long .held; kinds-long = found .long .kinds; units-long = found .long .units; few = found .few; fits = found .fits }, lines-fit _ _ (lengths-clear _ _ _ (passed .before .lengths-refusal .ensures) (passed .if2 .left)))
 
@@ -70,10 +70,11 @@ same-length-13 c = search needs
 
 returns-3 : tie.Need-returns-3
 returns-3 c =
-    let passed = c .before .before .before .before .before .before .before .before .before .before .before .before .before .before .before .before in
+    let at-run-events : tie.After-run-events = search needs in
+    let passed : tie.Else2 = search needs in
     let found = fit-in _ _ (upheld (passed .before .before .before .fitness-in .ensures .0) (passed .before .before .if1 .left)) in
     let clear = lengths-clear _ _ _ (passed .before .lengths-refusal .ensures) (passed .if2 .left) in
-    let done = c .before .before .before .before .before .before .before .before .before .before .run-events .ensures in
+    let done = at-run-events .run-events .ensures in
     let goes = goes-on _ _ _ _ _ (not-unfit _ _ _ (found .fits) (found .few)) clear in
     (run-parts _ _ _ _ (ran-through _ _ _ _ _ (done .0)) (done .1) (done .2) ∙ sym (by-run _ _ _ _ (found .whole) ∙ goes), λ z. absurd (false≢true (sym z ∙ found .whole)))
 

@@ -20,7 +20,9 @@ sign-of-requires : tie.Need-sign-of-requires
 sign-of-requires c κs = search needs
 
 size-of-requires : tie.Need-size-of-requires
-size-of-requires c κs = rw (read (c .before .before)) (omega (arith, c .before .before .before .before .pre .1))
+size-of-requires c κs =
+    let s : tie.Start = search needs in
+    rw (read (c .before .before)) (omega (arith, s .pre .1))
 
 mul-lines : tie.Need-mul-lines
 mul-lines c = search needs
@@ -90,8 +92,9 @@ same-length c = simp length-set
 
 returns : tie.Need-returns
 returns c =
+    let s : tie.Start = search needs in
     let sized = c .before in
-    let a = sized .before .before .before .before .before .args in
+    let a = s .args in
     rw (
       rw (read (sized .before .before .before)) at (sized .before .before .sign-of .ensures),
       rw (read (sized .before .before .before)) at (sized .size-of .ensures),

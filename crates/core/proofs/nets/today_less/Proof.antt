@@ -26,10 +26,11 @@ plus-requires c κs =
 
 returns : tie.Need-returns
 returns c =
+    let s : tie.Start = search needs in
     let sum = rw (net-read (c .before .before), more-read (c .before .before)) at (c .before .plus .ensures) in
     rw (
       toZ-ofZ w64 (c .before .plus .result) (record { sfits = c .before .plus .ok }),
-      toZ-ofZ w64 (c .before .before .before .before .args .nets .cleared) (record { sfits = c .struct-told2 .given .1 .0 .1 }),
+      toZ-ofZ w64 (s .args .nets .cleared) (record { sfits = c .struct-told2 .given .1 .0 .1 }),
       sum,
     )
 

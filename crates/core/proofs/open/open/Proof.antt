@@ -31,7 +31,7 @@ answered-requires c κs = search needs
 
 returns : tie.Need-returns
 returns c rows =
-    let s = c .before .before .before .before .before .before in
+    let s : tie.Start = search needs in
     let e = not-closed (now (s .args .calendar)) (bookOf (s .args .desk) rows) (tradesOf (now (s .args .table))) (sym (c .before .before .is-closed .ensures) ∙ not-true _ (c .before .if1 .taken)) in
     (rw (c .answered .ensures, e), rw e)
 
@@ -44,7 +44,7 @@ answered-requires-2 c κs = search needs
 returns-2 : tie.Need-returns-2
 returns-2 c rows =
     let q = c .before .before in
-    let s = q .before .before .before .before .before .before in
+    let s : tie.Start = search needs in
     let e = no-day-to-open (now (s .args .calendar)) (bookOf (s .args .desk) rows) (tradesOf (now (s .args .table))) (closed (q .before)) (sym (q .opens .ensures) ∙ not-true _ (c .before .if2 .taken)) in
     (rw (c .answered2 .ensures, e), rw e)
 
@@ -58,7 +58,7 @@ terminated-requires : tie.Need-terminated-requires
 terminated-requires c κs =
     let t = c .before .before in
     let q = t .before .before in
-    let s = q .before .before .before .before .before .before .before in
+    let s : tie.Start = search needs in
     record {
       opening = record { book = s .pre; follows = follows q; opened = t .before .opened-standing .ensures };
       closed = closed (q .before .before);
@@ -79,7 +79,7 @@ unfolding openedBook openedTable
 returns-4 c rows =
     let t = c .before .before in
     let q = t .before .before in
-    let s = q .before .before .before .before .before .before .before in
+    let s : tie.Start = search needs in
     let stays = sym (t .turns-terminated .ensures) ∙ c .before .if3 .left in
     let e = none-unless-ended (now (s .args .calendar)) (bookOf (s .args .desk) rows) (tradesOf (now (s .args .table))) (closed (q .before .before)) (follows q) stays in
     (rw (c .answered3 .ensures, e, t .before .opened-standing .ensures, stays), rw (e, stays))

@@ -39,13 +39,13 @@ same-length c = search needs
 returns : tie.Need-returns
 returns c rows =
     let q = c .before .before in
-    let s = q .before .before .before .before .before in
+    let s : tie.Start = search needs in
     let e = net-too-large (now (s .args .calendar)) (bookOf (s .args .desk) rows) (tradesOf (now (s .args .table))) (s .pre .closed) (s .pre .opening .follows) (s .pre .ended) (net-tested q rows ∙ not-true _ (c .before .if1 .taken)) in
     (rw (c .answered .ensures, e), rw e)
 
 redeem-due-requires : tie.Need-redeem-due-requires
 redeem-due-requires c κs =
-    let s = c .before .before .before .before .before .before .before in
+    let s : tie.Start = search needs in
     fit-keeps (now (s .args .calendar)) (book s) (now (s .args .table)) (s .pre .opening .book .fits) .room
 
 answered-requires-2 : tie.Need-answered-requires-2
@@ -59,7 +59,7 @@ unfolding openedBook openedTable
 returns-2 c rows =
     let r = c .before .before .before in
     let q = r .before .before .before in
-    let s = q .before .before .before .before .before in
+    let s : tie.Start = search needs in
     let calendar = now (s .args .calendar) in
     let table = now (s .args .table) in
     let ended = s .pre .ended in

@@ -25,17 +25,19 @@ payment-day-requires : tie.Need-payment-day-requires
 payment-day-requires c κs = search needs
 
 fallback-total-requires : tie.Need-fallback-total-requires
-fallback-total-requires c κs = rw (c .payment-day .ensures) (redeemable (c .before .before .before .before))
+fallback-total-requires c κs =
+    let s : tie.Start = search needs in
+    rw (c .payment-day .ensures) (redeemable s)
 
 cleared-plus-requires : tie.Need-cleared-plus-requires
 cleared-plus-requires c κs =
-    let s = c .before .before .before .before .before in
+    let s : tie.Start = search needs in
     let f = fit-parts (now (s .args .calendar)) (book s) (tradesOf (now (s .args .table))) (s .pre .book .fits) in
     (le-leb _ _ (f .nets .cleared), rw (c .fallback-total .ensures, c .before .payment-day .ensures) (fallback-bound _ _ _ (redeemable s)))
 
 returns : tie.Need-returns
 returns c rows =
-    let s = c .before .before .before .before .before .before in
+    let s : tie.Start = search needs in
     c .cleared-plus .ensures
     ∙ rw (c .before .fallback-total .ensures, c .before .before .payment-day .ensures, s .pre .opened, fit-in-use (now (s .args .calendar)) (book s) (now (s .args .table)) (s .pre .book .fits))
 

@@ -19,7 +19,9 @@ loop-holds : tie.Need-loop-holds Inv-loop μ-loop
 loop-holds c = (search needs, search needs, refl, none-freed (c .before .args .from) _)
 
 free-requires : tie.Need-free-requires Inv-loop μ-loop
-free-requires c κs = omega (arith, c .before .before .before .before .pre)
+free-requires c κs =
+    let s : tie.Start Inv-loop μ-loop = search needs in
+    omega (arith, s .pre)
 
 add-i : tie.Need-add-i Inv-loop μ-loop
 add-i c = search needs
@@ -29,8 +31,9 @@ loop-less c = search needs
 
 loop-again : tie.Need-loop-again Inv-loop μ-loop
 loop-again c =
-    let loop = c .before .before .before .before .before .loop in
-    let start = c .before .before .before .before .before .before .before in
+    let at-loop-at : tie.At-loop Inv-loop μ-loop = search needs in
+    let loop = at-loop-at .loop in
+    let start : tie.Start Inv-loop μ-loop = search needs in
     let inside : loop .i < length (tradesOf (start .args .table .now)) = omega (arith, start .pre .1, length-trades (start .args .table .now) (capacity (start .args .table .now))) in
     (search needs, search needs, c .before .before .free .kept .0 ∙ loop .inv .2, c .before .before .free .ensures ∙ rw (loop .inv .3) (one-freed _ _ _ (loop .inv .0) inside))
 

@@ -25,7 +25,9 @@ loop-less : tie.Need-loop-less Inv-loop μ-loop
 loop-less c = search needs
 
 loop-again : tie.Need-loop-again Inv-loop μ-loop
-loop-again c = passed-by _ _ _ _ _ (c .before .before .before .before .loop .inv) (c .before .before .before .loop-test .taken) (sym (c .before .sheets-at .ensures) ∙ c .if1 .taken)
+loop-again c =
+    let at-loop-at : tie.At-loop Inv-loop μ-loop = search needs in
+    passed-by _ _ _ _ _ (at-loop-at .loop .inv) (c .before .before .before .loop-test .taken) (sym (c .before .sheets-at .ensures) ∙ c .if1 .taken)
 
 move-trade-requires : tie.Need-move-trade-requires Inv-loop μ-loop
 move-trade-requires c κs = search needs
@@ -41,9 +43,10 @@ loop-less-2 c = search needs
 
 loop-again-2 : tie.Need-loop-again-2 Inv-loop μ-loop
 loop-again-2 c =
+    let at-loop-at : tie.At-loop Inv-loop μ-loop = search needs in
     let moved = c .before .before .move-trade in
-    let checked = c .before .before .before .before in
-    moved-up _ _ _ _ _ (checked .before .before .before .before .loop .inv) (checked .before .before .before .loop-test .taken) _ (moved .kept .0) (moved .ensures) (λ z. checked .if1 .left (checked .before .sheets-at .ensures ∙ z))
+    let checked : tie.Else1 Inv-loop μ-loop = search needs in
+    moved-up _ _ _ _ _ (at-loop-at .loop .inv) (checked .before .before .before .loop-test .taken) _ (moved .kept .0) (moved .ensures) (λ z. checked .if1 .left (checked .before .sheets-at .ensures ∙ z))
 
 same-length : tie.Need-same-length Inv-loop μ-loop
 same-length c = c .before .loop .inv .long

@@ -21,8 +21,9 @@ same-length c = search needs
 
 returns : tie.Need-returns
 returns c =
-    let start = c .before .before .before .before .before .before .before .before .before in
-    let gather = c .before .before .before .before .before .before .gather in
+    let at-gather : tie.After-gather = search needs in
+    let start : tie.Start = search needs in
+    let gather = at-gather .gather in
     let inside : gather .result ≤ length (tradesOf (gather .last .0)) = omega (arith, length-trades (gather .last .0) (capacity (gather .last .0)), gather .kept .0, gather .ensures .0, start .pre) in (
       sym (length-take-le _ _ inside) ∙ ap length (gather .ensures .1 .0),
       c .before .before .free-from .ensures ∙ gathered-freed _ _ _ _ _ inside (gather .ensures .1 .0) (gather .ensures .1 .1),

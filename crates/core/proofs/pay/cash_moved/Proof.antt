@@ -36,7 +36,9 @@ client-pays-requires : tie.Need-client-pays-requires
 client-pays-requires c κs = search needs
 
 add-t5 : tie.Need-add-t5
-add-t5 c = omega (arith, client-covers (c .before), c .before .before .before .before .pre)
+add-t5 c =
+    let s : tie.Start = search needs in
+    omega (arith, client-covers (c .before), s .pre)
 
 sub-t7 : tie.Need-sub-t7
 sub-t7 c = omega (arith, client-covers (c .before .before))
@@ -51,7 +53,9 @@ sub-t9 : tie.Need-sub-t9
 sub-t9 c = omega (arith, own-covers (c .before))
 
 add-t11 : tie.Need-add-t11
-add-t11 c = omega (arith, own-covers (c .before .before), c .before .before .before .before .before .pre)
+add-t11 c =
+    let s : tie.Start = search needs in
+    omega (arith, own-covers (c .before .before), s .pre)
 
 returns-2 : tie.Need-returns-2
 returns-2 c =

@@ -35,7 +35,9 @@ returns : tie.Need-returns
 returns c rows = rw (c .answered .ensures, refused (firstOf (payCauses (bookOf (c .before .before .before .args .desk) rows))) _ (c .before .before .pay-refusal .ensures rows) (c .before .if1 .taken))
 
 falls-short-requires : tie.Need-falls-short-requires
-falls-short-requires c κs = cleared-fits _ (c .before .before .before .before .pre .0)
+falls-short-requires c κs =
+    let s : tie.Start = search needs in
+    cleared-fits _ (s .pre .0)
 
 unpaid-requires : tie.Need-unpaid-requires
 unpaid-requires c κs = search needs
@@ -45,12 +47,13 @@ answered-requires-2 c κs = search needs
 
 returns-2 : tie.Need-returns-2
 returns-2 c rows =
+    let past1 : tie.Else1 = search needs in
     let q = c .before .before in
-    rw (c .answered2 .ensures, c .before .unpaid .ensures rows, none-applies (q .before .before .before .before) rows, sym (q .before .falls-short .ensures) ∙ q .if2 .taken)
+    rw (c .answered2 .ensures, c .before .unpaid .ensures rows, none-applies past1 rows, sym (q .before .falls-short .ensures) ∙ q .if2 .taken)
 
 paid-requires : tie.Need-paid-requires
 paid-requires c κs =
-    let s = c .before .before .before .before .before .before in
+    let s : tie.Start = search needs in
     (cleared-fits _ (s .pre .0), ltb-false _ _ (sym (c .before .falls-short .ensures) ∙ c .if2 .left), omega (arith, cash-fits _ _ (s .pre .1) .sum))
 
 answered-requires-3 : tie.Need-answered-requires-3
@@ -58,8 +61,9 @@ answered-requires-3 c κs = search needs
 
 returns-3 : tie.Need-returns-3
 returns-3 c rows =
+    let past1 : tie.Else1 = search needs in
     let q = c .before .before in
-    rw (c .answered3 .ensures, c .before .paid .ensures rows, none-applies (q .before .before .before .before) rows, sym (q .before .falls-short .ensures) ∙ q .if2 .left)
+    rw (c .answered3 .ensures, c .before .paid .ensures rows, none-applies past1 rows, sym (q .before .falls-short .ensures) ∙ q .if2 .left)
 
 pub pay-spec : {M : Type 1} → statement M
 pay-spec =

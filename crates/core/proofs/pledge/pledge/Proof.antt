@@ -20,7 +20,7 @@ use Rattle.core.proofs.pledge.pledge.Statement.{statement}
 use Rattle.core.proofs.pledge.pledge.Tie as tie
 
 abbrev start : tie.Else1 → tie.Start
-start c = c .before .before .before .before
+start c = search needs
 
 none-applies : (c : tie.Else1) (kinds amounts : List ℕ) → (let a = start c .args in firstOf (pledgeCauses (bookOf (a .desk) (rowsOf (a .held .now) kinds amounts)) (a .kind) (a .units)) ≡ none)
 unfolding eventCauses
@@ -84,7 +84,7 @@ same-length-2 c = search needs
 returns-2 : tie.Need-returns-2
 unfolding pledged
 returns-2 c kinds amounts =
-    let q = c .before .before .before .before .before in
+    let q : tie.Then2 = search needs in
     carried-out _ _ (rowsOf _ kinds amounts) _ _ (none-applies (q .before) kinds amounts) (c .answered2 .ensures) (rw (c .before .cash-arrived .ensures, eq-eqb _ _ (q .if2 .taken)))
 
 put-arrived-requires : tie.Need-put-arrived-requires
@@ -104,7 +104,7 @@ same-length-3 c = search needs
 returns-3 : tie.Need-returns-3
 unfolding pledged
 returns-3 c kinds amounts =
-    let q = c .before .before .before .before .before in
+    let q : tie.Else2 = search needs in
     let a = start (q .before) .args in
     let row = security-at-row (a .held .now) (a .desk .guarantee) (a .kind) (security-kind q) in
     carried-out _ _ (rowsOf (a .held .now) kinds amounts) _ _ (none-applies (q .before) kinds amounts) (c .answered3 .ensures)

@@ -14,7 +14,7 @@ use Rattle.core.proofs.pledge.pledge_refusal.Tie as tie
 -- what is held of a security is within its limit
 within : (c : tie.After-units-of) → c .units-of .result ≤ unitLimit
 within c =
-    let s = c .before .before .before .before .before .before .before .before .before in
+    let s : tie.Start = search needs in
     let known : s .args .kind < 32 = omega arith in
     omega (arith, c .units-of .ensures, row-fits (s .args .held .now) (s .args .desk .guarantee) (s .pre .1) (s .args .kind) known .units)
 
@@ -50,7 +50,8 @@ sub-if6 c = omega (arith, within c)
 returns-6 : tie.Need-returns-6
 unfolding pledgeCauses
 returns-6 c kinds amounts =
-    let a = c .before .before .before .before .before .before .before .before .before .before .args in
+    let s : tie.Start = search needs in
+    let a = s .args in
     let known : a .kind < 32 = omega arith in
     let row = security-at-row (a .held .now) (a .desk .guarantee) (a .kind) known in
     let security = securityAt (vaultOf (a .desk .guarantee) (securitiesOf (a .held .now))) (a .kind) in
@@ -60,7 +61,8 @@ returns-6 c kinds amounts =
 returns-7 : tie.Need-returns-7
 unfolding pledgeCauses
 returns-7 c kinds amounts =
-    let a = c .before .before .before .before .before .before .before .before .before .before .args in
+    let s : tie.Start = search needs in
+    let a = s .args in
     let known : a .kind < 32 = omega arith in
     let row = security-at-row (a .held .now) (a .desk .guarantee) (a .kind) known in
     let security = securityAt (vaultOf (a .desk .guarantee) (securitiesOf (a .held .now))) (a .kind) in

@@ -8,7 +8,9 @@ security-at-requires : tie.Need-security-at-requires
 security-at-requires c κs = search needs
 
 add-security : tie.Need-add-security
-add-security c = rw (c .before .security-at .ensures) (omega (arith, c .before .before .before .before .pre .2))
+add-security c =
+    let s : tie.Start = search needs in
+    rw (c .before .security-at .ensures) (omega (arith, s .pre .2))
 
 put-security-requires : tie.Need-put-security-requires
 put-security-requires c κs = search needs
@@ -17,7 +19,9 @@ same-length : tie.Need-same-length
 same-length c = search needs
 
 returns : tie.Need-returns
-returns c = c .before .before .put-security .ensures ∙ rw (c .before .before .before .before .before .security-at .ensures)
+returns c =
+    let at-security-at : tie.After-security-at = search needs in
+    c .before .before .put-security .ensures ∙ rw (at-security-at .security-at .ensures)
 
 pub put-arrived-spec : {M : Type 1} → statement M
 put-arrived-spec = tie.close (tie.spec security-at-requires add-security put-security-requires same-length returns)

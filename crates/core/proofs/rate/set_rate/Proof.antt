@@ -35,10 +35,14 @@ returns : tie.Need-returns
 returns c kinds units = turned-down _ _ (rowsOf _ kinds units) _ _ (c .before .before .rate-refusal .ensures) (c .before .if1 .taken) (c .answered .ensures) refl
 
 security-at-requires : tie.Need-security-at-requires
-security-at-requires c κs = (security-kind _ _ (none-applies (c .before)), c .before .before .before .before .pre)
+security-at-requires c κs =
+    let s : tie.Start = search needs in
+    (security-kind _ _ (none-applies (c .before)), s .pre)
 
 put-security-requires : tie.Need-put-security-requires
-put-security-requires c κs = (security-kind _ _ (none-applies (c .before .before .before)), c .before .before .before .before .before .before .pre)
+put-security-requires c κs =
+    let s : tie.Start = search needs in
+    (security-kind _ _ (none-applies (c .before .before .before)), s .pre)
 
 answered-requires-2 : tie.Need-answered-requires-2
 answered-requires-2 c κs = search needs
@@ -49,11 +53,12 @@ same-length c = search needs
 returns-2 : tie.Need-returns-2
 unfolding rated
 returns-2 c kinds units =
-    let q = c .before .before .before .before .before .before .before in
+    let at-security-at : tie.After-security-at = search needs in
+    let q : tie.Else1 = search needs in
     let a = q .before .before .before .args in
     let here = security-at-row (a .held .now) (a .desk .guarantee) (a .kind) (security-kind _ _ (none-applies q)) in
     carried-out _ _ (rowsOf (a .held .now) kinds units) _ _ (none-applies q) (c .answered2 .ensures)
-    (rw (c .before .before .before .put-security .ensures, c .before .before .before .before .before .security-at .ensures, here))
+    (rw (c .before .before .before .put-security .ensures, at-security-at .security-at .ensures, here))
 
 pub set-rate-spec : {M : Type 1} → statement M
 set-rate-spec =

@@ -25,19 +25,24 @@ sheets-at-requires : tie.Need-sheets-at-requires Inv-loop μ-loop
 sheets-at-requires c κs = omega (arith, c .before .before .before .pre .kept .room)
 
 fallback-at-requires : tie.Need-fallback-at-requires Inv-loop μ-loop
-fallback-at-requires c κs = omega (arith, c .before .before .before .before .pre .kept .room)
+fallback-at-requires c κs =
+    let s : tie.Start Inv-loop μ-loop = search needs in
+    omega (arith, s .pre .kept .room)
 
 redeemed-for-requires : tie.Need-redeemed-for-requires Inv-loop μ-loop
 redeemed-for-requires c κs =
-    let plan = c .before .before .before .before .before .pre in
+    let s : tie.Start Inv-loop μ-loop = search needs in
+    let plan = s .pre in
     let within = trade-within _ _ _ plan _ (c .before .before .loop-test .taken) in
     ((omega (arith, plan .kept .room), rw (c .before .sheets-at .ensures) (within .sheets), rw (c .fallback-at .ensures) (within .fallback)), (begun-before _ _ _ plan _ (c .before .before .loop-test .taken), plan .term))
 
 add-amount : tie.Need-add-amount Inv-loop μ-loop
 add-amount c =
-    let plan = c .before .before .before .before .before .before .pre in
+    let s : tie.Start Inv-loop μ-loop = search needs in
+    let at-loop-at : tie.At-loop Inv-loop μ-loop = search needs in
+    let plan = s .pre in
     let bound = next-at-most (fallbackAmount _) _ 106205500000000 _ (fallback-at-most _ _ _ plan) _ (c .before .before .before .loop-test .taken) in
-    rw (c .before .before .before .before .loop .inv .1, paid c) (omega (arith, bound, plan .kept .few))
+    rw (at-loop-at .loop .inv .1, paid c) (omega (arith, bound, plan .kept .few))
 
 add-i : tie.Need-add-i Inv-loop μ-loop
 add-i c = search needs
@@ -46,7 +51,9 @@ loop-less : tie.Need-loop-less Inv-loop μ-loop
 loop-less c = search needs
 
 loop-again : tie.Need-loop-again Inv-loop μ-loop
-loop-again c = (search needs, rw (c .before .before .before .before .loop .inv .1, paid c) (sym (total-more (fallbackAmount _) _ _)))
+loop-again c =
+    let at-loop-at : tie.At-loop Inv-loop μ-loop = search needs in
+    (search needs, rw (at-loop-at .loop .inv .1, paid c) (sym (total-more (fallbackAmount _) _ _)))
 
 returns : tie.Need-returns Inv-loop μ-loop
 returns c = let e : c .before .loop .i ≡ c .before .before .before .args .count = omega arith in rw e at (c .before .loop .inv .1)

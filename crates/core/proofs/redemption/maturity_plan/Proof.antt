@@ -27,24 +27,28 @@ maturing-at-requires c κs = omega (arith, c .before .before .before .pre .kept 
 
 add-sheets : tie.Need-add-sheets Inv-loop μ-loop
 add-sheets c =
-    let start = c .before .before .before .before in
+    let start : tie.Start Inv-loop μ-loop = search needs in
     let bound = next-at-most (maturing (start .args .today)) _ 100000000 _ (maturing-at-most _ _ _ (start .pre) (start .args .today)) _ (c .before .loop-test .taken) in
     rw (c .before .before .loop .inv .1, c .maturing-at .ensures) (omega (arith, bound, start .pre .kept .few))
 
 price-at-requires : tie.Need-price-at-requires Inv-loop μ-loop
-price-at-requires c κs = omega (arith, c .before .before .before .before .pre .kept .room)
+price-at-requires c κs =
+    let s : tie.Start Inv-loop μ-loop = search needs in
+    omega (arith, s .pre .kept .room)
 
 redeemed-for-requires : tie.Need-redeemed-for-requires Inv-loop μ-loop
 redeemed-for-requires c κs =
-    let plan = c .before .before .before .before .before .pre in
+    let s : tie.Start Inv-loop μ-loop = search needs in
+    let plan = s .pre in
     let below = c .before .before .loop-test .taken in
     ((omega (arith, plan .kept .room), rw (c .before .maturing-at .ensures) (maturing-at-most _ _ _ plan _ _ below), rw (c .price-at .ensures) (trade-within _ _ _ plan _ below .price)), (begun-before _ _ _ plan _ below, plan .term))
 
 add-amount : tie.Need-add-amount Inv-loop μ-loop
 add-amount c =
-    let start = c .before .before .before .before .before .before in
+    let at-loop-at : tie.At-loop Inv-loop μ-loop = search needs in
+    let start : tie.Start Inv-loop μ-loop = search needs in
     let bound = next-at-most (maturityAmount (start .args .today) (start .args .payment)) _ 106205500000000 _ (maturity-at-most _ _ _ (start .pre) (start .args .today)) _ (c .before .before .before .loop-test .taken) in
-    rw (c .before .before .before .before .loop .inv .2, paid c) (omega (arith, bound, start .pre .kept .few))
+    rw (at-loop-at .loop .inv .2, paid c) (omega (arith, bound, start .pre .kept .few))
 
 add-i : tie.Need-add-i Inv-loop μ-loop
 add-i c = search needs
@@ -54,7 +58,8 @@ loop-less c = search needs
 
 loop-again : tie.Need-loop-again Inv-loop μ-loop
 loop-again c =
-    let loop = c .before .before .before .before .loop in
+    let at-loop-at : tie.At-loop Inv-loop μ-loop = search needs in
+    let loop = at-loop-at .loop in
     (search needs, rw (loop .inv .1, c .before .before .maturing-at .ensures) (sym (total-more (maturing _) _ _)), rw (loop .inv .2, paid c) (sym (total-more (maturityAmount _ _) _ _)))
 
 returns : tie.Need-returns Inv-loop μ-loop

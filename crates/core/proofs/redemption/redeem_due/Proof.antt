@@ -20,7 +20,9 @@ loop-holds : tie.Need-loop-holds Inv-loop μ-loop
 loop-holds c = (search needs, refl, none-changed _ _)
 
 redeem-one-requires : tie.Need-redeem-one-requires Inv-loop μ-loop
-redeem-one-requires c κs = omega (arith, c .before .before .before .before .pre)
+redeem-one-requires c κs =
+    let s : tie.Start Inv-loop μ-loop = search needs in
+    omega (arith, s .pre)
 
 add-i : tie.Need-add-i Inv-loop μ-loop
 add-i c = search needs
@@ -30,8 +32,9 @@ loop-less c = search needs
 
 loop-again : tie.Need-loop-again Inv-loop μ-loop
 loop-again c =
-    let loop = c .before .before .before .before .before .loop in
-    let start = c .before .before .before .before .before .before .before in
+    let at-loop-at : tie.At-loop Inv-loop μ-loop = search needs in
+    let loop = at-loop-at .loop in
+    let start : tie.Start Inv-loop μ-loop = search needs in
     (search needs, c .before .before .redeem-one .kept .0 ∙ loop .inv .1, map-one-more (matured (start .args .by)) _ _ _ _ (omega (arith, start .pre)) (loop .inv .1) (loop .inv .2) (c .before .before .redeem-one .ensures))
 
 same-length : tie.Need-same-length Inv-loop μ-loop

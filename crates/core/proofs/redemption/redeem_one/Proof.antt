@@ -13,7 +13,7 @@ maturing-at-requires c κs = search needs
 
 sub-left : tie.Need-sub-left
 sub-left c =
-    let start = c .before .before .before .before .before in
+    let start : tie.Start = search needs in
     omega (arith, c .maturing-at .ensures, c .before .before .sheets-at .ensures, maturing-le (start .args .by) (tradeAt (start .args .table .now) (start .args .place)))
 
 put-sheets-requires : tie.Need-put-sheets-requires
@@ -23,7 +23,10 @@ same-length : tie.Need-same-length
 same-length c = search needs
 
 returns : tie.Need-returns
-returns c = rw (c .before .before .before .before .maturing-at .ensures, c .before .before .before .before .before .before .sheets-at .ensures) at (c .before .before .put-sheets .ensures)
+returns c =
+    let at-maturing-at : tie.After-maturing-at = search needs in
+    let at-sheets-at : tie.After-sheets-at = search needs in
+    rw (at-maturing-at .maturing-at .ensures, at-sheets-at .sheets-at .ensures) at (c .before .before .put-sheets .ensures)
 
 pub redeem-one-spec : {M : Type 1} → statement M
 redeem-one-spec =

@@ -22,7 +22,7 @@ redemption-requires c κs = search needs
 
 returns-2 : tie.Need-returns-2
 returns-2 c =
-    let start = c .before .before .before .before in
+    let start : tie.Start = search needs in
     let within = redemption-within (sheets (start .args .count)) (start .args .price) (start .args .payment - c .before .first-at .result) (start .pre .0 .1) (start .pre .0 .2) (omega (arith, start .pre .1 .1)) in
     rw (c .redemption .ensures, within, c .before .first-at .ensures)
 

@@ -21,7 +21,7 @@ use Rattle.core.proofs.run.run_event.Tie as tie
 -- what the event leaves, and the rows and the table as the call left them
 module _ (c : tie.After-entry-on) where
   abbrev start : tie.Start
-  start = c .before .before .before .before .before .before .before .before .before .before .before .before .before
+  start = search needs
 
   abbrev left : Outcome
   left = step (start .args .calendar .now) (bookOf (start .args .desk) (rowsOf (start .args .held .now) (start .args .kinds .now) (start .args .units .now))) (tradesOf (start .args .table .now)) (decoded (start .args .bytes .now))
@@ -30,10 +30,14 @@ module _ (c : tie.After-entry-on) where
   rows = rowsOf (c .entry-on .last .1 .1 .0) (c .entry-on .last .1 .1 .1 .0) (c .entry-on .last .1 .1 .1 .1 .0)
 
   applied : appliedAt (c .entry-on .result) rows ≡ appliedOf left
-  applied = rw (c .before .before .before .before .before .decode .ensures) at (c .entry-on .ensures .0)
+  applied =
+      let at-decode : tie.After-decode = search needs in
+      rw (at-decode .decode .ensures) at (c .entry-on .ensures .0)
 
   tabled : tradesOf (c .entry-on .last .1 .1 .1 .1 .1 .0) ≡ left .table
-  tabled = rw (c .before .before .before .before .before .decode .ensures) at (c .entry-on .ensures .1)
+  tabled =
+      let at-decode : tie.After-decode = search needs in
+      rw (at-decode .decode .ensures) at (c .entry-on .ensures .1)
 
   still-fit : fit (start .args .calendar .now) (bookOf (c .entry-on .result .desk) rows) (tradesOf (c .entry-on .last .1 .1 .1 .1 .1 .0)) ≡ true
   still-fit = fit-after _ _ _ _ (start .pre .0 .fits) (appliedAt (c .entry-on .result) rows) _ (c .entry-on .ensures .0) (c .entry-on .ensures .1)
@@ -46,28 +50,34 @@ decode-requires c κs = search needs
 
 entry-on-requires : tie.Need-entry-on-requires
 entry-on-requires c κs =
-    let s = c .before .before .before .before .before .before .before .before .before .before .before .before in
+    let s : tie.Start = search needs in
     record { book = s .pre .0; counted = ap (λ (f : Figures). f .outstanding) (s .pre .1) }
 
 figures-after-requires : tie.Need-figures-after-requires
 figures-after-requires c κs =
-    let called = c .before .before .before .before .before .before .before .before .before .before .before .before in (
+    let called : tie.After-entry-on = search needs in (
       record { kinds = called .entry-on .last .1 .1 .1 .0; units = called .entry-on .last .1 .1 .1 .1 .0; held-long = still-long called; few = start called .pre .0 .few; fits = still-fit called },
       moved-after _ _ _ _ (start called .pre .0 .fits) _ (start called .pre .1) (appliedAt (called .entry-on .result) (rows called)) _ (called .entry-on .ensures .0) (called .entry-on .ensures .1),
     )
 
 cover-from-requires : tie.Need-cover-from-requires
 cover-from-requires c κs =
-    let size = fit-parts _ _ _ (still-fit (c .before .before .before .before .before .before .before .before .before .before .before .before .before)) .size in
+    let at-entry-on : tie.After-entry-on = search needs in
+    let size = fit-parts _ _ _ (still-fit at-entry-on) .size in
     (size .within, rw (c .figures-after .ensures) (omega (arith, size .within, size .covers)))
 
+abbrev called-from : tie.After-figures-after → tie.After-entry-on
+called-from c = search needs
+
 -- the cover of what is left
-covered : (c : tie.After-cover-from) → (let called = c .before .before .before .before .before .before .before .before .before .before .before .before .before .before in c .cover-from .result ≡ counted (bookOf (called .entry-on .result .desk) (rows called)) (tradesOf (called .entry-on .last .1 .1 .1 .1 .1 .0)))
-covered c = c .cover-from .ensures ∙ counted-from (bookOf (c .before .before .before .before .before .before .before .before .before .before .before .before .before .before .entry-on .result .desk) (rows (c .before .before .before .before .before .before .before .before .before .before .before .before .before .before))) _ _ (c .before .figures-after .ensures)
+covered : (c : tie.After-cover-from) → (let called = called-from (c .before) in c .cover-from .result ≡ counted (bookOf (called .entry-on .result .desk) (rows called)) (tradesOf (called .entry-on .last .1 .1 .1 .1 .1 .0)))
+covered c =
+    let called = called-from (c .before) in
+    c .cover-from .ensures ∙ counted-from (bookOf (called .entry-on .result .desk) (rows called)) _ _ (c .before .figures-after .ensures)
 
 write-line-requires : tie.Need-write-line-requires
 write-line-requires c κs =
-    let called = c .before .before .before .before .before .before .before .before .before .before .before .before .before .before .before in
+    let called : tie.After-entry-on = search needs in
     (start called .pre .2, rw (covered (c .before)) (headroom-size _ _ _ (still-fit called)), omega (arith, fit-parts _ _ _ (still-fit called) .cash .sum))
 
 same-length : tie.Need-same-length
@@ -87,11 +97,13 @@ same-length-5 c = search needs
 
 returns : tie.Need-returns
 returns c =
-    let called = c .before .before .before .before .before .before .before .before .before .before .before .before .before .before .before .before .before .before in
+    let cover : tie.After-cover-from = search needs in
+    let called = called-from (cover .before) in
     let a = start called .args in
     let e = applied called in
     let t = tabled called in
-    (ap (λ x. x .book) e, t, c .before .before .write-line .ensures ∙ ap (λ line. sets (a .lines .now) (a .at) line) (line-told _ _ _ e t (covered (c .before .before .before .before))), c .before .before .before .before .before .figures-after .ensures)
+    let line = c .before .before .write-line .ensures ∙ ap (λ line. sets (a .lines .now) (a .at) line) (line-told _ _ _ e t (covered cover)) in
+    (ap (λ x. x .book) e, t, line, cover .before .figures-after .ensures)
 
 pub run-event-spec : {M : Type 1} → statement M
 run-event-spec =

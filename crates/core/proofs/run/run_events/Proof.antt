@@ -11,19 +11,27 @@ use Rattle.core.proofs.run.run_events.Tie as tie
 
 abbrev Inv-loop : tie.InvT-loop
 Inv-loop calendar held₀ kinds₀ units₀ table₀ events lines₀ count turn₀ k₀ held kinds units table lines turn k =
-    RunTo calendar (bookOf (turn₀ .desk) (rowsOf held₀ kinds₀ units₀)) events table₀ lines₀ count table lines (bookOf (turn .desk) (rowsOf held kinds units)) k × (length held ≡ 128) × (length kinds ≡ 128) × (length units ≡ 128) × (turn .figures ≡ figuresAt (turn .desk) held (tradesOf table))
+    RunTo calendar (bookOf (turn₀ .desk) (rowsOf held₀ kinds₀ units₀)) events table₀ lines₀ count table lines (bookOf (turn .desk) (rowsOf held kinds units)) k
+    × (length held ≡ 128) × (length kinds ≡ 128) × (length units ≡ 128) × (turn .figures ≡ figuresAt (turn .desk) held (tradesOf table))
 
 abbrev μ-loop : tie.MeasureT-loop
 μ-loop calendar held₀ kinds₀ units₀ table₀ events lines₀ count turn₀ k₀ held kinds units table lines turn k = count - k
 
+-- back from the end, a few steps at a time: a search looks so far and no further
+abbrev in-turn : tie.After-run-event Inv-loop μ-loop → tie.In-loop Inv-loop μ-loop
+in-turn c = search needs
+
+abbrev start-of : tie.At-loop Inv-loop μ-loop → tie.Start Inv-loop μ-loop
+start-of c = search needs
+
 figures-of-requires : tie.Need-figures-of-requires Inv-loop μ-loop
 figures-of-requires c κs =
-    let s = c .before .before .before .before .before .before .before .before .before in
+    let s : tie.Start Inv-loop μ-loop = search needs in
     record { kinds = s .args .kinds .now; units = s .args .units .now; held-long = s .pre .0 .held-long; few = s .pre .0 .few; fits = s .pre .0 .fits }
 
 loop-holds : tie.Need-loop-holds Inv-loop μ-loop
 loop-holds c =
-    let s = c .before .before .before .before .before .before .before .before .before .before in
+    let s : tie.Start Inv-loop μ-loop = search needs in
     (none-run _ _ _ _ _ _ (s .pre .0 .fits), s .pre .0 .held-long, s .pre .0 .kinds-long, s .pre .0 .units-long, c .figures-of .ensures)
 
 mul-bytes : tie.Need-mul-bytes Inv-loop μ-loop
@@ -45,29 +53,41 @@ part-bytes-end : tie.Need-part-bytes-end Inv-loop μ-loop
 part-bytes-end c = search needs
 
 mul-run-event : tie.Need-mul-run-event Inv-loop μ-loop
-mul-run-event c = record { fits = omega (arith, c .before .before .before .before .before .before .loop-test .taken, c .before .before .before .before .before .before .before .before .before .before .before .before .before .before .before .before .before .before .good) }
+mul-run-event c =
+    let at-loop-in : tie.In-loop Inv-loop μ-loop = search needs in
+    let s : tie.Start Inv-loop μ-loop = search needs in
+    record { fits = omega (arith, at-loop-in .loop-test .taken, s .good) }
 
 run-event-requires : tie.Need-run-event-requires Inv-loop μ-loop
 run-event-requires c κs =
-    let s = c .before .before .before .before .before .before .before .before .before .before .before .before .before .before .before .before .before .before in
-    let inv = c .before .before .before .before .before .before .before .loop .inv in
-    (record { held-long = inv .1; kinds-long = inv .2; units-long = inv .3; few = s .pre .0 .few; fits = inv .0 .fits }, inv .4, omega (arith, inv .0 .wide, s .pre .1, c .before .before .before .before .before .before .loop-test .taken))
+    let here : tie.In-loop Inv-loop μ-loop = search needs in
+    let s = start-of (here .before) in
+    let inv = here .before .loop .inv in (
+      record { held-long = inv .1; kinds-long = inv .2; units-long = inv .3; few = s .pre .0 .few; fits = inv .0 .fits },
+      inv .4,
+      omega (arith, inv .0 .wide, s .pre .1, here .loop-test .taken),
+    )
 
 add-k : tie.Need-add-k Inv-loop μ-loop
-add-k c = omega (arith, c .before .before .before .before .before .before .before .before .before .before .before .before .before .before .before .before .before .loop-test .taken, c .before .before .before .before .before .before .before .before .before .before .before .before .before .before .before .before .before .before .before .before .before .before .before .before .before .before .before .before .before .good)
+add-k c =
+    let at-loop-in : tie.In-loop Inv-loop μ-loop = search needs in
+    let s : tie.Start Inv-loop μ-loop = search needs in
+    omega (arith, at-loop-in .loop-test .taken, s .good)
 
 loop-less : tie.Need-loop-less Inv-loop μ-loop
 loop-less c = search needs
 
 loop-again : tie.Need-loop-again Inv-loop μ-loop
 loop-again c =
-    let here = c .before .before .before .before .before .before .before .before .before .before .before .before .before .before .before .before .before .before in
-    let s = c .before .before .before .before .before .before .before .before .before .before .before .before .before .before .before .before .before .before .before .before .before .before .before .before .before .before .before .before .before in
-    let called = c .before .before .before .before .before .before .before .before .before .before .run-event in
-    let inv = here .loop .inv in
-    let length-40 : 40 ≡ (here .loop .k * 40 + 40) - here .loop .k * 40 = omega arith in (
-      next-run _ _ _ _ _ _ _ _ _ _ (inv .0) (c .before .before .before .before .before .before .before .before .before .before .before .before .before .before .before .before .before .loop-test .taken) (omega (arith, s .pre .1)) _
-          (ap (λ n. take n (drop (here .loop .k * 40) (s .args .events .now))) length-40)
+    let after : tie.After-run-event Inv-loop μ-loop = search needs in
+    let called = after .run-event in
+    let here = in-turn after in
+    let turn = here .before .loop in
+    let s = start-of (here .before) in
+    let inv = turn .inv in
+    let length-40 : 40 ≡ (turn .k * 40 + 40) - turn .k * 40 = omega arith in (
+      next-run _ _ _ _ _ _ _ _ _ _ (inv .0) (here .loop-test .taken) (omega (arith, s .pre .1)) _
+          (ap (λ n. take n (drop (turn .k * 40) (s .args .events .now))) length-40)
           _ _ _ (called .kept .1 .1 .1 .1 .1 .1 .0) (called .ensures .0) (called .ensures .1) (called .ensures .2),
       called .kept .1 .1 .1 .0 ∙ inv .1,
       called .kept .1 .1 .1 .1 .0 ∙ inv .2,
@@ -91,7 +111,9 @@ same-length-5 : tie.Need-same-length-5 Inv-loop μ-loop
 same-length-5 c = search needs
 
 returns : tie.Need-returns Inv-loop μ-loop
-returns c = all-run _ _ _ _ _ _ _ _ _ _ refl (c .before .before .loop .inv .0) (c .before .loop-test .left) (omega (arith, c .before .before .before .before .before .before .before .before .before .before .before .before .before .pre .1))
+returns c =
+    let s : tie.Start Inv-loop μ-loop = search needs in
+    all-run _ _ _ _ _ _ _ _ _ _ refl (c .before .before .loop .inv .0) (c .before .loop-test .left) (omega (arith, s .pre .1))
 
 pub run-events-spec : {M : Type 1} → statement M
 run-events-spec =

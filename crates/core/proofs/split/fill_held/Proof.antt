@@ -26,7 +26,9 @@ element-copy-out-put-security : tie.Need-element-copy-out-put-security Inv-loop 
 element-copy-out-put-security c = search needs
 
 put-security-requires : tie.Need-put-security-requires Inv-loop μ-loop
-put-security-requires c κs = (search needs, c .before .before .before .loop .inv .1 ∙ c .before .before .before .before .before .pre)
+put-security-requires c κs =
+    let s : tie.Start Inv-loop μ-loop = search needs in
+    (search needs, c .before .before .before .loop .inv .1 ∙ s .pre)
 
 add-kind : tie.Need-add-kind Inv-loop μ-loop
 add-kind c = search needs
@@ -36,7 +38,7 @@ loop-less c = search needs
 
 loop-again : tie.Need-loop-again Inv-loop μ-loop
 loop-again c =
-    let at = c .before .before .before .before .before .before in
+    let at : tie.At-loop Inv-loop μ-loop = search needs in
     let put = c .before .before .put-security in
     (search needs, put .kept .0 ∙ at .loop .inv .1, rw (put .ensures) (one-filled noSecurity _ _ _ _ (omega (arith, length-securities (at .loop .held) 32)) (at .loop .inv .2) refl))
 

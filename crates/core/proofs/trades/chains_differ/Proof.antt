@@ -25,13 +25,17 @@ same-length : tie.Need-same-length
 same-length c = search needs
 
 returns : tie.Need-returns
-returns c = sym (rw (c .enum-told .given .1) at (c .before .before .before .before .before .linked-differ .ensures))
+returns c =
+    let at-linked-differ : tie.After-linked-differ = search needs in
+    sym (rw (c .enum-told .given .1) at (at-linked-differ .linked-differ .ensures))
 
 same-length-2 : tie.Need-same-length-2
 same-length-2 c = search needs
 
 returns-2 : tie.Need-returns-2
-returns-2 c = sym (rw (c .enum-told2 .given .1) at (c .before .before .before .before .before .linked-differ .ensures))
+returns-2 c =
+    let at-linked-differ : tie.After-linked-differ = search needs in
+    sym (rw (c .enum-told2 .given .1) at (at-linked-differ .linked-differ .ensures))
 
 same-length-3 : tie.Need-same-length-3
 same-length-3 c = search needs

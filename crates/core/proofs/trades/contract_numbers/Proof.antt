@@ -15,7 +15,9 @@ loop-holds : tie.Need-loop-holds Inv-loop μ-loop
 loop-holds c = none-numbered _ _ _ (c .before .before .pre .1)
 
 contract-at-requires : tie.Need-contract-at-requires Inv-loop μ-loop
-contract-at-requires c κs = omega (arith, c .before .before .before .before .pre .0)
+contract-at-requires c κs =
+    let s : tie.Start Inv-loop μ-loop = search needs in
+    omega (arith, s .pre .0)
 
 mul-numbers : tie.Need-mul-numbers Inv-loop μ-loop
 mul-numbers c = search needs

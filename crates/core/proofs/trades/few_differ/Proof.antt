@@ -27,7 +27,9 @@ contract-at-requires : tie.Need-contract-at-requires Inv-loop μ-loop
 contract-at-requires c κs = omega (arith, c .before .before .before .pre)
 
 place-of-requires : tie.Need-place-of-requires Inv-loop μ-loop
-place-of-requires c κs = omega (arith, c .before .before .before .before .pre)
+place-of-requires c κs =
+    let s : tie.Start Inv-loop μ-loop = search needs in
+    omega (arith, s .pre)
 
 returns : tie.Need-returns Inv-loop μ-loop
 returns c = sym (differ-fails _ _ _ (c .before .before .before .loop-test .taken) (rw (place (c .before)) at (c .if1 .taken)))
@@ -39,7 +41,9 @@ loop-less : tie.Need-loop-less Inv-loop μ-loop
 loop-less c = search needs
 
 loop-again : tie.Need-loop-again Inv-loop μ-loop
-loop-again c = (search needs, differ-one-more _ _ (c .before .before .before .before .loop .inv .1) (rw (place (c .before)) at (c .if1 .left)))
+loop-again c =
+    let at-loop-at : tie.At-loop Inv-loop μ-loop = search needs in
+    (search needs, differ-one-more _ _ (at-loop-at .loop .inv .1) (rw (place (c .before)) at (c .if1 .left)))
 
 returns-2 : tie.Need-returns-2 Inv-loop μ-loop
 returns-2 c = let e : c .before .loop .i ≡ c .before .before .before .args .count = omega arith in sym (rw e at (c .before .loop .inv .1))

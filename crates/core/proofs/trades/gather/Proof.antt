@@ -28,7 +28,9 @@ within : (c : tie.Else1 Inv-loop μ-loop) → tradeFit (tradeAt (c .before .befo
 within c = sym (c .before .trade-fits .ensures) ∙ not-false _ (c .if1 .left)
 
 few : (c : tie.Else1 Inv-loop μ-loop) → tradeAt (c .before .before .before .before .before .args .table .now) (c .before .before .before .loop .i) .sheets .0 ≤ tradeLimit
-few c = within-of (tradeAt (c .before .before .before .before .before .args .table .now) (c .before .before .before .loop .i)) (within c) .sheets
+few c =
+    let s : tie.Start Inv-loop μ-loop = search needs in
+    within-of (tradeAt (s .args .table .now) (c .before .before .before .loop .i)) (within c) .sheets
 
 loop-holds : tie.Need-loop-holds Inv-loop μ-loop
 loop-holds c = (search needs, all-none tradeFit _, sym (total-none sheetsOf _), search needs, sym (latest-none _))
@@ -40,13 +42,20 @@ returns : tie.Need-returns Inv-loop μ-loop
 returns c = sym (gathered-unfit _ (all-fails tradeFit _ _ _ (c .before .before .loop-test .taken) (sym (c .before .trade-fits .ensures) ∙ not-true _ (c .if1 .taken))))
 
 sheets-at-requires : tie.Need-sheets-at-requires Inv-loop μ-loop
-sheets-at-requires c κs = omega (arith, c .before .before .before .before .before .pre .0)
+sheets-at-requires c κs =
+    let s : tie.Start Inv-loop μ-loop = search needs in
+    omega (arith, s .pre .0)
 
 add-outstanding : tie.Need-add-outstanding Inv-loop μ-loop
-add-outstanding c = rw (c .sheets-at .ensures) (omega (arith, few (c .before), c .before .before .before .before .loop .inv .3, c .before .before .before .loop-test .taken, c .before .before .before .before .before .before .pre .1))
+add-outstanding c =
+    let at-loop-at : tie.At-loop Inv-loop μ-loop = search needs in
+    let s : tie.Start Inv-loop μ-loop = search needs in
+    rw (c .sheets-at .ensures) (omega (arith, few (c .before), at-loop-at .loop .inv .3, c .before .before .before .loop-test .taken, s .pre .1))
 
 first-at-requires : tie.Need-first-at-requires Inv-loop μ-loop
-first-at-requires c κs = omega (arith, c .before .before .before .before .before .before .pre .0)
+first-at-requires c κs =
+    let s : tie.Start Inv-loop μ-loop = search needs in
+    omega (arith, s .pre .0)
 
 later-requires : tie.Need-later-requires Inv-loop μ-loop
 later-requires c κs = search needs
@@ -59,7 +68,8 @@ loop-less c = search needs
 
 loop-again : tie.Need-loop-again Inv-loop μ-loop
 loop-again c =
-    let inv = c .before .before .before .before .before .before .loop .inv in
+    let at-loop-at : tie.At-loop Inv-loop μ-loop = search needs in
+    let inv = at-loop-at .loop .inv in
     let looked = c .before .before .before in
     let sheets = c .before .before .sheets-at .ensures in (
       search needs,

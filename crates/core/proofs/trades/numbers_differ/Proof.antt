@@ -21,8 +21,8 @@ same-length c = search needs
 
 returns : tie.Need-returns
 returns c =
-    let sorting = c .before .before .before .before in
-    let numbering = sorting .before .before .before .before in
+    let sorting : tie.After-sort = search needs in
+    let numbering : tie.After-contract-numbers = search needs in
     c .neighbours-differ .ensures
     ∙ ap neighboursDiffer (sorting .sort .ensures .1 ∙ after-sort _ (search needs))
     ∙ sorted-neighbours _

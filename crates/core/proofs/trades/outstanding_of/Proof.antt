@@ -20,7 +20,8 @@ abbrev μ-loop : tie.MeasureT-loop
 -- the sum with the next trade stays below 4,096 times the limit of a trade
 room : (c : tie.After-sheets-at Inv-loop μ-loop) → c .before .before .loop .sum + c .sheets-at .result ≤ 409600000000
 room c =
-    let kept = c .before .before .before .before .pre in
+    let s : tie.Start Inv-loop μ-loop = search needs in
+    let kept = s .pre in
     let bound = next-at-most sheetsOf _ tradeLimit _ (λ i l. kept-within _ _ kept i l .sheets) _ (c .before .loop-test .taken) in
     rw (c .before .before .loop .inv .1, c .sheets-at .ensures) (omega (arith, bound, kept .few))
 

@@ -30,7 +30,9 @@ same-contract-requires : tie.Need-same-contract-requires Inv-loop μ-loop
 same-contract-requires c κs = search needs
 
 returns : tie.Need-returns Inv-loop μ-loop
-returns c = sym (place-found _ _ _ _ (c .before .before .before .loop-test .taken) (c .before .before .before .before .loop .inv .1) (tested (c .before) ∙ c .if1 .taken))
+returns c =
+    let at-loop-at : tie.At-loop Inv-loop μ-loop = search needs in
+    sym (place-found _ _ _ _ (c .before .before .before .loop-test .taken) (at-loop-at .loop .inv .1) (tested (c .before) ∙ c .if1 .taken))
 
 add-i : tie.Need-add-i Inv-loop μ-loop
 add-i c = search needs
@@ -39,7 +41,9 @@ loop-less : tie.Need-loop-less Inv-loop μ-loop
 loop-less c = search needs
 
 loop-again : tie.Need-loop-again Inv-loop μ-loop
-loop-again c = (search needs, off-one-more _ _ _ (c .before .before .before .before .loop .inv .1) (tested (c .before) ∙ c .if1 .left))
+loop-again c =
+    let at-loop-at : tie.At-loop Inv-loop μ-loop = search needs in
+    (search needs, off-one-more _ _ _ (at-loop-at .loop .inv .1) (tested (c .before) ∙ c .if1 .left))
 
 returns-2 : tie.Need-returns-2 Inv-loop μ-loop
 returns-2 c = let e : c .before .loop .i ≡ c .before .before .before .args .count = omega arith in sym (place-past _ _ _ (rw e at (c .before .loop .inv .1)))

@@ -37,8 +37,10 @@ fallback-at-requires c κs = search needs
 returns-3 : tie.Need-returns-3
 unfolding every
 returns-3 c =
-    let cheap = rw (c .before .before .before .before .price-at .ensures) at (c .before .before .if2 .left) in
-    rw (few (c .before .before .before .before .before), le-leb _ _ cheap, c .before .fallback-at .ensures) (only _)
+    let at-price-at : tie.After-price-at = search needs in
+    let past1 : tie.Else1 = search needs in
+    let cheap = rw (at-price-at .price-at .ensures) at (c .before .before .if2 .left) in
+    rw (few past1, le-leb _ _ cheap, c .before .fallback-at .ensures) (only _)
 
 pub trade-fits-spec : {M : Type 1} → statement M
 trade-fits-spec =

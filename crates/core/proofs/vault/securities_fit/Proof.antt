@@ -41,7 +41,8 @@ loop-less c = search needs
 
 loop-again : tie.Need-loop-again Inv-loop μ-loop
 loop-again c =
-    (search needs, below-more _ _ (c .before .before .before .before .loop .inv .1) (tested (c .before) ∙ not-false _ (c .if1 .left)))
+    let at-loop-at : tie.At-loop Inv-loop μ-loop = search needs in
+    (search needs, below-more _ _ (at-loop-at .loop .inv .1) (tested (c .before) ∙ not-false _ (c .if1 .left)))
 
 returns-2 : tie.Need-returns-2 Inv-loop μ-loop
 returns-2 c = all-fit-securities _ (λ k h. c .before .loop .inv .1 k (omega arith))

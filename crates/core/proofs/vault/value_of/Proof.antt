@@ -38,22 +38,26 @@ cast-worth c = search needs
 
 -- the security in the row is the vault's
 security : (c : tie.After-security-at Inv-loop μ-loop) → c .security-at .result ≡ securityAt (vault (c .before .before .before .before)) (c .before .before .loop .kind)
-security c = c .security-at .ensures ∙ sym (security-at-row _ (c .before .before .before .before .args .guarantee) _ (c .before .loop-test .taken))
+security c =
+    let s : tie.Start Inv-loop μ-loop = search needs in
+    c .security-at .ensures ∙ sym (security-at-row _ (s .args .guarantee) _ (c .before .loop-test .taken))
 
 worth-requires : tie.Need-worth-requires Inv-loop μ-loop
 worth-requires c κs =
     let kind = c .before .before .loop .kind in
-    let s = c .before .before .before .before in
+    let s : tie.Start Inv-loop μ-loop = search needs in
     let fits = securities-fit (vault s) (sound s .0) kind (c .before .loop-test .taken) in
     rw (security c, ne-eqb kind 32 (λ q. omega arith)) (omega arith, fits .free, omega (arith, fits .units), fits .rate)
 
 -- the security's part of V, and that it is small
 part : (c : tie.After-worth Inv-loop μ-loop) → c .worth .result ≡ valueAt (vault (c .before .before .before .before .before)) (c .before .before .before .loop .kind)
-part c = (rw (security (c .before)) at (c .worth .ensures)) ∙ sym (security-value (vault (c .before .before .before .before .before)) _ (c .before .before .loop-test .taken))
+part c =
+    let s : tie.Start Inv-loop μ-loop = search needs in
+    (rw (security (c .before)) at (c .worth .ensures)) ∙ sym (security-value (vault s) _ (c .before .before .loop-test .taken))
 
 small : (c : tie.After-worth Inv-loop μ-loop) → c .worth .result ≤ 2000000000000
 small c =
-    let s = c .before .before .before .before .before in
+    let s : tie.Start Inv-loop μ-loop = search needs in
     rw (part c) (value-at-bound (vault s) (sound s) (c .before .before .before .loop .kind) (omega arith))
 
 add-sum : tie.Need-add-sum Inv-loop μ-loop
@@ -67,25 +71,29 @@ loop-less c = search needs
 
 loop-again : tie.Need-loop-again Inv-loop μ-loop
 loop-again c =
+    let s : tie.Start Inv-loop μ-loop = search needs in
     let loop = c .before .before .before .loop in
-    (search needs, rw (loop .inv .1, part c) (sym (sum-more (valueAt (vault (c .before .before .before .before .before))) (loop .kind))), omega (arith, small c))
+    (search needs, rw (loop .inv .1, part c) (sym (sum-more (valueAt (vault s)) (loop .kind))), omega (arith, small c))
 
 worth-requires-2 : tie.Need-worth-requires-2 Inv-loop μ-loop
 worth-requires-2 c κs = let s = c .before .before .before in (omega arith, s .pre .2, s .pre .3, omega arith)
 
 cash : (c : tie.After-worth2 Inv-loop μ-loop) → c .worth2 .result ≡ valueAt (vault (c .before .before .before .before)) 32
-cash c = c .worth2 .ensures ∙ sym (cash-value (vault (c .before .before .before .before)))
+cash c =
+    let s : tie.Start Inv-loop μ-loop = search needs in
+    c .worth2 .ensures ∙ sym (cash-value (vault s))
 
 add-result : tie.Need-add-result Inv-loop μ-loop
 add-result c =
-    let s = c .before .before .before .before in
+    let s : tie.Start Inv-loop μ-loop = search needs in
     omega (arith, cash c, value-at-bound (vault s) (sound s) 32 (omega arith))
 
 returns : tie.Need-returns Inv-loop μ-loop
 unfolding value
 returns c =
+    let s : tie.Start Inv-loop μ-loop = search needs in
     let e : c .before .before .loop .kind ≡ 32 = omega arith in
-    rw (c .before .before .loop .inv .1, cash c, e) (sym (sum-more (valueAt (vault (c .before .before .before .before))) 32))
+    rw (c .before .before .loop .inv .1, cash c, e) (sym (sum-more (valueAt (vault s)) 32))
 
 pub value-of-spec : {M : Type 1} → statement M
 value-of-spec =

@@ -37,8 +37,9 @@ application-fit-requires c κs = search needs
 
 returns-2 : tie.Need-returns-2 Inv-loop μ-loop
 returns-2 c =
-    let at = c .before .before .before .before .before in
-    one-unfit _ (at .loop .i) (at .before .if1 .left) (c .before .before .before .before .loop-test .taken) (sym (c .before .application-fit .ensures) ∙ not-true _ (c .if2 .taken))
+    let at-loop-in : tie.In-loop Inv-loop μ-loop = search needs in
+    let at : tie.At-loop Inv-loop μ-loop = search needs in
+    one-unfit _ (at .loop .i) (at .before .if1 .left) (at-loop-in .loop-test .taken) (sym (c .before .application-fit .ensures) ∙ not-true _ (c .if2 .taken))
 
 add-i : tie.Need-add-i Inv-loop μ-loop
 add-i c = search needs
@@ -48,7 +49,8 @@ loop-less c = search needs
 
 loop-again : tie.Need-loop-again Inv-loop μ-loop
 loop-again c =
-    (search needs, below-more _ _ (c .before .before .before .before .before .loop .inv .1) (sym (c .before .application-fit .ensures) ∙ not-false _ (c .if2 .left)))
+    let at-loop-at : tie.At-loop Inv-loop μ-loop = search needs in
+    (search needs, below-more _ _ (at-loop-at .loop .inv .1) (sym (c .before .application-fit .ensures) ∙ not-false _ (c .if2 .left)))
 
 returns-3 : tie.Need-returns-3 Inv-loop μ-loop
 returns-3 c = all-fit _ (c .before .before .if1 .left) (λ k h. c .before .loop .inv .1 k (omega arith))

@@ -24,7 +24,7 @@ limit-within : (kind : ℕ) → unitLimitOf kind ≤ cashLimit
 limit-within kind = by-test (λ cash. cond cash cashLimit unitLimit ≤ cashLimit) (isCash kind) (λ _. omega arith) (λ _. omega arith)
 
 abbrev start : tie.Else1 → tie.Start
-start c = c .before .before .before .before .before .before
+start c = search needs
 
 -- units that are effective, with frozen ones, are far below 2^64
 few : (c : tie.After-frozen-of) → start (c .before) .args .amount + c .frozen-of .result ≤ 20000000000000000
@@ -39,7 +39,8 @@ effective-of-requires c κs = search needs
 
 returns : tie.Need-returns
 returns c =
-    let a = c .before .before .before .before .before .before .args in
+    let s : tie.Start = search needs in
+    let a = s .args in
     let book = bookOf (a .desk) (rowsOf (a .held .now) (a .kinds .now) (a .units .now)) in
     sym (lt-ltb (effectiveOf (book .vault) (a .kind)) (a .amount + frozenOf (book .vault) (a .kind) + applied (book .withdrawals) (a .kind)) (omega (arith, c .before .effective-of .ensures, c .if1 .taken)))
 

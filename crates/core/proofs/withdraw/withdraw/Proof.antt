@@ -18,7 +18,7 @@ use Rattle.core.proofs.withdraw.withdraw.Statement.{statement}
 use Rattle.core.proofs.withdraw.withdraw.Tie as tie
 
 abbrev start : tie.Else1 → tie.Start
-start c = c .before .before .before .before .before .before .before
+start c = search needs
 
 none-applies : (c : tie.Else1) → (let a = start c .args in firstOf (withdrawCauses (bookOf (a .desk) (rowsOf (a .held .now) (a .kinds .now) (a .units .now))) (a .kind) (a .amount)) ≡ none)
 unfolding eventCauses
