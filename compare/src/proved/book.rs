@@ -4,11 +4,10 @@
 use model::answer;
 use model::book::{self, Book, Holding};
 use model::event::EVENT_BYTES;
-use model::journal::Line;
 use model::limits::APPLICATIONS;
 use model::money::CASH_KIND;
 
-use super::{lines_of, Fen, Sheets, Ticks};
+use super::{Fen, Sheets, Ticks};
 
 #[repr(C)]
 #[derive(Clone, Copy, Debug, PartialEq, Eq)]
@@ -112,17 +111,6 @@ extern "C" {
         event: *const u8,
         bytes: usize,
     ) -> Answer;
-    fn book_run(
-        calendar: *const u32,
-        words: usize,
-        page: *mut Page,
-        table: *mut Trade,
-        slots: usize,
-        events: *const u8,
-        bytes: usize,
-        lines: *mut u64,
-        room: usize,
-    ) -> u8;
     fn book_cover(
         calendar: *const u32,
         words: usize,
@@ -151,34 +139,6 @@ pub fn apply(
         )
     };
     answer.into()
-}
-
-/// A run of encoded events on a book and its table, into a lent buffer: the number.
-pub fn run_into(
-    calendar: &[u32],
-    page: &mut Page,
-    table: &mut [Trade],
-    events: &[u8],
-    lines: &mut [u64],
-) -> u8 {
-    unsafe {
-        book_run(
-            calendar.as_ptr(),
-            calendar.len(),
-            page,
-            table.as_mut_ptr(),
-            table.len(),
-            events.as_ptr(),
-            events.len(),
-            lines.as_mut_ptr(),
-            lines.len(),
-        )
-    }
-}
-
-/// A run of encoded events on a book and its table, event by event, or its refusal.
-pub fn run(calendar: &[u32], page: &mut Page, table: &mut [Trade], events: &[u8]) -> Result<Vec<Line>, u8> {
-    lines_of(events, |lines| run_into(calendar, page, table, events, lines))
 }
 
 /// Headroom and O of a book over its table, beside the number.

@@ -1,7 +1,7 @@
 //! Lent lengths that no call takes: everything is left as it was, the buffer too.
 
 use crate::sides::{both_run, fill_spare_slots, Sides};
-use compare::proved::lent::{self, Lengths};
+use compare::proved::lent::{self, Lengths, Rows};
 use compare::proved::{book, LINE_NUMBERS};
 use compare::{BAD_LENGTHS, UNWRITTEN};
 use model::answer::Answer;
@@ -15,15 +15,18 @@ fn ledger() -> Ledger {
     ledger
 }
 
-/// What a run of these bytes leaves, by page and by rows, and for each its
-/// number and a buffer of so many numbers.
-fn run(ledger: &Ledger, events: &[u8], room: usize) -> (Sides, [(u8, Vec<u64>); 2]) {
-    let mut sides = Sides::of(ledger);
-    let Sides { page, table, rows, lent_table } = &mut sides;
-    let (mut lines, mut lent_lines) = (vec![UNWRITTEN; room], vec![UNWRITTEN; room]);
-    let number = book::run_into(&ledger.calendar, page, table, events, &mut lines);
-    let lent_number = lent::run_into(&ledger.calendar, rows, lent_table, events, &mut lent_lines);
-    (sides, [(number, lines), (lent_number, lent_lines)])
+/// The rows and the table of a ledger.
+fn lent_of(ledger: &Ledger) -> (Rows, Vec<book::Trade>) {
+    let Sides { rows, lent_table, .. } = Sides::of(ledger);
+    (rows, lent_table)
+}
+
+/// What a run of these bytes leaves, its number and a buffer of so many numbers.
+fn run(ledger: &Ledger, events: &[u8], room: usize) -> ((Rows, Vec<book::Trade>), u8, Vec<u64>) {
+    let (mut rows, mut table) = lent_of(ledger);
+    let mut lines = vec![UNWRITTEN; room];
+    let number = lent::run_into(&ledger.calendar, &mut rows, &mut table, events, &mut lines);
+    ((rows, table), number, lines)
 }
 
 /// An event that the book accepts.
@@ -35,9 +38,8 @@ fn funds(bytes: usize) -> Vec<u8> {
 }
 
 fn assert_refused(ledger: &Ledger, (bytes, room): (usize, usize), number: u8) {
-    let refused = (number, vec![UNWRITTEN; room]);
     let left = run(ledger, &funds(bytes), room);
-    assert!(left == (Sides::of(ledger), [refused.clone(), refused]), "{bytes} bytes, room {room}");
+    assert!(left == (lent_of(ledger), number, vec![UNWRITTEN; room]), "{bytes} bytes, room {room}");
 }
 
 #[test]
@@ -62,14 +64,14 @@ fn runs_of_bad_lengths_on_an_unfit_book_are_answered_1() {
 fn what_lies_past_the_lines_is_as_it_was() {
     let (mut ledger, events) = (ledger(), every_event());
     let needed = LINE_NUMBERS * events.len();
-    let (exact, [(_, lines), _]) = run(&ledger, events.as_flattened(), needed);
+    let (exact, _, lines) = run(&ledger, events.as_flattened(), needed);
     for spare in [0, 1, 9] {
-        let wanted = (0, [&lines[..], &vec![UNWRITTEN; spare]].concat());
+        let wanted = [&lines[..], &vec![UNWRITTEN; spare]].concat();
         let left = run(&ledger, events.as_flattened(), needed + spare);
-        assert!(left == (exact.clone(), [wanted.clone(), wanted]), "{spare} numbers to spare");
+        assert!(left == (exact.clone(), 0, wanted), "{spare} numbers to spare");
     }
     assert!(both_run(&mut ledger, &events).is_ok());
-    assert!(exact == Sides::of(&ledger));
+    assert!(exact == lent_of(&ledger));
 }
 
 /// Rows of securities or of applications, or a table, that end too soon.

@@ -37,7 +37,6 @@ fn assert_refused(ledger: &Ledger, event: &[u8; EVENT_BYTES], blot: Blot) {
     let refused = Answer { number: 1, ..Answer::default() };
     assert_eq!(book::apply(calendar, page, table, event), refused);
     assert_eq!(lent::apply(calendar, rows, lent_table, event), refused);
-    assert_eq!(book::run_into(calendar, page, table, event, &mut lines), 1);
     assert_eq!(lent::run_into(calendar, rows, lent_table, event, &mut lines), 1);
     assert_eq!(book::cover(calendar, page, table), (1, 0, 0));
     assert_eq!(lent::cover(calendar, rows, lent_table), (1, 0, 0));

@@ -16,6 +16,3 @@ pub mod WalkApplyChoice
 pub mod WalkCover
 pub mod WalkCoverRoom
 pub mod WalkCoverChoice
-pub mod WalkRun
-pub mod WalkRunRoom
-pub mod WalkRunChoice

@@ -6,7 +6,6 @@ use money::units::Sheets;
 use rules::answer::Answer;
 use rules::answer::Applied;
 use rules::answer::Cover;
-use rules::answer::Ran;
 use rules::book::Book;
 
 pub fn entry(number: u8, book: Book) -> Applied
@@ -21,12 +20,6 @@ pub fn entry(number: u8, book: Book) -> Applied
         },
         book,
     }
-}
-
-pub fn run(number: u8, book: Book) -> Ran
-    ensures { λ r. ⌜ r ≡ record { number = number; book = book } ⌝ }
-{
-    Ran { number, book }
 }
 
 pub fn cover() -> Cover

@@ -1,13 +1,12 @@
 // The calls on a book and its lent table: the trades are copied to the core's numbers, the core acts on these, and its trades are
-// copied back. An entry looks at the slots in use and at the next one, so `apply` and `cover` copy no more than those; a run copies the
-// table it is lent. A table of more than 4,096 slots is answered 1 before anything is copied: no book on it is fit.
+// copied back. An entry looks at the slots in use and at the next one, so no more than those are copied. A table of more than 4,096 slots
+// is answered 1 before anything is copied: no book on it is fit. A run of encoded events is `core::lent::run`.
 ghost use mathlib.Core.Path.{_≡_};
 ghost use Prim.Native.Nat.{_+_, _≤_, min};
 ghost use lib.ListN.{length};
 ghost use Rattle.rules.specs.Limits.{capacityLimit};
 ghost use Rattle.rules.specs.Step.{step};
 ghost use Rattle.rules.specs.Cover.{coverOf};
-ghost use Rattle.rules.specs.Listing.{runOutcome};
 ghost use Rattle.core.specs.Flat.{HasSlots, tradesTo, appliedOf};
 use crate::copies;
 use crate::numbers;
@@ -15,7 +14,6 @@ use crate::refused;
 use core::layout::WIDTH;
 use rules::answer::Applied;
 use rules::answer::Cover;
-use rules::answer::Ran;
 use rules::book::Book;
 use rules::event::Entry;
 use rules::limits::CAPACITY_LIMIT;
@@ -221,164 +219,4 @@ pub fn cover(calendar: &[u32], book: Book, table: &[Trade]) -> Cover
     }
     let used = slots_used(book, slots);
     cover_front(calendar, book, &table[..used])
-}
-
-// The core on the first `count` trades of a longer row of numbers.
-fn run_first(
-    calendar: &[u32],
-    book: Book,
-    flat: &mut [u64],
-    count: usize,
-    events: &[u8],
-    lines: &mut [u64],
-) -> Ran
-    requires { ⌜ HasSlots (now flat) count ⌝ }
-    ensures { λ r.
-        let trades = tradesTo (now (flat .entry)) count in
-        let ended = runOutcome (now (calendar .entry)) book trades (now (events .entry)) (now (lines .entry)) in
-        ⌜ (r ≡ ended .ran)
-        × (tradesTo (now (flat .exit)) count ≡ ended .table)
-        × (now (lines .exit) ≡ ended .lines) ⌝ }
-{
-    let end = count * WIDTH;
-    numbers::run_flat(calendar, book, &mut flat[..end], events, lines)
-}
-
-// By way of lent numbers: the table is copied once, not once an event.
-fn run_by(
-    calendar: &[u32],
-    book: Book,
-    table: &mut [Trade],
-    flat: &mut [u64],
-    events: &[u8],
-    lines: &mut [u64],
-) -> Ran
-    requires { ⌜ HasSlots (now flat) (length (now table)) ⌝ }
-    ensures { λ r.
-        let ended = runOutcome (now (calendar .entry)) book (now (table .entry)) (now (events .entry)) (now (lines .entry)) in
-        ⌜ (r ≡ ended .ran)
-        × (now (table .exit) ≡ ended .table)
-        × (now (lines .exit) ≡ ended .lines) ⌝ }
-{
-    let n = table.len();
-    copies::copy_in(&*table, flat);
-    let ran = run_first(calendar, book, flat, n, events, lines);
-    copies::copy_out(&*flat, table);
-    ran
-}
-
-// With numbers of its own, of three sizes as for an entry.
-fn run_128(
-    calendar: &[u32],
-    book: Book,
-    table: &mut [Trade],
-    events: &[u8],
-    lines: &mut [u64],
-) -> Ran
-    requires { ⌜ length (now table) ≤ 128 ⌝ }
-    ensures { λ r.
-        let ended = runOutcome (now (calendar .entry)) book (now (table .entry)) (now (events .entry)) (now (lines .entry)) in
-        ⌜ (r ≡ ended .ran)
-        × (now (table .exit) ≡ ended .table)
-        × (now (lines .exit) ≡ ended .lines) ⌝ }
-{
-    let mut flat = copies::zeros_128();
-    run_by(calendar, book, table, &mut flat, events, lines)
-}
-
-fn run_1024(
-    calendar: &[u32],
-    book: Book,
-    table: &mut [Trade],
-    events: &[u8],
-    lines: &mut [u64],
-) -> Ran
-    requires { ⌜ length (now table) ≤ 1024 ⌝ }
-    ensures { λ r.
-        let ended = runOutcome (now (calendar .entry)) book (now (table .entry)) (now (events .entry)) (now (lines .entry)) in
-        ⌜ (r ≡ ended .ran)
-        × (now (table .exit) ≡ ended .table)
-        × (now (lines .exit) ≡ ended .lines) ⌝ }
-{
-    let mut flat = copies::zeros_1024();
-    run_by(calendar, book, table, &mut flat, events, lines)
-}
-
-fn run_4096(
-    calendar: &[u32],
-    book: Book,
-    table: &mut [Trade],
-    events: &[u8],
-    lines: &mut [u64],
-) -> Ran
-    requires { ⌜ length (now table) ≤ capacityLimit ⌝ }
-    ensures { λ r.
-        let ended = runOutcome (now (calendar .entry)) book (now (table .entry)) (now (events .entry)) (now (lines .entry)) in
-        ⌜ (r ≡ ended .ran)
-        × (now (table .exit) ≡ ended .table)
-        × (now (lines .exit) ≡ ended .lines) ⌝ }
-{
-    let mut flat = copies::zeros_4096();
-    run_by(calendar, book, table, &mut flat, events, lines)
-}
-
-// On a table that is not too long, with as few numbers as will do.
-fn run_more(
-    calendar: &[u32],
-    book: Book,
-    table: &mut [Trade],
-    events: &[u8],
-    lines: &mut [u64],
-) -> Ran
-    requires { ⌜ length (now table) ≤ capacityLimit ⌝ }
-    ensures { λ r.
-        let ended = runOutcome (now (calendar .entry)) book (now (table .entry)) (now (events .entry)) (now (lines .entry)) in
-        ⌜ (r ≡ ended .ran)
-        × (now (table .exit) ≡ ended .table)
-        × (now (lines .exit) ≡ ended .lines) ⌝ }
-{
-    if table.len() <= 1_024 {
-        return run_1024(calendar, book, table, events, lines);
-    }
-    run_4096(calendar, book, table, events, lines)
-}
-
-fn run_short(
-    calendar: &[u32],
-    book: Book,
-    table: &mut [Trade],
-    events: &[u8],
-    lines: &mut [u64],
-) -> Ran
-    requires { ⌜ length (now table) ≤ capacityLimit ⌝ }
-    ensures { λ r.
-        let ended = runOutcome (now (calendar .entry)) book (now (table .entry)) (now (events .entry)) (now (lines .entry)) in
-        ⌜ (r ≡ ended .ran)
-        × (now (table .exit) ≡ ended .table)
-        × (now (lines .exit) ≡ ended .lines) ⌝ }
-{
-    if table.len() <= 128 {
-        return run_128(calendar, book, table, events, lines);
-    }
-    run_more(calendar, book, table, events, lines)
-}
-
-// Encoded events, 40 bytes each, on any book and any table, and a line of seven numbers for each.
-pub fn run(
-    calendar: &[u32],
-    book: Book,
-    table: &mut [Trade],
-    events: &[u8],
-    lines: &mut [u64],
-) -> Ran
-    ensures { λ r.
-        let ended = runOutcome (now (calendar .entry)) book (now (table .entry)) (now (events .entry)) (now (lines .entry)) in
-        ⌜ (r ≡ ended .ran)
-        × (now (table .exit) ≡ ended .table)
-        × (now (lines .exit) ≡ ended .lines) ⌝ }
-{
-    if table.len() > CAPACITY_LIMIT {
-        return refused::run(1, book);
-    }
-    run_short(calendar, book, table, events, lines)
 }

@@ -16,13 +16,11 @@ use Rattle.rules.specs.declared.trade.Trade.{Trade}
 use Rattle.rules.specs.Fit.{capacityFit, fit}
 use Rattle.rules.specs.Step.{Outcome, unfit, step}
 use Rattle.rules.specs.Cover.{uncounted, coverOf}
-use Rattle.rules.specs.Listing.{RunOutcome, runOutcome}
 use Rattle.rules.proofs.FoldLaws.{by-test}
 use Rattle.core.proofs.StepLaws.{unfit-step}
 use Rattle.core.proofs.CoverLaws.{unfit-cover}
-use Rattle.core.proofs.RunLaws.{unfit-run}
 use Rattle.exports.specs.declared.page.Page.{Page}
-use Rattle.exports.specs.Page.{isTold, bookOn, pageOf, PageOutcome, onPage, stepOn, coverOn, PageRun, runOnPage, runOn}
+use Rattle.exports.specs.Page.{isTold, bookOn, pageOf, PageOutcome, onPage, stepOn, coverOn}
 use Rattle.exports.specs.Given.{tradesGiven, bookGiven, pageLeft}
 
 told-given : (page : Page) → isTold (page .marks) ≡ true → bookGiven page ≡ bookOn page
@@ -33,12 +31,9 @@ told-given page e = rw e refl
 no-room : (slots : ℕ) → (leb slots 4096 && leb 4097 slots) ≡ false
 no-room slots = by-test (λ x. (x && leb 4097 slots) ≡ false) (leb slots 4096) (λ e. lt-leb 4097 slots (omega (arith, leb-true slots 4096 e))) (λ e. refl)
 
--- what is left of a step and of a run on the book that a page gives
+-- what is left of a step on the book that a page gives
 abbrev pub afterStep : Page → Outcome → PageOutcome
 afterStep page left = record { answer = left .answer; page = pageLeft page (left .book); table = left .table }
-
-abbrev pub afterRun : Page → RunOutcome → PageRun
-afterRun page left = record { number = left .ran .number; page = pageLeft page (left .ran .book); table = left .table; lines = left .lines }
 
 module _ (calendar : Calendar) (page : Page) (table : List Trade) where
   untold-unfit : isTold (page .marks) ≡ false → unfit calendar (bookGiven page) table ≡ true
@@ -57,11 +52,3 @@ module _ (calendar : Calendar) (page : Page) (table : List Trade) where
   cover-given =
       by-test (λ told. coverOf calendar (bookGiven page) table ≡ cond told (coverOf calendar (bookOn page) table) uncounted)
       (isTold (page .marks)) (λ e. rw (told-given page e) refl) (λ e. unfit-cover calendar (bookGiven page) table (untold-unfit e))
-
-  pub run-given : (bytes buffer : List ℕ) → afterRun page (runOutcome calendar (bookGiven page) table bytes buffer) ≡ runOn calendar page table bytes buffer
-  unfolding runOn pageLeft
-  run-given bytes buffer =
-      let left = runOutcome calendar (bookGiven page) table bytes buffer in
-      by-test (λ told. record { number = left .ran .number; page = cond told (pageOf (left .ran .book)) page; table = left .table; lines = left .lines } ≡ cond told (runOnPage (runOutcome calendar (bookOn page) table bytes buffer)) (record { number = 1; page = page; table = table; lines = buffer }))
-      (isTold (page .marks)) (λ e. rw (told-given page e) refl)
-      (λ e. let refused = unfit-run calendar (bookGiven page) table bytes buffer (untold-unfit e) in rw (← (refused .0), ← (refused .1), ← (refused .2)) refl)

@@ -146,17 +146,3 @@ stepOn calendar page table entry =
 
 unfoldable pub coverOn : Calendar → Page → List Trade → Cover
 coverOn calendar page table = cond (isTold (page .marks)) (coverOf calendar (bookOn page) table) uncounted
-
-pub record PageRun : Type 0 where
-  pub number : ℕ
-  pub page : Page
-  pub table : List Trade
-  pub lines : List ℕ
-
-abbrev pub runOnPage : RunOutcome → PageRun
-runOnPage left = record { number = left .ran .number; page = pageOf (left .ran .book); table = left .table; lines = left .lines }
-
-unfoldable pub runOn : Calendar → Page → List Trade → (bytes buffer : List ℕ) → PageRun
-runOn calendar page table bytes buffer =
-    cond (isTold (page .marks)) (runOnPage (runOutcome calendar (bookOn page) table bytes buffer))
-    (record { number = 1; page = page; table = table; lines = buffer })

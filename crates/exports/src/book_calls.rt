@@ -4,7 +4,7 @@ ghost use lib.ListN.{length};
 ghost use Rattle.money.specs.Causes.{firstOf, numberOf};
 ghost use Rattle.rules.specs.Entry.{decoded};
 ghost use Rattle.rules.specs.Listing.{listingOf, listingCauses, writtenBy};
-ghost use Rattle.exports.specs.Page.{stepOn, coverOn, runOn};
+ghost use Rattle.exports.specs.Page.{stepOn, coverOn};
 use crate::page;
 use crate::page::Page;
 use rules::answer::Answer;
@@ -31,29 +31,6 @@ pub extern "C" fn book_apply(
     let applied = book::table::apply(calendar, book, table, entry);
     *page = page::page_after(before, applied);
     page::answer_of(applied)
-}
-
-// Encoded events, 40 bytes each, on any page and any table, and a line of seven numbers for each.
-#[no_mangle]
-pub extern "C" fn book_run(
-    calendar: &[u32],
-    page: &mut Page,
-    table: &mut [Trade],
-    events: &[u8],
-    lines: &mut [u64],
-) -> u8
-    ensures { λ r.
-        let ended = runOn (now (calendar .entry)) (now (page .entry)) (now (table .entry)) (now (events .entry)) (now (lines .entry)) in
-        ⌜ (r ≡ ended .number)
-        × (now (page .exit) ≡ ended .page)
-        × (now (table .exit) ≡ ended .table)
-        × (now (lines .exit) ≡ ended .lines) ⌝ }
-{
-    let before = *page;
-    let book = page::book_given(before);
-    let ran = book::table::run(calendar, book, table, events, lines);
-    *page = page::page_ran(before, ran);
-    page::number_of(ran)
 }
 
 // Headroom and O of any page over any table.

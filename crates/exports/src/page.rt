@@ -6,7 +6,6 @@ ghost use Rattle.exports.specs.Given.{tradesGiven, bookGiven, pageLeft};
 use money::units::Sheets;
 use rules::answer::Answer;
 use rules::answer::Applied;
-use rules::answer::Ran;
 use rules::book::Book;
 use rules::book::Cash;
 use rules::book::Day;
@@ -261,7 +260,7 @@ fn page_left(page: Page, book: Book) -> Page
     page
 }
 
-// What an event and a run leave, in two parts: the proofs of the calls over a lent table only hand it on.
+// What an event leaves, in two parts: the proof of the call over a lent table only hands it on.
 pub fn page_after(page: Page, applied: Applied) -> Page
     ensures { λ r. ⌜ r ≡ pageLeft page (applied .book) ⌝ }
 {
@@ -273,17 +272,4 @@ pub fn answer_of(applied: Applied) -> Answer
     ensures { λ r. ⌜ r ≡ applied .answer ⌝ }
 {
     applied.answer
-}
-
-pub fn page_ran(page: Page, ran: Ran) -> Page
-    ensures { λ r. ⌜ r ≡ pageLeft page (ran .book) ⌝ }
-{
-    let book = ran.book;
-    page_left(page, book)
-}
-
-pub fn number_of(ran: Ran) -> u8
-    ensures { λ r. ⌜ r ≡ ran .number ⌝ }
-{
-    ran.number
 }

@@ -2,7 +2,7 @@
 
 use std::hint::black_box;
 
-use compare::proved::{self, book::Page, lent::Rows};
+use compare::proved::{self, lent::Rows};
 use model::book::{Book, Trade};
 use model::journal::run_fresh;
 use model::limits::JOURNAL_CAPACITY;
@@ -21,8 +21,7 @@ pub fn report(wanted: impl Fn(&str) -> bool) {
     );
     for load in &loads {
         show(load, "run", run(load));
-        show(load, "in place", lent(load, Rows::from(&Book::fresh()), proved::lent::run_into));
-        show(load, "lent table", lent(load, Page::from(&Book::fresh()), proved::book::run_into));
+        show(load, "in place", lent(load));
         show(load, "listing", listing(load));
     }
 }
@@ -52,12 +51,10 @@ fn run(load: &Load) -> Medians {
     )
 }
 
-/// A proved run on a book and its table, into a lent buffer.
-type RunInto<B> = fn(&[u32], &mut B, &mut [proved::book::Trade], &[u8], &mut [u64]) -> u8;
-
 /// The same run on a fresh book and a lent table, both put there for each run.
-fn lent<B: Clone>(load: &Load, book: B, run_into: RunInto<B>) -> Medians {
+fn lent(load: &Load) -> Medians {
     let Load { calendar, events, .. } = load;
+    let book = Rows::from(&Book::fresh());
     let slots = proved::book::table(&[Trade::default(); JOURNAL_CAPACITY]);
     let (mut lent, mut lines) = (slots.clone(), Vec::with_capacity(events.len()));
     let mut numbers = vec![0; proved::LINE_NUMBERS * events.len()];
@@ -65,7 +62,7 @@ fn lent<B: Clone>(load: &Load, book: B, run_into: RunInto<B>) -> Medians {
         || {
             lent.copy_from_slice(&slots);
             let events = events.as_flattened();
-            black_box(run_into(calendar, &mut book.clone(), &mut lent, events, &mut numbers));
+            black_box(proved::lent::run_into(calendar, &mut book.clone(), &mut lent, events, &mut numbers));
         },
         || {
             lines.clear();
