@@ -17,7 +17,7 @@ use Rattle.rules.specs.Trades.{noTrade}
 use Rattle.rules.specs.Book.{freshBook}
 use Rattle.rules.specs.Listing.{journalTable, listingOf, lengthCauses, listingCauses, writtenBy, RunOutcome, runDone, runOutcome}
 use Rattle.rules.proofs.StaysFit.{others-clear, fresh-is-fit}
-use Rattle.core.specs.Flat.{tradeAt, tradesTo, capacity, tradesOf}
+use Rattle.core.specs.Flat.{width, tradeAt, tradesTo, capacity, tradesOf}
 use Rattle.core.proofs.Refusing.{none-at-0}
 use Rattle.core.proofs.StepLaws.{not-unfit}
 use Rattle.core.proofs.RunLaws.{goes-on}
@@ -42,13 +42,13 @@ module _ (words bytes room : ℕ) where
 abbrev pub zeros : ℕ → List ℕ
 zeros numbers = replicate numbers 0
 
-zero-trade : (numbers place : ℕ) → place * 4 + 3 < numbers → tradeAt (zeros numbers) place ≡ noTrade
+zero-trade : (numbers place : ℕ) → place * width + 3 < numbers → tradeAt (zeros numbers) place ≡ noTrade
 unfolding tradeAt
 zero-trade numbers place h =
     let read : (i : ℕ) → i < numbers → getD (zeros numbers) i 0 ≡ zero = λ i l. getD-replicate numbers i zero zero l in
-    rw (read (place * 4) (omega arith), read (place * 4 + 1) (omega arith), read (place * 4 + 2) (omega arith), read (place * 4 + 3) (omega arith))
+    rw (read (place * width) (omega arith), read (place * width + 1) (omega arith), read (place * width + 2) (omega arith), read (place * width + 3) (omega arith))
 
-zero-trades : (numbers count : ℕ) → count * 4 ≤ numbers → tradesTo (zeros numbers) count ≡ replicate count noTrade
+zero-trades : (numbers count : ℕ) → count * width ≤ numbers → tradesTo (zeros numbers) count ≡ replicate count noTrade
 unfolding tradesTo
 zero-trades numbers zero h = refl
 zero-trades numbers (suc count) h =
@@ -56,7 +56,7 @@ zero-trades numbers (suc count) h =
     (rw add-one at (replicate-append-replicate count 1 noTrade))
 
 -- a table of zeros has no trade in any of its slots
-pub empty-table : (numbers count : ℕ) → count * 4 ≡ numbers → tradesOf (zeros numbers) ≡ replicate count noTrade
+pub empty-table : (numbers count : ℕ) → count * width ≡ numbers → tradesOf (zeros numbers) ≡ replicate count noTrade
 empty-table numbers count e =
     let slots : capacity (zeros numbers) ≡ count = omega (arith, length-replicate numbers zero) in
     rw slots (zero-trades numbers count (omega arith))

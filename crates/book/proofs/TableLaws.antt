@@ -16,17 +16,17 @@ use Rattle.rules.specs.Trades.{noTrade}
 use Rattle.rules.specs.Fit.{capacityFit, fit}
 use Rattle.rules.specs.Step.{outcome, unfit, step}
 use Rattle.book.specs.Types.{Book, Trade, Entry}
-use Rattle.core.specs.Flat.{tradeAt, tradesTo, capacity, tradesOf}
+use Rattle.core.specs.Flat.{width, tradeAt, tradesTo, capacity, tradesOf}
 use Rattle.core.proofs.FlatLaws.{length-trades, trade-below, trade-at}
 use Rattle.core.proofs.StoreLaws.{same-words}
 use Rattle.core.proofs.StepLaws.{unfit-step}
 
 -- ---- the place of a trade: four numbers in the row, 32 bytes in the table
 
-pub words-fit : {k n m : ℕ} → k < n → n * 4 ≤ m → k * 4 + 3 < m
+pub words-fit : {k n m : ℕ} → k < n → n * width ≤ m → k * width + 3 < m
 words-fit l r = omega arith
 
-pub fours : (n : ℕ) → n * 4 % 4 ≡ 0
+pub fours : (n : ℕ) → n * width % width ≡ 0
 fours n = omega arith
 
 pub place-fits : {i n : ℕ} → i < n → n * 32 < 2 ^ 63 → i * 32 < 2 ^ 64
@@ -35,22 +35,22 @@ place-fits l r = omega arith
 -- ---- the first trades of a longer row of numbers
 
 -- rows that begin with the same numbers begin with the same trades
-same-front : (s t : List ℕ) (n : ℕ) → ((j : ℕ) → j < n * 4 → getD s j 0 ≡ getD t j 0) → tradesTo s n ≡ tradesTo t n
+same-front : (s t : List ℕ) (n : ℕ) → ((j : ℕ) → j < n * width → getD s j 0 ≡ getD t j 0) → tradesTo s n ≡ tradesTo t n
 same-front s t n h =
     ext-getD noTrade (tradesTo s n) (tradesTo t n) (length-trades s n ∙ sym (length-trades t n))
     (λ i l.
     let k : i < n = omega (arith, length-trades s n, l) in
-    trade-below s n i k ∙ same-words s t i i (λ j q. h (i * 4 + j) (omega arith)) ∙ sym (trade-below t n i k))
+    trade-below s n i k ∙ same-words s t i i (λ j q. h (i * width + j) (omega arith)) ∙ sym (trade-below t n i k))
 
-all-trades : (row : List ℕ) (n : ℕ) → length row ≡ n * 4 → tradesOf row ≡ tradesTo row n
+all-trades : (row : List ℕ) (n : ℕ) → length row ≡ n * width → tradesOf row ≡ tradesTo row n
 all-trades row n e =
     let c : capacity row ≡ n = omega (arith, e) in
     ap (tradesTo row) c
 
-pub trades-of-front : (row : List ℕ) (n : ℕ) → n * 4 ≤ length row → tradesOf (take (n * 4) row) ≡ tradesTo row n
-trades-of-front row n h = all-trades (take (n * 4) row) n (length-take-le (n * 4) row h) ∙ same-front (take (n * 4) row) row n (λ j l. getD-take (n * 4) row j 0 l)
+pub trades-of-front : (row : List ℕ) (n : ℕ) → n * width ≤ length row → tradesOf (take (n * width) row) ≡ tradesTo row n
+trades-of-front row n h = all-trades (take (n * width) row) n (length-take-le (n * width) row h) ∙ same-front (take (n * width) row) row n (λ j l. getD-take (n * width) row j 0 l)
 
-pub trades-before : (front rest : List ℕ) (n : ℕ) → length front ≡ n * 4 → tradesTo (front ++ rest) n ≡ tradesOf front
+pub trades-before : (front rest : List ℕ) (n : ℕ) → length front ≡ n * width → tradesTo (front ++ rest) n ≡ tradesOf front
 trades-before front rest n e = same-front (front ++ rest) front n (λ j l. List·getD-append front rest 0 j (omega (arith, e, l))) ∙ sym (all-trades front n e)
 
 -- ---- copied in, one trade after the other
@@ -63,7 +63,7 @@ pub record CopiedTo (trades : List Trade) (m k : ℕ) (row : List ℕ) : Type 0 
 pub copied-none : (trades : List Trade) (row : List ℕ) → CopiedTo trades (length row) 0 row
 copied-none trades row = record { long = refl; same = λ i l. absurd (omega (arith, l)) }
 
-pub copied-next : (trades : List Trade) (m k : ℕ) (row next : List ℕ) → k * 4 + 3 < m → CopiedTo trades m k row → length next ≡ length row → tradesOf next ≡ set (tradesOf row) k (getD trades k noTrade) → CopiedTo trades m (suc k) next
+pub copied-next : (trades : List Trade) (m k : ℕ) (row next : List ℕ) → k * width + 3 < m → CopiedTo trades m k row → length next ≡ length row → tradesOf next ≡ set (tradesOf row) k (getD trades k noTrade) → CopiedTo trades m (suc k) next
 copied-next trades m k row next room c e h = record { long = e ∙ c .long; same = λ i l. ap (λ (ts : List Trade). getD ts i noTrade) h ∙ by i l (ℕ-discrete i k) }
   where
     inside : k < length (tradesOf row)
@@ -73,7 +73,7 @@ copied-next trades m k row next room c e h = record { long = e ∙ c .long; same
     by i l (yes q) = rw q (getD-set-same (tradesOf row) k (getD trades k noTrade) noTrade inside)
     by i l (no q) = getD-set-other (tradesOf row) k i (getD trades k noTrade) noTrade q ∙ c .same i (omega (arith, l, q))
 
-pub copied-all : (trades : List Trade) (m : ℕ) (row : List ℕ) → length trades * 4 ≤ m → CopiedTo trades m (length trades) row → tradesTo row (length trades) ≡ trades
+pub copied-all : (trades : List Trade) (m : ℕ) (row : List ℕ) → length trades * width ≤ m → CopiedTo trades m (length trades) row → tradesTo row (length trades) ≡ trades
 copied-all trades m row room c =
     ext-getD noTrade (tradesTo row (length trades)) trades (length-trades row (length trades))
     (λ i l.

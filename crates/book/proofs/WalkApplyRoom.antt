@@ -1,5 +1,5 @@
--- One entry by way of a local array of numbers, walked once for every width: the array is made, and lent to `apply_by` with the table.
--- For the functions that differ in how many trades they have room for: the code of each is `function` at its width. Assumes `Given`.
+-- One entry by way of a local array of numbers, walked once for every span: the array is made, and lent to `apply_by` with the table.
+-- For the functions that differ in how many trades they have room for: the code of each is `function` at its span. Assumes `Given`.
 use mathlib.Core.Path.{_≡_, refl, ap, subst}
 use Prim.Native.Nat.{ℕ, _*_, _≤_}
 use native.Mathlib.Omega.{arith}
@@ -46,7 +46,7 @@ use Rattle.rules.proofs.event.Entry.Laws as Ev′
 use Rattle.rules.proofs.answer.Applied as B
 use Rattle.rules.proofs.answer.Applied.Laws as B′
 use Rattle.book.specs.Types.{Book, Trade, Entry, Applied}
-use Rattle.core.specs.Flat.{appliedOf}
+use Rattle.core.specs.Flat.{width, appliedOf}
 use Rattle.book.proofs.WalkAgain.{slice-at, Slice, lends, comes-home}
 use Rattle.book.proofs.WalkArray.{arrTy, lends-array, array-home, Zeros, calls-zeros}
 use Rattle.book.proofs.WalkBook.{calTy, flatMut, calVal, bookVal, OwnCal}
@@ -69,7 +69,7 @@ module _ {M : Type 1} (𝓤 : URA M) (H : Heap 𝓤) (A : Atoms 𝓤) where
   abbrev by-numbers : Clauses 𝓤 lent
   by-numbers κs x = record {
     ghost = Unit {0};
-    requires = λ _. fact 𝓤 (length (now (x .1 .1 .0)) * 4 ≤ length (now (x .1 .1 .1 .0)));
+    requires = λ _. fact 𝓤 (length (now (x .1 .1 .0)) * width ≤ length (now (x .1 .1 .1 .0)));
     ensures = λ _ r z. fact 𝓤 ((r ≡ appliedOf (step (now (x .0)) (x .1 .0) (now (x .1 .1 .0)) (x .1 .1 .1 .1 .0))) × (now (z .1 .1 .0) ≡ step (now (x .0)) (x .1 .0) (now (x .1 .1 .0)) (x .1 .1 .1 .1 .0) .table));
   }
 
@@ -77,7 +77,7 @@ module _ {M : Type 1} (𝓤 : URA M) (H : Heap 𝓤) (A : Atoms 𝓤) where
   By = tripleOf 𝓤 H A (lent .signature) (closing 𝓤 H A lent by-numbers)
 
 -- ---- the call of `apply_by`: the table is lent for ν, the numbers fs in the local at l for ν′
-module _ {M : Type 1} (𝓤 : URA M) (H : Heap 𝓤) (A : Atoms 𝓤) (W : Given 𝓤 H A) (κ : Lft) (q : Share) (cal : RefT (List ℕ)) (bk : Book) (en : Entry) (b o : ℕ) (ys : List Trade) (width l : ℕ) (fs : List ℕ) (ν : ℕ) (δ : GName) (ν′ : ℕ) (δ′ : GName) where
+module _ {M : Type 1} (𝓤 : URA M) (H : Heap 𝓤) (A : Atoms 𝓤) (W : Given 𝓤 H A) (κ : Lft) (q : Share) (cal : RefT (List ℕ)) (bk : Book) (en : Entry) (b o : ℕ) (ys : List Trade) (span l : ℕ) (fs : List ℕ) (ν : ℕ) (δ : GName) (ν′ : ℕ) (δ′ : GName) where
   abbrev left : Outcome
   left = step (now cal) bk ys en
 
@@ -85,12 +85,12 @@ module _ {M : Type 1} (𝓤 : URA M) (H : Heap 𝓤) (A : Atoms 𝓤) (W : Given
   by-args = (cal, (bk, (slice-at b o δ ys, (slice-at l 0 δ′ fs, (en, tt)))))
 
   abbrev to-by : By 𝓤 H A .Ghost
-  to-by = (((κ, (ν ∷ [], (ν′ ∷ [], tt))), (q, (fullShare, (fullShare, tt))), tt, by-args, (calVal cal ∷ [], (bookVal bk ∷ [], (sliceVal (b, o) (length ys) ∷ [], (sliceVal (l, 0) width ∷ [], (entryVal en ∷ [], tt)))))), tt)
+  to-by = (((κ, (ν ∷ [], (ν′ ∷ [], tt))), (q, (fullShare, (fullShare, tt))), tt, by-args, (calVal cal ∷ [], (bookVal bk ∷ [], (sliceVal (b, o) (length ys) ∷ [], (sliceVal (l, 0) span ∷ [], (entryVal en ∷ [], tt)))))), tt)
 
   abbrev TakesBy : List (Item 𝓤)
-  TakesBy = (‵ (Slice T.the-row (ν ∷ []) b o (length ys) δ ys) ⊛ ‵ (flft (ν ∷ []) fullShare)) ∷ (‵ (Slice u64 (ν′ ∷ []) l 0 width δ′ fs) ⊛ ‵ (flft (ν′ ∷ []) fullShare)) ∷ (‵ (flft κ q) ⊛ ‵ (OwnCal κ cal)) ∷ []
+  TakesBy = (‵ (Slice T.the-row (ν ∷ []) b o (length ys) δ ys) ⊛ ‵ (flft (ν ∷ []) fullShare)) ∷ (‵ (Slice u64 (ν′ ∷ []) l 0 span δ′ fs) ⊛ ‵ (flft (ν′ ∷ []) fullShare)) ∷ (‵ (flft κ q) ⊛ ‵ (OwnCal κ cal)) ∷ []
 
-  goes-by : Is Bk.the-row bk (bookVal bk ∷ []) → Is Ev.the-row en (entryVal en ∷ []) → length ys * 4 ≤ length fs → ent 𝓤 (⋆ 𝓤 H A TakesBy) (By 𝓤 H A .pre to-by)
+  goes-by : Is Bk.the-row bk (bookVal bk ∷ []) → Is Ev.the-row en (entryVal en ∷ []) → length ys * width ≤ length fs → ent 𝓤 (⋆ 𝓤 H A TakesBy) (By 𝓤 H A .pre to-by)
   goes-by gb ge fits =
       qed W TakesBy ∵ says ! fits $ split ! $ move ! (2 ∷ []) $ split ! $ move ! (4 ∷ []) $ split ! $
       -- [calendar's token; what it owns; the numbers; ν′'s token; the table; ν's token]
@@ -112,10 +112,10 @@ module _ {M : Type 1} (𝓤 : URA M) (H : Heap 𝓤) (A : Atoms 𝓤) (W : Given
       -- [ν′'s token; true; ν's token; calendar's token; the result; the last numbers; how many; …; the last table]
       at-once ! $ show ! (λ (ws : List Trade × List ℕ). mean 𝓤 H A (GetsBy w ws)) (zs .1 .1 .0, zs .1 .1 .1 .0) $ check ! (e .1, (len, subst (λ (y : Applied). Is B.the-row y (w ∷ [])) (e .0) is)) $ keep ! (2 ∷ 8 ∷ 0 ∷ 5 ∷ 3 ∷ []) $ done !)))))
 
--- ---- the code: `size` is the width as it is written, `#zeros` makes the numbers and `#by` gets them
-module _ (width : ℕ) (size : Operand) (#zeros #by : Name) where
+-- ---- the code: `size` is the span as it is written, `#zeros` makes the numbers and `#by` gets them
+module _ (span : ℕ) (size : Operand) (#zeros #by : Name) where
   abbrev numbers : Ty
-  numbers = arrTy u64 width
+  numbers = arrTy u64 span
 
   abbrev held : Ty → Local
   held τ = local τ valueLocal
@@ -142,8 +142,8 @@ module _ (width : ℕ) (size : Operand) (#zeros #by : Name) where
 
 -- ---- the walk, for room enough
 module _ {M : Type 1} (𝓤 : URA M) (H : Heap 𝓤) (A : Atoms 𝓤) (W : Given 𝓤 H A) (mem : Memory → SProp 𝓤) (run : Routine → Fun 𝓤)
-    (most width : ℕ) (enough : most * 4 ≤ width) (flat-room : Room u64 width) (size : Operand) (reads : (Γ : List (Item 𝓤)) (E : Env 𝓤 H) → Opd (Go {0}) W Γ E size (vint w64 width)) (#zeros #by : Name) where
-  all-fit : {n m : ℕ} → n ≤ most → m ≡ width → n * 4 ≤ m
+    (most span : ℕ) (enough : most * width ≤ span) (flat-room : Room u64 span) (size : Operand) (reads : (Γ : List (Item 𝓤)) (E : Env 𝓤 H) → Opd (Go {0}) W Γ E size (vint w64 span)) (#zeros #by : Name) where
+  all-fit : {n m : ℕ} → n ≤ most → m ≡ span → n * width ≤ m
   all-fit l e = omega (arith, l, e, enough)
 
   module _ (κ κ₁ : Lft) (q q₁ : Share) (cal : RefT (List ℕ)) (bk : Book) (b o : ℕ) (γ : GName) (ys : List Trade) (en : Entry) where
@@ -162,11 +162,11 @@ module _ {M : Type 1} (𝓤 : URA M) (H : Heap 𝓤) (A : Atoms 𝓤) (W : Given
     abbrev Own : Item 𝓤
     Own = ‵ (OwnCal κ cal)
 
-    module _ (C : Calls 𝓤 H) (Λ : Loops 𝓤 H) (fm : FmC 𝓤 H (W .laws) C) (known-zeros : Triple 𝓤 (C #zeros) (Zeros 𝓤 H A width)) (known-by : Triple 𝓤 (C #by) (By 𝓤 H A))
+    module _ (C : Calls 𝓤 H) (Λ : Loops 𝓤 H) (fm : FmC 𝓤 H (W .laws) C) (known-zeros : Triple 𝓤 (C #zeros) (Zeros 𝓤 H A span)) (known-by : Triple 𝓤 (C #by) (By 𝓤 H A))
         (room : Room T.the-row n) (gb : Is Bk.the-row bk (bookVal bk ∷ [])) (ge : Is Ev.the-row en (entryVal en ∷ [])) (few : n ≤ most)
         (l₀ l₁ l₂ l₃ l₄ l₅ l₆ l₇ l₈ l₉ l₁₀ : ℕ) where
       abbrev nums : Ty
-      nums = arrTy u64 width
+      nums = arrTy u64 span
 
       abbrev En : Env 𝓤 H
       En = (B′.mir, l₀) ∷ (calTy, l₁) ∷ (Bk′.mir, l₂) ∷ (tabTy, l₃) ∷ (Ev′.mir, l₄) ∷ (nums, l₅) ∷ (nums, l₆) ∷ (tabMut, l₇) ∷ (sliceTy tabMut, l₈) ∷ (tyRef erased mut nums, l₉) ∷ (sliceTy flatMut, l₁₀) ∷ []
@@ -177,12 +177,12 @@ module _ {M : Type 1} (𝓤 : URA M) (H : Heap 𝓤) (A : Atoms 𝓤) (W : Given
           ∷ ‵ (fat fullShare Bk′.mir l₂ 0 (bookVal bk)) ∷ ‵ (fdies Bk′.mir l₂) ∷ ‵ (fat fullShare calTy l₁ 0 (calVal cal)) ∷ ‵ (fdies calTy l₁) ∷ ‵ (froom B′.mir l₀ 0) ∷ ‵ (fdies B′.mir l₀) ∷ rest
 
       abbrev to-lent : List ℕ → ℕ → GName → ℕ → GName → By 𝓤 H A .Ghost
-      to-lent fs ν δ ν′ δ′ = to-by 𝓤 H A W κ q cal bk en b o ys width l₅ fs ν δ ν′ δ′
+      to-lent fs ν δ ν′ δ′ = to-by 𝓤 H A W κ q cal bk en b o ys span l₅ fs ν δ ν′ δ′
 
       -- from [the table; its token; calendar's token; what it owns; _10 at 4; …; _i at 24 - 2 · i; …; _0 at 24]
-      copies : Sq W (With ys (Locals [])) (runs C Λ En (body width size #zeros #by) (atRet En Ends))
+      copies : Sq W (With ys (Locals [])) (runs C Λ En (body span size #zeros #by) (atRet En Ends))
       copies =
-          calls-zeros 𝓤 H A width W ! fm known-zeros (λ u fs typed.
+          calls-zeros 𝓤 H A span W ! fm known-zeros (λ u fs typed.
           -- [what the numbers own; the table; its token; calendar's token; what it owns; _10 at 5; …; _i at 25 - 2 · i; …]
           land ! (from ! (stop !)) (init ! 13 refl typed) $
           assigns ! (of-opd ! (loads ! (from ! (stop !)) (look ! 13 refl))) (from ! (stop !)) (init ! 15 refl typed) $
@@ -191,18 +191,18 @@ module _ {M : Type 1} (𝓤 : URA M) (H : Heap 𝓤) (A : Atoms 𝓤) (W : Given
           assigns ! (addr ! (from ! (stop !))) (from ! (stop !)) (init ! 7 refl (tt, tt)) $
           assigns ! (agg ! (and-then ! (loads ! (from ! (stop !)) (look ! 7 refl)) (and-then ! (reads _ _) (no-more !)))) (from ! (stop !)) (init ! 5 refl (tt, (tt, (record { fits = flat-room .0 }, tt)))) $
           -- the numbers are lent, and the table
-          move ! (15 ∷ 0 ∷ []) $ lends-array ! tt u64 width l₅ tt flat-room fs u (λ ν′ δ′ len. move ! (3 ∷ 4 ∷ []) $
+          move ! (15 ∷ 0 ∷ []) $ lends-array ! tt u64 span l₅ tt flat-room fs u (λ ν′ δ′ len. move ! (3 ∷ 4 ∷ []) $
           lends ! tt T.the-row κ₁ q₁ γ b o n ys refl room (λ ν δ.
           -- [the table lent; ν's token; what is kept of it; the numbers; ν′'s token; what is kept of them; calendar's token; what it owns; _10 at 8; …]
           move ! (7 ∷ []) $ use1 W (Own ⊛ Own) (shr-slice-copy 𝓤 H A W (named 0) κ u32 .twice cal (calVal cal ∷ [])) $ split ! $ move ! (8 ∷ 0 ∷ []) $ join ! $ move ! (5 ∷ 6 ∷ []) $ join ! $ move ! (3 ∷ 4 ∷ []) $ join ! $
-          use3 W (raw (By 𝓤 H A .pre (to-lent fs ν δ ν′ δ′))) (goes-by 𝓤 H A W κ q cal bk en b o ys width l₅ fs ν δ ν′ δ′ gb ge (all-fit few len)) $
+          use3 W (raw (By 𝓤 H A .pre (to-lent fs ν δ ν′ δ′))) (goes-by 𝓤 H A W κ q cal bk en b o ys span l₅ fs ν δ ν′ δ′ gb ge (all-fit few len)) $
           -- [pre; what calendar owns; what is kept of the table; of the numbers; _10 at 4; …; _6 at 12; that _5 dies at 14; _4 at 15; …]
           calls-at ! fm (By 𝓤 H A) known-by (to-lent fs ν δ ν′ δ′)
           (and-then ! (loads ! (from ! (stop !)) (look ! 21 refl)) (and-then ! (loads ! (from ! (stop !)) (look ! 19 refl)) (and-then ! (loads ! (from ! (stop !)) (look ! 8 refl)) (and-then ! (loads ! (from ! (stop !)) (look ! 4 refl)) (and-then ! (loads ! (from ! (stop !)) (look ! 15 refl)) (no-more !)))))) (λ w.
-          use1 W (later (some (GetsBy 𝓤 H A W κ q cal bk en b o ys width l₅ fs ν δ ν′ δ′ w))) (gets-by 𝓤 H A W κ q cal bk en b o ys width l₅ fs ν δ ν′ δ′ w) $ await ! tt $ pick ! (λ zs. learn ! (λ e. split ! $ move ! (1 ∷ []) $ split ! $ move ! (1 ∷ []) $ split ! $ move ! (1 ∷ []) $ split ! $
+          use1 W (later (some (GetsBy 𝓤 H A W κ q cal bk en b o ys span l₅ fs ν δ ν′ δ′ w))) (gets-by 𝓤 H A W κ q cal bk en b o ys span l₅ fs ν δ ν′ δ′ w) $ await ! tt $ pick ! (λ zs. learn ! (λ e. split ! $ move ! (1 ∷ []) $ split ! $ move ! (1 ∷ []) $ split ! $ move ! (1 ∷ []) $ split ! $
           -- [the last numbers; calendar's token; ν′'s token; the last table; ν's token; what calendar owns; what is kept of the table; of the numbers; _10 at 8; …]
           move ! (4 ∷ 6 ∷ 3 ∷ []) $ comes-home ! tt T.the-row κ₁ q₁ γ b o n ys refl room ν δ (zs .0) (e .1 .0) $
-          move ! (4 ∷ 6 ∷ 2 ∷ []) $ array-home ! tt u64 width l₅ ν′ δ′ (zs .1) (λ v. move ! (1 ∷ []) $ drop ! $
+          move ! (4 ∷ 6 ∷ 2 ∷ []) $ array-home ! tt u64 span l₅ ν′ δ′ (zs .1) (λ v. move ! (1 ∷ []) $ drop ! $
           -- [_5; the table; its token; calendar's token; what it owns; _10 at 5; …; _6 at 13; that _5 dies at 15; _4 at 16; …; _0 at 24]
           land ! (from ! (stop !)) (init ! 24 refl (LL.lawful B.the-type B′.the-laws 𝓤 H A W .typed result _ (e .1 .1) .0)) $
           rewrite ! 24 (λ (r : Val). ‵ (fat fullShare B′.mir l₀ 0 r)) (ap only (LL.tells B.the-type B′.the-laws result (w ∷ []) (e .1 .1))) refl $
@@ -213,33 +213,33 @@ module _ {M : Type 1} (𝓤 : URA M) (H : Heap 𝓤) (A : Atoms 𝓤) (W : Given
       abbrev Start : List (Item 𝓤)
       Start = Locals ((‵ (flft κ q) ⊛ ‵ (flft κ₁ q₁) ⊛ ‵ ftrue) ∷ ‵ (owns (ShrSlice (named 0) κ u32 ∷ Bk.the-row ∷ MutSlice (named 1) κ₁ T.the-row ∷ Ev.the-row ∷ []) (args 𝓤 H A W mem run κ q cal bk en κ₁ q₁ b o γ ys) (passed 𝓤 H A W mem run κ q cal bk en κ₁ q₁ b o γ ys)) ∷ [])
 
-      starts : Sq W Start (runs C Λ En (body width size #zeros #by) (atRet En Ends))
+      starts : Sq W Start (runs C Λ En (body span size #zeros #by) (atRet En Ends))
       starts =
           move ! (23 ∷ []) $ fsplit ! $ move ! (1 ∷ []) $ fsplit ! $ drop ! $ fsplit ! $ move ! (1 ∷ []) $ drop ! $
           -- [the table; what calendar owns; _10 at 2; …; the tokens at 24]
           move ! (24 ∷ []) $ split ! $ move ! (1 ∷ []) $ split ! $ move ! (1 ∷ []) $ drop ! $ move ! (2 ∷ 0 ∷ 1 ∷ 3 ∷ []) $ copies
 
     module _ (C : Calls 𝓤 H) (Λ : Loops 𝓤 H) where
-      walk : FmC 𝓤 H (W .laws) C → Triple 𝓤 (C #zeros) (Zeros 𝓤 H A width) → Triple 𝓤 (C #by) (By 𝓤 H A)
+      walk : FmC 𝓤 H (W .laws) C → Triple 𝓤 (C #zeros) (Zeros 𝓤 H A span) → Triple 𝓤 (C #by) (By 𝓤 H A)
           → Is (ShrSlice (named 0) κ u32) cal (calVal cal ∷ []) → Room T.the-row n → Is Bk.the-row bk (bookVal bk ∷ []) → Is Ev.the-row en (entryVal en ∷ []) → n ≤ most
-          → ent 𝓤 (onEntry 𝓤 H A apply.signature (κ, (κ₁, tt)) (q, (q₁, tt)) (args 𝓤 H A W mem run κ q cal bk en κ₁ q₁ b o γ ys) (passed 𝓤 H A W mem run κ q cal bk en κ₁ q₁ b o γ ys)) (WpFn 𝓤 H C Λ (function width size #zeros #by) (calVal cal ∷ bookVal bk ∷ sliceVal (b, o) n ∷ entryVal en ∷ []) Ends)
+          → ent 𝓤 (onEntry 𝓤 H A apply.signature (κ, (κ₁, tt)) (q, (q₁, tt)) (args 𝓤 H A W mem run κ q cal bk en κ₁ q₁ b o γ ys) (passed 𝓤 H A W mem run κ q cal bk en κ₁ q₁ b o γ ys)) (WpFn 𝓤 H C Λ (function span size #zeros #by) (calVal cal ∷ bookVal bk ∷ sliceVal (b, o) n ∷ entryVal en ∷ []) Ends)
       walk fm known-zeros known-by gc room gb ge few =
-          qed W ((‵ (flft κ q) ⊛ ‵ (flft κ₁ q₁) ⊛ ‵ ftrue) ∷ ‵ (owns (ShrSlice (named 0) κ u32 ∷ Bk.the-row ∷ MutSlice (named 1) κ₁ T.the-row ∷ Ev.the-row ∷ []) (args 𝓤 H A W mem run κ q cal bk en κ₁ q₁ b o γ ys) (passed 𝓤 H A W mem run κ q cal bk en κ₁ q₁ b o γ ys)) ∷ []) ∵ enter ! C Λ (function width size #zeros #by) (calVal cal ∷ bookVal bk ∷ sliceVal (b, o) n ∷ entryVal en ∷ []) _ $
+          qed W ((‵ (flft κ q) ⊛ ‵ (flft κ₁ q₁) ⊛ ‵ ftrue) ∷ ‵ (owns (ShrSlice (named 0) κ u32 ∷ Bk.the-row ∷ MutSlice (named 1) κ₁ T.the-row ∷ Ev.the-row ∷ []) (args 𝓤 H A W mem run κ q cal bk en κ₁ q₁ b o γ ys) (passed 𝓤 H A W mem run κ q cal bk en κ₁ q₁ b o γ ys)) ∷ []) ∵ enter ! C Λ (function span size #zeros #by) (calVal cal ∷ bookVal bk ∷ sliceVal (b, o) n ∷ entryVal en ∷ []) _ $
           alloc1 ! (λ l₀. alloc1 ! (λ l₁. alloc1 ! (λ l₂. alloc1 ! (λ l₃. alloc1 ! (λ l₄. alloc1 ! (λ l₅. alloc1 ! (λ l₆. alloc1 ! (λ l₇. alloc1 ! (λ l₈. alloc1 ! (λ l₉. alloc1 ! (λ l₁₀. alloc0 ! $ params1 ! $
           pass1 ! (init ! 18 refl (shr-slice-lawful 𝓤 H A W (named 0) κ u32 .typed cal (calVal cal ∷ []) gc .0)) $ pass1 ! (init ! 16 refl (LL.lawful Bk.the-type Bk′.the-laws 𝓤 H A W .typed bk _ gb .0)) $
           pass1 ! (init ! 14 refl (tt, (tt, (record { fits = room .0 }, tt)))) $ pass1 ! (init ! 12 refl (EL.lawful Ev.the-type Ev′.the-laws 𝓤 H A W tt .typed en _ ge .0)) $ pass0 ! $
           starts C Λ fm known-zeros known-by room gb ge few l₀ l₁ l₂ l₃ l₄ l₅ l₆ l₇ l₈ l₉ l₁₀)))))))))))
 
-  module _ (𝓣 : Tables 𝓤 H) (known-zeros : Triple 𝓤 (𝓣 .C #zeros) (Zeros 𝓤 H A width)) (known-by : Triple 𝓤 (𝓣 .C #by) (By 𝓤 H A)) where
-    walks : Walks 𝓤 H A apply.ended stayed (WpFn 𝓤 H (𝓣 .C) (𝓣 .Λ) (function width size #zeros #by)) (clauses 𝓤 H A mem run most)
-    walks = walked 𝓤 H A apply.ended stayed (clauses 𝓤 H A mem run most) (WpFn 𝓤 H (𝓣 .C) (𝓣 .Λ) (function width size #zeros #by))
+  module _ (𝓣 : Tables 𝓤 H) (known-zeros : Triple 𝓤 (𝓣 .C #zeros) (Zeros 𝓤 H A span)) (known-by : Triple 𝓤 (𝓣 .C #by) (By 𝓤 H A)) where
+    walks : Walks 𝓤 H A apply.ended stayed (WpFn 𝓤 H (𝓣 .C) (𝓣 .Λ) (function span size #zeros #by)) (clauses 𝓤 H A mem run most)
+    walks = walked 𝓤 H A apply.ended stayed (clauses 𝓤 H A mem run most) (WpFn 𝓤 H (𝓣 .C) (𝓣 .Λ) (function span size #zeros #by))
         (λ κs. (slice-vals, (LL.vals Bk.the-type Bk′.the-laws, (slice-vals, (EL.vals Ev.the-type Ev′.the-laws, tt)))))
         (λ κs. (shr-slice-tells (named 0) (κs .0) u32, (LL.tells Bk.the-type Bk′.the-laws, (mut-slice-tells (named 1) (κs .1 .0) T.the-row, (EL.tells Ev.the-type Ev′.the-laws, tt)))))
         (λ κs qs bounds a g are. needs 𝓤 (length (now (a .1 .1 .0)) ≤ most) _
         (walk (κs .0) (κs .1 .0) (qs .0) (qs .1 .0) (a .0) (a .1 .0) (a .1 .1 .0 .ptr .0) (a .1 .1 .0 .ptr .1) (a .1 .1 .0 .name) (a .1 .1 .0 .now) (a .1 .1 .1 .0)
         (𝓣 .C) (𝓣 .Λ) (fmOf 𝓤 H (W .laws) 𝓣) known-zeros known-by (are .0) (are .1 .1 .0 .0 .1) (are .1 .0) (are .1 .1 .1 .0)))
 
-    pub meets : Meets 𝓤 H A apply.signature (WpFn 𝓤 H (𝓣 .C) (𝓣 .Λ) (function width size #zeros #by)) (closing 𝓤 H A apply.ended (clauses 𝓤 H A mem run most))
+    pub meets : Meets 𝓤 H A apply.signature (WpFn 𝓤 H (𝓣 .C) (𝓣 .Λ) (function span size #zeros #by)) (closing 𝓤 H A apply.ended (clauses 𝓤 H A mem run most))
     meets =
         walk-meets 𝓤 H A apply.ended stayed W (goes-none-slice 𝓤 H A W 2 (0 ∷ []) tt (plain (λ _. u32)) yes, (goes-none 𝓤 H A W 2 (λ _. Bk.the-row) yes (λ κs x f. refl), (goes-slice 𝓤 H A W 2 1 tt (plain (λ _. T.the-row)), (goes-none 𝓤 H A W 2 (λ _. Ev.the-row) yes (λ κs x f. refl), tt)))) (clauses 𝓤 H A mem run most)
-        (WpFn 𝓤 H (𝓣 .C) (𝓣 .Λ) (function width size #zeros #by)) (WpFn-mono 𝓤 H (W .laws) 𝓣 (function width size #zeros #by)) walks
+        (WpFn 𝓤 H (𝓣 .C) (𝓣 .Λ) (function span size #zeros #by)) (WpFn-mono 𝓤 H (W .laws) 𝓣 (function span size #zeros #by)) walks

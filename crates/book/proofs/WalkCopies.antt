@@ -28,7 +28,7 @@ use denote.Triple.Statement.{Contract}
 use denote.Triple.Walked.{says}
 use Rattle.rules.proofs.trade.Trade as T
 use Rattle.book.specs.Types.{Trade}
-use Rattle.core.specs.Flat.{tradesTo}
+use Rattle.core.specs.Flat.{width, tradesTo}
 use Rattle.book.proofs.WalkAgain.{slice-at, Slice, Shared}
 use Rattle.book.proofs.copies.copy_in as copy-in
 use Rattle.book.proofs.copies.copy_out as copy-out
@@ -55,7 +55,7 @@ module _ {M : Type 1} (𝓤 : URA M) (H : Heap 𝓤) (A : Atoms 𝓤) (W : Given
   abbrev pub TakesIn : List (Item 𝓤)
   TakesIn = (‵ (Shared T.the-row κ b o (length ys) δ ys) ⊛ ‵ (flft κ q)) ∷ (‵ (Slice u64 κ′ b′ o′ m δ′ us) ⊛ ‵ (flft κ′ q′)) ∷ []
 
-  pub goes-in : length ys * 4 ≤ length us → ent 𝓤 (⋆ 𝓤 H A TakesIn) (In 𝓤 H A mem run .pre to-in)
+  pub goes-in : length ys * width ≤ length us → ent 𝓤 (⋆ 𝓤 H A TakesIn) (In 𝓤 H A mem run .pre to-in)
   goes-in fits =
       qed W TakesIn ∵ says ! fits $ move ! (1 ∷ []) $ split ! $ move ! (2 ∷ []) $ split ! $
       -- [the table; its token; the numbers; its token]
@@ -87,7 +87,7 @@ module _ {M : Type 1} (𝓤 : URA M) (H : Heap 𝓤) (A : Atoms 𝓤) (W : Given
   abbrev pub TakesOut : List (Item 𝓤)
   TakesOut = (‵ (Slice T.the-row κ′ b o (length ys) δ′ ys) ⊛ ‵ (flft κ′ q′)) ∷ (‵ (Shared u64 κ b′ o′ m δ us) ⊛ ‵ (flft κ q)) ∷ []
 
-  pub goes-out : length ys * 4 ≤ length us → ent 𝓤 (⋆ 𝓤 H A TakesOut) (Out 𝓤 H A mem run .pre to-out)
+  pub goes-out : length ys * width ≤ length us → ent 𝓤 (⋆ 𝓤 H A TakesOut) (Out 𝓤 H A mem run .pre to-out)
   goes-out fits =
       qed W TakesOut ∵ says ! fits $ split ! $ move ! (2 ∷ []) $ split ! $
       -- [the numbers; its token; the table; its token]

@@ -1,5 +1,5 @@
--- Headroom and O by way of a local array of numbers, walked once for every width: the array is made, and lent to `cover_by`.
--- For the functions that differ in how many trades they have room for: the code of each is `function` at its width. Assumes `Given`.
+-- Headroom and O by way of a local array of numbers, walked once for every span: the array is made, and lent to `cover_by`.
+-- For the functions that differ in how many trades they have room for: the code of each is `function` at its span. Assumes `Given`.
 use mathlib.Core.Path.{_≡_, refl, ap, subst}
 use Prim.Native.Nat.{ℕ, _*_, _≤_}
 use native.Mathlib.Omega.{arith}
@@ -41,6 +41,7 @@ use Rattle.rules.proofs.book.Book as Bk
 use Rattle.rules.proofs.book.Book.Laws as Bk′
 use Rattle.rules.proofs.answer.Cover as B
 use Rattle.rules.proofs.answer.Cover.Laws as B′
+use Rattle.core.specs.Flat.{width}
 use Rattle.book.specs.Types.{Book, Trade, Cover}
 use Rattle.book.proofs.WalkAgain.{slice-at, Slice, Shared}
 use Rattle.book.proofs.WalkArray.{arrTy, lends-array, array-home, Zeros, calls-zeros}
@@ -64,7 +65,7 @@ module _ {M : Type 1} (𝓤 : URA M) (H : Heap 𝓤) (A : Atoms 𝓤) where
   abbrev by-numbers : Clauses 𝓤 lent
   by-numbers κs x = record {
     ghost = Unit {0};
-    requires = λ _. fact 𝓤 (length (now (x .1 .1 .0)) * 4 ≤ length (now (x .1 .1 .1 .0)));
+    requires = λ _. fact 𝓤 (length (now (x .1 .1 .0)) * width ≤ length (now (x .1 .1 .1 .0)));
     ensures = λ _ r _. fact 𝓤 (r ≡ coverOf (now (x .0)) (x .1 .0) (now (x .1 .1 .0)));
   }
 
@@ -72,7 +73,7 @@ module _ {M : Type 1} (𝓤 : URA M) (H : Heap 𝓤) (A : Atoms 𝓤) where
   By = tripleOf 𝓤 H A (lent .signature) (closing 𝓤 H A lent by-numbers)
 
 -- ---- the call of `cover_by`: the numbers fs in the local at l are lent for ν
-module _ {M : Type 1} (𝓤 : URA M) (H : Heap 𝓤) (A : Atoms 𝓤) (W : Given 𝓤 H A) (κ κ₁ : Lft) (q q₁ : Share) (cal : RefT (List ℕ)) (bk : Book) (b o : ℕ) (γ : GName) (ys : List Trade) (width l : ℕ) (fs : List ℕ) (ν : ℕ) (δ : GName) where
+module _ {M : Type 1} (𝓤 : URA M) (H : Heap 𝓤) (A : Atoms 𝓤) (W : Given 𝓤 H A) (κ κ₁ : Lft) (q q₁ : Share) (cal : RefT (List ℕ)) (bk : Book) (b o : ℕ) (γ : GName) (ys : List Trade) (span l : ℕ) (fs : List ℕ) (ν : ℕ) (δ : GName) where
   abbrev counted : Cover
   counted = coverOf (now cal) bk ys
 
@@ -83,12 +84,12 @@ module _ {M : Type 1} (𝓤 : URA M) (H : Heap 𝓤) (A : Atoms 𝓤) (W : Given
   by-args = (cal, (bk, (slice-at b o γ ys, (slice-at l 0 δ fs, tt))))
 
   abbrev to-by : By 𝓤 H A .Ghost
-  to-by = (((κ, (κ₁, (ν ∷ [], tt))), (q, (q₁, (fullShare, tt))), tt, by-args, (calVal cal ∷ [], (bookVal bk ∷ [], (sliceVal (b, o) (length ys) ∷ [], (sliceVal (l, 0) width ∷ [], tt))))), tt)
+  to-by = (((κ, (κ₁, (ν ∷ [], tt))), (q, (q₁, (fullShare, tt))), tt, by-args, (calVal cal ∷ [], (bookVal bk ∷ [], (sliceVal (b, o) (length ys) ∷ [], (sliceVal (l, 0) span ∷ [], tt))))), tt)
 
   abbrev TakesBy : List (Item 𝓤)
-  TakesBy = (‵ (Slice u64 (ν ∷ []) l 0 width δ fs) ⊛ ‵ (flft (ν ∷ []) fullShare)) ∷ (Table ⊛ ‵ (flft κ₁ q₁)) ∷ (‵ (flft κ q) ⊛ ‵ (OwnCal κ cal)) ∷ []
+  TakesBy = (‵ (Slice u64 (ν ∷ []) l 0 span δ fs) ⊛ ‵ (flft (ν ∷ []) fullShare)) ∷ (Table ⊛ ‵ (flft κ₁ q₁)) ∷ (‵ (flft κ q) ⊛ ‵ (OwnCal κ cal)) ∷ []
 
-  goes-by : Is Bk.the-row bk (bookVal bk ∷ []) → length ys * 4 ≤ length fs → ent 𝓤 (⋆ 𝓤 H A TakesBy) (By 𝓤 H A .pre to-by)
+  goes-by : Is Bk.the-row bk (bookVal bk ∷ []) → length ys * width ≤ length fs → ent 𝓤 (⋆ 𝓤 H A TakesBy) (By 𝓤 H A .pre to-by)
   goes-by gb fits =
       qed W TakesBy ∵ says ! fits $ split ! $ move ! (2 ∷ []) $ split ! $ move ! (4 ∷ []) $ split ! $
       -- [calendar's token; what it owns; the table; its token; the numbers; ν's token]
@@ -109,10 +110,10 @@ module _ {M : Type 1} (𝓤 : URA M) (H : Heap 𝓤) (A : Atoms 𝓤) (W : Given
       -- [ν's token; true; the table's; calendar's; the result; the last numbers; how many; …]
       at-once ! $ show ! (λ (ws : List ℕ). mean 𝓤 H A (GetsBy w ws)) (zs .1 .1 .1 .0) $ check ! (subst (λ (y : Cover). Is B.the-row y (w ∷ [])) e is) $ keep ! (2 ∷ 0 ∷ 5 ∷ 3 ∷ []) $ done !))))
 
--- ---- the code: `size` is the width as it is written, `#zeros` makes the numbers and `#by` gets them
-module _ (width : ℕ) (size : Operand) (#zeros #by : Name) where
+-- ---- the code: `size` is the span as it is written, `#zeros` makes the numbers and `#by` gets them
+module _ (span : ℕ) (size : Operand) (#zeros #by : Name) where
   abbrev numbers : Ty
-  numbers = arrTy u64 width
+  numbers = arrTy u64 span
 
   abbrev held : Ty → Local
   held τ = local τ valueLocal
@@ -137,8 +138,8 @@ module _ (width : ℕ) (size : Operand) (#zeros #by : Name) where
 
 -- ---- the walk, for room enough
 module _ {M : Type 1} (𝓤 : URA M) (H : Heap 𝓤) (A : Atoms 𝓤) (W : Given 𝓤 H A) (mem : Memory → SProp 𝓤) (run : Routine → Fun 𝓤)
-    (most width : ℕ) (enough : most * 4 ≤ width) (flat-room : Room u64 width) (size : Operand) (reads : (Γ : List (Item 𝓤)) (E : Env 𝓤 H) → Opd (Go {0}) W Γ E size (vint w64 width)) (#zeros #by : Name) where
-  all-fit : {n m : ℕ} → n ≤ most → m ≡ width → n * 4 ≤ m
+    (most span : ℕ) (enough : most * width ≤ span) (flat-room : Room u64 span) (size : Operand) (reads : (Γ : List (Item 𝓤)) (E : Env 𝓤 H) → Opd (Go {0}) W Γ E size (vint w64 span)) (#zeros #by : Name) where
+  all-fit : {n m : ℕ} → n ≤ most → m ≡ span → n * width ≤ m
   all-fit l e = omega (arith, l, e, enough)
 
   module _ (κ κ₁ : Lft) (q q₁ : Share) (cal : RefT (List ℕ)) (bk : Book) (b o : ℕ) (γ : GName) (ys : List Trade) where
@@ -160,10 +161,10 @@ module _ {M : Type 1} (𝓤 : URA M) (H : Heap 𝓤) (A : Atoms 𝓤) (W : Given
     abbrev Tab : Item 𝓤
     Tab = ‵ (Shared T.the-row κ₁ b o n γ ys)
 
-    module _ (C : Calls 𝓤 H) (Λ : Loops 𝓤 H) (fm : FmC 𝓤 H (W .laws) C) (known-zeros : Triple 𝓤 (C #zeros) (Zeros 𝓤 H A width)) (known-by : Triple 𝓤 (C #by) (By 𝓤 H A))
+    module _ (C : Calls 𝓤 H) (Λ : Loops 𝓤 H) (fm : FmC 𝓤 H (W .laws) C) (known-zeros : Triple 𝓤 (C #zeros) (Zeros 𝓤 H A span)) (known-by : Triple 𝓤 (C #by) (By 𝓤 H A))
         (gb : Is Bk.the-row bk (bookVal bk ∷ [])) (few : n ≤ most) (l₀ l₁ l₂ l₃ l₄ l₅ l₆ l₇ : ℕ) where
       abbrev nums : Ty
-      nums = arrTy u64 width
+      nums = arrTy u64 span
 
       abbrev En : Env 𝓤 H
       En = (B′.mir, l₀) ∷ (calTy, l₁) ∷ (Bk′.mir, l₂) ∷ (tabTy, l₃) ∷ (nums, l₄) ∷ (nums, l₅) ∷ (tyRef erased mut nums, l₆) ∷ (sliceTy flatMut, l₇) ∷ []
@@ -173,30 +174,30 @@ module _ {M : Type 1} (𝓤 : URA M) (H : Heap 𝓤) (A : Atoms 𝓤) (W : Given
           ∷ ‵ (fat fullShare tabTy l₃ 0 (sliceVal (b, o) n)) ∷ ‵ (fdies tabTy l₃) ∷ ‵ (fat fullShare Bk′.mir l₂ 0 (bookVal bk)) ∷ ‵ (fdies Bk′.mir l₂) ∷ ‵ (fat fullShare calTy l₁ 0 (calVal cal)) ∷ ‵ (fdies calTy l₁) ∷ ‵ (froom B′.mir l₀ 0) ∷ ‵ (fdies B′.mir l₀) ∷ rest
 
       abbrev to-lent : List ℕ → ℕ → GName → By 𝓤 H A .Ghost
-      to-lent fs ν δ = to-by 𝓤 H A W κ κ₁ q q₁ cal bk b o γ ys width l₄ fs ν δ
+      to-lent fs ν δ = to-by 𝓤 H A W κ κ₁ q q₁ cal bk b o γ ys span l₄ fs ν δ
 
       -- from [the table; its token; calendar's token; what it owns; _7 at 4; …; _i at 18 - 2 · i; …; _0 at 18]
-      copies : Sq W (With (Locals [])) (runs C Λ En (body width size #zeros #by) (atRet En Ends))
+      copies : Sq W (With (Locals [])) (runs C Λ En (body span size #zeros #by) (atRet En Ends))
       copies =
-          calls-zeros 𝓤 H A width W ! fm known-zeros (λ u fs typed.
+          calls-zeros 𝓤 H A span W ! fm known-zeros (λ u fs typed.
           -- [what the numbers own; the table; its token; calendar's token; what it owns; _7 at 5; …; _i at 19 - 2 · i; …]
           land ! (from ! (stop !)) (init ! 9 refl typed) $
           assigns ! (of-opd ! (loads ! (from ! (stop !)) (look ! 9 refl))) (from ! (stop !)) (init ! 11 refl typed) $
           assigns ! (addr ! (from ! (stop !))) (from ! (stop !)) (init ! 7 refl (tt, tt)) $
           assigns ! (agg ! (and-then ! (loads ! (from ! (stop !)) (look ! 7 refl)) (and-then ! (reads _ _) (no-more !)))) (from ! (stop !)) (init ! 5 refl (tt, (tt, (record { fits = flat-room .0 }, tt)))) $
           -- the numbers are lent
-          move ! (11 ∷ 0 ∷ []) $ lends-array ! tt u64 width l₄ tt flat-room fs u (λ ν δ len. move ! (3 ∷ []) $
+          move ! (11 ∷ 0 ∷ []) $ lends-array ! tt u64 span l₄ tt flat-room fs u (λ ν δ len. move ! (3 ∷ []) $
           use1 W (Tab ⊛ Tab) (shr-slice-copy 𝓤 H A W (named 0) κ₁ T.the-row .twice (slice-at b o γ ys) (sliceVal (b, o) n ∷ [])) $ split ! $
           move ! (7 ∷ []) $ use1 W (Own ⊛ Own) (shr-slice-copy 𝓤 H A W (named 0) κ u32 .twice cal (calVal cal ∷ [])) $ split ! $
           -- [what calendar owns, twice; the table, twice; the numbers; ν's token; what is kept of them; the table's token; calendar's; _7 at 9; …]
           move ! (8 ∷ 0 ∷ []) $ join ! $ move ! (2 ∷ 7 ∷ []) $ join ! $ move ! (4 ∷ 5 ∷ []) $ join ! $
-          use3 W (raw (By 𝓤 H A .pre (to-lent fs ν δ))) (goes-by 𝓤 H A W κ κ₁ q q₁ cal bk b o γ ys width l₄ fs ν δ gb (all-fit few len)) $
+          use3 W (raw (By 𝓤 H A .pre (to-lent fs ν δ))) (goes-by 𝓤 H A W κ κ₁ q q₁ cal bk b o γ ys span l₄ fs ν δ gb (all-fit few len)) $
           -- [pre; what calendar owns; the table; what is kept of the numbers; _7 at 4; _6; _5 at 8; that _4 dies at 10; _3 at 11; …]
           calls-at ! fm (By 𝓤 H A) known-by (to-lent fs ν δ)
           (and-then ! (loads ! (from ! (stop !)) (look ! 15 refl)) (and-then ! (loads ! (from ! (stop !)) (look ! 13 refl)) (and-then ! (loads ! (from ! (stop !)) (look ! 11 refl)) (and-then ! (loads ! (from ! (stop !)) (look ! 4 refl)) (no-more !))))) (λ w.
-          use1 W (later (some (GetsBy 𝓤 H A W κ κ₁ q q₁ cal bk b o γ ys width l₄ fs ν δ w))) (gets-by 𝓤 H A W κ κ₁ q q₁ cal bk b o γ ys width l₄ fs ν δ w) $ await ! tt $ pick ! (λ zs. learn ! (λ e. split ! $ move ! (1 ∷ []) $ split ! $ move ! (1 ∷ []) $ split ! $
+          use1 W (later (some (GetsBy 𝓤 H A W κ κ₁ q q₁ cal bk b o γ ys span l₄ fs ν δ w))) (gets-by 𝓤 H A W κ κ₁ q q₁ cal bk b o γ ys span l₄ fs ν δ w) $ await ! tt $ pick ! (λ zs. learn ! (λ e. split ! $ move ! (1 ∷ []) $ split ! $ move ! (1 ∷ []) $ split ! $
           -- [the last numbers; calendar's token; ν's token; the table's; what calendar owns; the table; what is kept of the numbers; _7 at 7; …]
-          move ! (2 ∷ 6 ∷ 0 ∷ []) $ array-home ! tt u64 width l₄ ν δ zs (λ v. move ! (1 ∷ []) $ drop ! $ move ! (0 ∷ 4 ∷ 2 ∷ 1 ∷ 3 ∷ []) $
+          move ! (2 ∷ 6 ∷ 0 ∷ []) $ array-home ! tt u64 span l₄ ν δ zs (λ v. move ! (1 ∷ []) $ drop ! $ move ! (0 ∷ 4 ∷ 2 ∷ 1 ∷ 3 ∷ []) $
           -- [_4; the table; its token; calendar's token; what it owns; _7 at 5; …; _5 at 9; that _4 dies at 11; _3 at 12; …; _0 at 18]
           land ! (from ! (stop !)) (init ! 18 refl (LL.lawful B.the-type B′.the-laws 𝓤 H A W .typed result _ e .0)) $
           rewrite ! 18 (λ (r : Val). ‵ (fat fullShare B′.mir l₀ 0 r)) (ap only (LL.tells B.the-type B′.the-laws result (w ∷ []) e)) refl $
@@ -207,31 +208,31 @@ module _ {M : Type 1} (𝓤 : URA M) (H : Heap 𝓤) (A : Atoms 𝓤) (W : Given
       abbrev Start : List (Item 𝓤)
       Start = Locals ((‵ (flft κ q) ⊛ ‵ (flft κ₁ q₁) ⊛ ‵ ftrue) ∷ ‵ (owns (ShrSlice (named 0) κ u32 ∷ Bk.the-row ∷ ShrSlice (named 1) κ₁ T.the-row ∷ []) (args 𝓤 H A W mem run κ κ₁ q q₁ cal bk b o n γ ys) (passed 𝓤 H A W mem run κ κ₁ q q₁ cal bk b o n γ ys)) ∷ [])
 
-      starts : Sq W Start (runs C Λ En (body width size #zeros #by) (atRet En Ends))
+      starts : Sq W Start (runs C Λ En (body span size #zeros #by) (atRet En Ends))
       starts =
           move ! (17 ∷ []) $ fsplit ! $ move ! (1 ∷ []) $ fsplit ! $ drop ! $ fsplit ! $ move ! (1 ∷ []) $ drop ! $
           -- [the table; what calendar owns; _7 at 2; …; the tokens at 18]
           move ! (18 ∷ []) $ split ! $ move ! (1 ∷ []) $ split ! $ move ! (1 ∷ []) $ drop ! $ move ! (2 ∷ 0 ∷ 1 ∷ 3 ∷ []) $ copies
 
     module _ (C : Calls 𝓤 H) (Λ : Loops 𝓤 H) where
-      walk : FmC 𝓤 H (W .laws) C → Triple 𝓤 (C #zeros) (Zeros 𝓤 H A width) → Triple 𝓤 (C #by) (By 𝓤 H A) → Is (ShrSlice (named 0) κ u32) cal (calVal cal ∷ []) → Room T.the-row n → Is Bk.the-row bk (bookVal bk ∷ []) → n ≤ most
-          → ent 𝓤 (onEntry 𝓤 H A cover.signature (κ, (κ₁, tt)) (q, (q₁, tt)) (args 𝓤 H A W mem run κ κ₁ q q₁ cal bk b o n γ ys) (passed 𝓤 H A W mem run κ κ₁ q q₁ cal bk b o n γ ys)) (WpFn 𝓤 H C Λ (function width size #zeros #by) (calVal cal ∷ bookVal bk ∷ sliceVal (b, o) n ∷ []) Ends)
+      walk : FmC 𝓤 H (W .laws) C → Triple 𝓤 (C #zeros) (Zeros 𝓤 H A span) → Triple 𝓤 (C #by) (By 𝓤 H A) → Is (ShrSlice (named 0) κ u32) cal (calVal cal ∷ []) → Room T.the-row n → Is Bk.the-row bk (bookVal bk ∷ []) → n ≤ most
+          → ent 𝓤 (onEntry 𝓤 H A cover.signature (κ, (κ₁, tt)) (q, (q₁, tt)) (args 𝓤 H A W mem run κ κ₁ q q₁ cal bk b o n γ ys) (passed 𝓤 H A W mem run κ κ₁ q q₁ cal bk b o n γ ys)) (WpFn 𝓤 H C Λ (function span size #zeros #by) (calVal cal ∷ bookVal bk ∷ sliceVal (b, o) n ∷ []) Ends)
       walk fm known-zeros known-by gc room gb few =
-          qed W ((‵ (flft κ q) ⊛ ‵ (flft κ₁ q₁) ⊛ ‵ ftrue) ∷ ‵ (owns (ShrSlice (named 0) κ u32 ∷ Bk.the-row ∷ ShrSlice (named 1) κ₁ T.the-row ∷ []) (args 𝓤 H A W mem run κ κ₁ q q₁ cal bk b o n γ ys) (passed 𝓤 H A W mem run κ κ₁ q q₁ cal bk b o n γ ys)) ∷ []) ∵ enter ! C Λ (function width size #zeros #by) (calVal cal ∷ bookVal bk ∷ sliceVal (b, o) n ∷ []) _ $
+          qed W ((‵ (flft κ q) ⊛ ‵ (flft κ₁ q₁) ⊛ ‵ ftrue) ∷ ‵ (owns (ShrSlice (named 0) κ u32 ∷ Bk.the-row ∷ ShrSlice (named 1) κ₁ T.the-row ∷ []) (args 𝓤 H A W mem run κ κ₁ q q₁ cal bk b o n γ ys) (passed 𝓤 H A W mem run κ κ₁ q q₁ cal bk b o n γ ys)) ∷ []) ∵ enter ! C Λ (function span size #zeros #by) (calVal cal ∷ bookVal bk ∷ sliceVal (b, o) n ∷ []) _ $
           alloc1 ! (λ l₀. alloc1 ! (λ l₁. alloc1 ! (λ l₂. alloc1 ! (λ l₃. alloc1 ! (λ l₄. alloc1 ! (λ l₅. alloc1 ! (λ l₆. alloc1 ! (λ l₇. alloc0 ! $ params1 ! $
           pass1 ! (init ! 12 refl (shr-slice-lawful 𝓤 H A W (named 0) κ u32 .typed cal (calVal cal ∷ []) gc .0)) $ pass1 ! (init ! 10 refl (LL.lawful Bk.the-type Bk′.the-laws 𝓤 H A W .typed bk _ gb .0)) $ pass1 ! (init ! 8 refl (tt, (tt, (record { fits = room .0 }, tt)))) $ pass0 ! $
           starts C Λ fm known-zeros known-by gb few l₀ l₁ l₂ l₃ l₄ l₅ l₆ l₇))))))))
 
-  module _ (𝓣 : Tables 𝓤 H) (known-zeros : Triple 𝓤 (𝓣 .C #zeros) (Zeros 𝓤 H A width)) (known-by : Triple 𝓤 (𝓣 .C #by) (By 𝓤 H A)) where
-    walks : Walks 𝓤 H A cover.ended stayed (WpFn 𝓤 H (𝓣 .C) (𝓣 .Λ) (function width size #zeros #by)) (clauses 𝓤 H A mem run most)
-    walks = walked 𝓤 H A cover.ended stayed (clauses 𝓤 H A mem run most) (WpFn 𝓤 H (𝓣 .C) (𝓣 .Λ) (function width size #zeros #by))
+  module _ (𝓣 : Tables 𝓤 H) (known-zeros : Triple 𝓤 (𝓣 .C #zeros) (Zeros 𝓤 H A span)) (known-by : Triple 𝓤 (𝓣 .C #by) (By 𝓤 H A)) where
+    walks : Walks 𝓤 H A cover.ended stayed (WpFn 𝓤 H (𝓣 .C) (𝓣 .Λ) (function span size #zeros #by)) (clauses 𝓤 H A mem run most)
+    walks = walked 𝓤 H A cover.ended stayed (clauses 𝓤 H A mem run most) (WpFn 𝓤 H (𝓣 .C) (𝓣 .Λ) (function span size #zeros #by))
         (λ κs. (slice-vals, (LL.vals Bk.the-type Bk′.the-laws, (slice-vals, tt))))
         (λ κs. (shr-slice-tells (named 0) (κs .0) u32, (LL.tells Bk.the-type Bk′.the-laws, (shr-slice-tells (named 1) (κs .1 .0) T.the-row, tt))))
         (λ κs qs bounds a g are. needs 𝓤 (length (now (a .1 .1 .0)) ≤ most) _
         (walk (κs .0) (κs .1 .0) (qs .0) (qs .1 .0) (a .0) (a .1 .0) (a .1 .1 .0 .ptr .0) (a .1 .1 .0 .ptr .1) (a .1 .1 .0 .name) (a .1 .1 .0 .now)
         (𝓣 .C) (𝓣 .Λ) (fmOf 𝓤 H (W .laws) 𝓣) known-zeros known-by (are .0) (are .1 .1 .0 .0 .1) (are .1 .0)))
 
-    pub meets : Meets 𝓤 H A cover.signature (WpFn 𝓤 H (𝓣 .C) (𝓣 .Λ) (function width size #zeros #by)) (closing 𝓤 H A cover.ended (clauses 𝓤 H A mem run most))
+    pub meets : Meets 𝓤 H A cover.signature (WpFn 𝓤 H (𝓣 .C) (𝓣 .Λ) (function span size #zeros #by)) (closing 𝓤 H A cover.ended (clauses 𝓤 H A mem run most))
     meets =
         walk-meets 𝓤 H A cover.ended stayed W (goes-none-slice 𝓤 H A W 2 (0 ∷ []) tt (plain (λ _. u32)) yes, (goes-none 𝓤 H A W 2 (λ _. Bk.the-row) yes (λ κs x f. refl), (goes-none-slice 𝓤 H A W 2 (1 ∷ []) tt (plain (λ _. T.the-row)) yes, tt))) (clauses 𝓤 H A mem run most)
-        (WpFn 𝓤 H (𝓣 .C) (𝓣 .Λ) (function width size #zeros #by)) (WpFn-mono 𝓤 H (W .laws) 𝓣 (function width size #zeros #by)) walks
+        (WpFn 𝓤 H (𝓣 .C) (𝓣 .Λ) (function span size #zeros #by)) (WpFn-mono 𝓤 H (W .laws) 𝓣 (function span size #zeros #by)) walks

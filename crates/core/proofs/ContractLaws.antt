@@ -3,15 +3,15 @@
 use mathlib.Core.Path.{_≡_, refl, sym, ap, _∙_}
 use mathlib.Core.Bool.{true, false, not}
 use mathlib.Core.List.{List, [], _∷_}
-use Prim.Native.Nat.{ℕ, zero, suc, _-_, _*_, _≤_, _<_}
+use Prim.Native.Nat.{ℕ, zero, suc, _-_, _≤_, _<_}
 use native.Mathlib.Decide.{decLt}
 use native.Mathlib.Omega.{arith}
 use borrow.Author.Tests.{lt-ltb, le-ltb}
 use lib.Dec.{ltb}
-use lib.ListN.{length, take, set, take-append-drop}
+use lib.ListN.{take, set, take-append-drop}
 use Rattle.rules.specs.Trades.{withSheets, onTable, tradeOf, takeOff, over}
 use Rattle.core.specs.Types.{Contract, Trade}
-use Rattle.core.specs.Flat.{tradeAt, tradesTo, tradesOf, placeOf}
+use Rattle.core.specs.Flat.{HasSlots, tradeAt, tradesTo, tradesOf, placeOf}
 use Rattle.core.proofs.FlatLaws.{length-trades, take-trades, trade-below}
 use Rattle.core.proofs.PlaceLaws.{on-table-by-place, trade-at-place, take-off-at-place}
 
@@ -22,7 +22,7 @@ set-over-take (suc n) [] i t h = refl
 set-over-take (suc n) (x ∷ l) zero t h = ap (λ (r : List Trade). t ∷ r) (sym (take-append-drop n l))
 set-over-take (suc n) (x ∷ l) (suc i) t h = ap (λ (r : List Trade). x ∷ r) (set-over-take n l i t (omega arith))
 
-module _ (table : List ℕ) (count place : ℕ) (contract : Contract) (room : count * 4 ≤ length table) (stands : place ≡ placeOf contract (tradesTo table count)) where
+module _ (table : List ℕ) (count place : ℕ) (contract : Contract) (room : HasSlots table count) (stands : place ≡ placeOf contract (tradesTo table count)) where
   in-use : take count (tradesOf table) ≡ tradesTo table count
   in-use = take-trades table count (omega arith)
 

@@ -20,7 +20,7 @@ use Rattle.rules.specs.Fit.{capacityFit, tradeFit, allTrades, netFit, dayFit, f
 use Rattle.rules.proofs.FoldLaws.{both, every-holds}
 use Rattle.rules.proofs.FitParts.{CapacityFits, capacity-fits, fit-parts}
 use Rattle.core.specs.Types.{Book, Day, Never, On, Phase}
-use Rattle.core.specs.Flat.{tradesTo, capacity, tradesOf, Kept, Redeemable}
+use Rattle.core.specs.Flat.{HasSlots, tradesTo, capacity, tradesOf, Kept, Redeemable}
 use Rattle.core.proofs.FlatLaws.{length-trades, take-trades, all-none}
 
 -- ---- the payment day lies within the calendar
@@ -60,7 +60,7 @@ module _ (table : List ℕ) (count : ℕ) (fits : CapacityFits count (tradesOf t
   kept-of each = record { room = omega (arith, room-of); few = omega (arith, fits .room, fits .within); within = each }
 
 -- the same from the tests that found it so
-pub room-where-fit : (table : List ℕ) (count : ℕ) → capacityFit count (tradesOf table) ≡ true → count * 4 ≤ length table
+pub room-where-fit : (table : List ℕ) (count : ℕ) → capacityFit count (tradesOf table) ≡ true → HasSlots table count
 room-where-fit table count e = omega (arith, room-of table count (capacity-fits count (tradesOf table) e))
 
 pub kept-where-fit : (table : List ℕ) (count : ℕ) → capacityFit count (tradesOf table) ≡ true → allTrades tradeFit (tradesTo table count) ≡ true → Kept table count

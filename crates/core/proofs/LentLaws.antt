@@ -15,7 +15,7 @@ use Rattle.rules.specs.Cover.{uncounted, coverOf}
 use Rattle.rules.specs.Listing.{RunOutcome, runOutcome}
 use Rattle.rules.proofs.FoldLaws.{by-test, both, neither, every-holds, every-of}
 use Rattle.core.specs.Types.{Applied, Ran, Trade, Entry}
-use Rattle.core.specs.Flat.{appliedOf}
+use Rattle.core.specs.Flat.{width, appliedOf}
 use Rattle.core.specs.Lent.{Lent, bookIn, tableIn, isWhole, fitIn, stepIn, coverIn, runIn}
 use Rattle.core.proofs.StepLaws.{too-many-words, unfit-step}
 use Rattle.core.proofs.CoverLaws.{unfit-cover}
@@ -26,7 +26,7 @@ pub record Lengths (l : Lent) : Type 0 where
   pub held : length (l .held) ≡ 128
   pub kinds : length (l .kinds) ≡ 128
   pub units : length (l .units) ≡ 128
-  pub table : length (l .table) % 4 ≡ 0
+  pub table : length (l .table) % width ≡ 0
 
 pub lengths : (l : Lent) → isWhole l ≡ true → Lengths l
 unfolding isWhole

@@ -44,6 +44,7 @@ seven-in-a-row l at a b c d e f g =
 
 -- its line, from what the code has of it
 pub line-told : (left : Outcome) (applied : Applied) (table : List Trade) {cover : Cover} → applied ≡ appliedOf left → table ≡ left .table → cover ≡ counted (applied .book) table
-    → (applied .answer .number ∷ signOf (cover .headroom) ∷ natAbs (cover .headroom) ∷ cover .outstanding .0 ∷ applied .book .cash .own .0 ∷ applied .book .cash .client .0 ∷ (applied .book .vault .guarantee .effective .0 + applied .book .vault .guarantee .arriving .0) ∷ []) ≡ lineOf left
+    → (applied .answer .number ∷ signOf (cover .headroom) ∷ natAbs (cover .headroom) ∷ cover .outstanding .0
+    ∷ applied .book .cash .own .0 ∷ applied .book .cash .client .0 ∷ (applied .book .vault .guarantee .effective .0 + applied .book .vault .guarantee .arriving .0) ∷ []) ≡ lineOf left
 unfolding lineOf
 line-told left applied table e t c = rw (c, e, t)

@@ -2,7 +2,7 @@
 -- For the loops of packing, and for their composition. Assumes nothing.
 use mathlib.Core.Path.{_≡_, refl, sym, ap, _∙_}
 use mathlib.Core.List.{List, [], _∷_, _++_, append-assoc, append-nil}
-use Prim.Native.Nat.{ℕ, zero, suc, _+_, _-_, _*_, _≤_, _<_}
+use Prim.Native.Nat.{ℕ, zero, suc, _+_, _-_, _≤_, _<_}
 use native.Mathlib.Numerals.{add-one}
 use native.Mathlib.Omega.{arith}
 use lib.ListN.{length, take, drop, set, replicate, length-append, length-replicate, take-append-drop, replicate-append-replicate}
@@ -10,7 +10,7 @@ use lib.Seq.{take-suc-set, drop-set-lt, drop-drop, length-take-le}
 use Rattle.rules.specs.Trades.{noTrade, leaves, remaining, packed, over}
 use Rattle.rules.proofs.TradeLaws.{remaining-append}
 use Rattle.core.specs.Types.{Trade}
-use Rattle.core.specs.Flat.{tradeAt, tradesTo, capacity, tradesOf}
+use Rattle.core.specs.Flat.{HasSlots, tradeAt, tradesTo, capacity, tradesOf}
 use Rattle.core.proofs.FlatLaws.{no-trades, one-more, length-trades, same-trade}
 use Rattle.core.proofs.RedemptionLaws.{over-set}
 
@@ -18,12 +18,12 @@ use Rattle.core.proofs.RedemptionLaws.{over-set}
 pub record Gathered (s : List ℕ) (count : ℕ) (t : List ℕ) (kept i : ℕ) : Type 0 where
   pub low : kept ≤ i
   pub high : i ≤ count
-  pub room : count * 4 ≤ length s
+  pub room : HasSlots s count
   pub long : length t ≡ length s
   pub front : take kept (tradesOf t) ≡ remaining (tradesTo s i)
   pub rest : drop i (tradesOf t) ≡ drop i (tradesOf s)
 
-pub none-passed : (s : List ℕ) (count : ℕ) → count * 4 ≤ length s → Gathered s count s 0 0
+pub none-passed : (s : List ℕ) (count : ℕ) → HasSlots s count → Gathered s count s 0 0
 unfolding remaining
 none-passed s count h = record { low = omega arith; high = omega arith; room = h; long = refl; front = rw (no-trades s); rest = refl }
 

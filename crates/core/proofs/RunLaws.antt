@@ -144,8 +144,11 @@ module _ (calendar : Calendar) (book₀ : Book) (bytes table₀ lines₀ : List 
       → (book ≡ runDone calendar book₀ (tradesOf table₀) bytes lines₀ .ran .book) × (tradesOf table ≡ runDone calendar book₀ (tradesOf table₀) bytes lines₀ .table) × (lines ≡ runDone calendar book₀ (tradesOf table₀) bytes lines₀ .lines)
   unfolding runDone
   all-run table lines book k all ran end room =
-      rw (← all)
-      (sym (ran .booked ∙ rw none-left (no-more calendar book (tradesOf table) (drop (k * 40) bytes) .0)), sym (ran .tabled ∙ rw none-left (no-more calendar book (tradesOf table) (drop (k * 40) bytes) .1)), rw (front, length-take-le (k * 7) lines (omega (arith, ran .wide, ran .high)), ← (ran .rest)) (sym (take-append-drop (k * 7) lines)))
+      rw (← all) (
+        sym (ran .booked ∙ rw none-left (no-more calendar book (tradesOf table) (drop (k * 40) bytes) .0)),
+        sym (ran .tabled ∙ rw none-left (no-more calendar book (tradesOf table) (drop (k * 40) bytes) .1)),
+        rw (front, length-take-le (k * 7) lines (omega (arith, ran .wide, ran .high)), ← (ran .rest)) (sym (take-append-drop (k * 7) lines)),
+      )
     where
       none-left : count - k ≡ 0
       none-left = omega arith

@@ -55,7 +55,8 @@ module _ (calendar : Calendar) (book : Book) (table : List Trade) (fits : fit ca
   by-step left acts r after given = rw (fit-step calendar book table fits few (Known event), acts) given
 
   -- an event that may change the table
-  pub changes-table : (done : Applied) (changed : List Trade) → act calendar book table event ≡ outcome (done .answer) (done .book) changed → (r : Applied) (after : List Trade) → (r ≡ givenBy refusal book done) × (after ≡ tableBy refusal table changed) → Gives (step calendar book table (Known event)) r after
+  pub changes-table : (done : Applied) (changed : List Trade) → act calendar book table event ≡ outcome (done .answer) (done .book) changed
+      → (r : Applied) (after : List Trade) → (r ≡ givenBy refusal book done) × (after ≡ tableBy refusal table changed) → Gives (step calendar book table (Known event)) r after
   changes-table done changed acts r after e = by-step _ acts r after (by-refusal refusal e)
     where
       by-refusal : (o : Option ℕ) → (r ≡ givenBy o book done) × (after ≡ tableBy o table changed) → Gives (refuseOr o book table (outcome (done .answer) (done .book) changed)) r after

@@ -12,22 +12,22 @@ use lib.ListN.{length, getD, take, drop, set, length-append, length-set, List·g
 use lib.Seq.{sets, length-sets, getD-set-same, getD-set-other, getD-append-add, sets-eq, ext-getD, length-take-le}
 use Rattle.rules.specs.Trades.{noTrade, withSheets}
 use Rattle.core.specs.Types.{Trade}
-use Rattle.core.specs.Flat.{lower, upper, tradeAt, capacity, tradesOf}
+use Rattle.core.specs.Flat.{HasSlot, width, lower, upper, tradeAt, capacity, tradesOf}
 use Rattle.core.proofs.FlatLaws.{length-trades, trade-at}
 
 -- ---- one store
 
 -- trades with the same four numbers are the same
-pub same-words : (s t : List ℕ) (i j : ℕ) → ((k : ℕ) → k < 4 → getD s (i * 4 + k) 0 ≡ getD t (j * 4 + k) 0) → tradeAt s i ≡ tradeAt t j
+pub same-words : (s t : List ℕ) (i j : ℕ) → ((k : ℕ) → k < width → getD s (i * width + k) 0 ≡ getD t (j * width + k) 0) → tradeAt s i ≡ tradeAt t j
 unfolding tradeAt
 same-words s t i j h =
-    let z : getD s (i * 4) 0 ≡ getD t (j * 4) 0 = simp add-zero at (h 0 (omega arith)) in
+    let z : getD s (i * width) 0 ≡ getD t (j * width) 0 = simp add-zero at (h 0 (omega arith)) in
     rw (z, h 1 (omega arith), h 2 (omega arith), h 3 (omega arith))
 
 -- where one trade is another and the rest are the same, that trade was set
 trade-set : (s t : List ℕ) (place : ℕ) (trade : Trade) → length s ≡ length t → tradeAt s place ≡ trade → ((i : ℕ) → (i ≡ place → ⊥) → tradeAt s i ≡ tradeAt t i) → tradesOf s ≡ set (tradesOf t) place trade
 trade-set s t place trade e h k =
-    ext-getD noTrade (tradesOf s) (set (tradesOf t) place trade) (length-trades s (capacity s) ∙ ap (λ (n : ℕ). n / 4) e ∙ sym long) (λ i l. by i (omega (arith, length-trades s (capacity s))) (ℕ-discrete i place))
+    ext-getD noTrade (tradesOf s) (set (tradesOf t) place trade) (length-trades s (capacity s) ∙ ap (λ (n : ℕ). n / width) e ∙ sym long) (λ i l. by i (omega (arith, length-trades s (capacity s))) (ℕ-discrete i place))
   where
     long : length (set (tradesOf t) place trade) ≡ capacity t
     long = length-set (tradesOf t) place trade ∙ length-trades t (capacity t)
@@ -36,21 +36,21 @@ trade-set s t place trade e h k =
     by i l (yes q) = rw q (trade-at s place (omega arith) ∙ h ∙ sym (getD-set-same (tradesOf t) place trade noTrade (omega (arith, length-trades t (capacity t)))))
     by i l (no q) = trade-at s i l ∙ k i q ∙ sym (getD-set-other (tradesOf t) place i trade noTrade q ∙ trade-at t i (omega arith))
 
-sheets-here : (table : List ℕ) (place count : ℕ) → place * 4 + 3 < length table → tradeAt (set table (place * 4 + 1) count) place ≡ withSheets count (tradeAt table place)
+sheets-here : (table : List ℕ) (place count : ℕ) → HasSlot table place → tradeAt (set table (place * width + 1) count) place ≡ withSheets count (tradeAt table place)
 unfolding tradeAt
 sheets-here table place count h =
-    let other : (k : ℕ) → (k ≡ place * 4 + 1 → ⊥) → getD (set table (place * 4 + 1) count) k 0 ≡ getD table k 0 = λ k q. getD-set-other table (place * 4 + 1) k count 0 q in
+    let other : (k : ℕ) → (k ≡ place * width + 1 → ⊥) → getD (set table (place * width + 1) count) k 0 ≡ getD table k 0 = λ k q. getD-set-other table (place * width + 1) k count 0 q in
     rw (
-      getD-set-same table (place * 4 + 1) count 0 (omega arith),
-      other (place * 4) (λ z. omega arith),
-      other (place * 4 + 2) (λ z. omega arith),
-      other (place * 4 + 3) (λ z. omega arith),
+      getD-set-same table (place * width + 1) count 0 (omega arith),
+      other (place * width) (λ z. omega arith),
+      other (place * width + 2) (λ z. omega arith),
+      other (place * width + 3) (λ z. omega arith),
     )
 
-pub sheets-put : (table : List ℕ) (place count : ℕ) → place * 4 + 3 < length table → tradesOf (set table (place * 4 + 1) count) ≡ set (tradesOf table) place (withSheets count (tradeAt table place))
+pub sheets-put : (table : List ℕ) (place count : ℕ) → HasSlot table place → tradesOf (set table (place * width + 1) count) ≡ set (tradesOf table) place (withSheets count (tradeAt table place))
 sheets-put table place count h =
-    trade-set (set table (place * 4 + 1) count) table place (withSheets count (tradeAt table place)) (length-set table (place * 4 + 1) count) (sheets-here table place count h)
-    (λ i q. same-words (set table (place * 4 + 1) count) table i i (λ k l. getD-set-other table (place * 4 + 1) (i * 4 + k) count 0 (λ z. q (omega arith))))
+    trade-set (set table (place * width + 1) count) table place (withSheets count (tradeAt table place)) (length-set table (place * width + 1) count) (sheets-here table place count h)
+    (λ i q. same-words (set table (place * width + 1) count) table i i (λ k l. getD-set-other table (place * width + 1) (i * width + k) count 0 (λ z. q (omega arith))))
 
 -- ---- four stores in a row
 
@@ -89,10 +89,10 @@ lower-pair low high h = omega arith
 upper-pair : (low high : ℕ) → low < 4294967296 → high < 4294967296 → upper (pair low high) ≡ high
 upper-pair low high h k = omega arith
 
-trade-here : (table : List ℕ) (place : ℕ) (trade : Trade) → place * 4 + 3 < length table → Narrow trade → tradeAt (sets table (place * 4) (words trade)) place ≡ trade
+trade-here : (table : List ℕ) (place : ℕ) (trade : Trade) → HasSlot table place → Narrow trade → tradeAt (sets table (place * width) (words trade)) place ≡ trade
 unfolding tradeAt
 trade-here table place trade h n =
-    let word : (k : ℕ) → k < 4 → getD (sets table (place * 4) (words trade)) (place * 4 + k) 0 ≡ getD (words trade) k 0 = λ k l. getD-sets-inside (words trade) table (place * 4) k (omega arith) l in
+    let word : (k : ℕ) → k < width → getD (sets table (place * width) (words trade)) (place * width + k) 0 ≡ getD (words trade) k 0 = λ k l. getD-sets-inside (words trade) table (place * width) k (omega arith) l in
     rw (
       simp add-zero at (word 0 (omega arith)),
       word 1 (omega arith),
@@ -104,17 +104,17 @@ trade-here table place trade h n =
       upper-pair (trade .first) (trade .due) (n .first) (n .due),
     )
 
-apart : (place i k : ℕ) → (i ≡ place → ⊥) → k < 4 → (i * 4 + k < place * 4) ⊎ (place * 4 + 4 ≤ i * 4 + k)
+apart : (place i k : ℕ) → (i ≡ place → ⊥) → k < width → (i * width + k < place * width) ⊎ (place * width + width ≤ i * width + k)
 apart place i k q l = by (decLt i place)
   where
-    by : Dec (i < place) → (i * 4 + k < place * 4) ⊎ (place * 4 + 4 ≤ i * 4 + k)
+    by : Dec (i < place) → (i * width + k < place * width) ⊎ (place * width + width ≤ i * width + k)
     by (yes b) = inl (omega arith)
     by (no b) = inr (omega arith)
 
-words-put : (table : List ℕ) (place : ℕ) (trade : Trade) → place * 4 + 3 < length table → Narrow trade → tradesOf (sets table (place * 4) (words trade)) ≡ set (tradesOf table) place trade
+words-put : (table : List ℕ) (place : ℕ) (trade : Trade) → HasSlot table place → Narrow trade → tradesOf (sets table (place * width) (words trade)) ≡ set (tradesOf table) place trade
 words-put table place trade h n =
-    trade-set (sets table (place * 4) (words trade)) table place trade (length-sets table (place * 4) (words trade)) (trade-here table place trade h n)
-    (λ i q. same-words (sets table (place * 4) (words trade)) table i i (λ k l. getD-sets-outside (words trade) table (place * 4) (i * 4 + k) (apart place i k q l)))
+    trade-set (sets table (place * width) (words trade)) table place trade (length-sets table (place * width) (words trade)) (trade-here table place trade h n)
+    (λ i q. same-words (sets table (place * width) (words trade)) table i i (λ k l. getD-sets-outside (words trade) table (place * width) (i * width + k) (apart place i k q l)))
 
 -- the four stores as the code makes them
 abbrev pub stores : List ℕ → ℕ → Trade → List ℕ
@@ -130,9 +130,9 @@ in-a-row table at trade =
     let by-3 : at + 3 ≡ suc (suc (suc at)) = omega arith in
     rw (add-one at, by-2, by-3)
 
-pub trade-put : (table : List ℕ) (place : ℕ) (trade : Trade) → place * 4 + 3 < length table → Narrow trade → tradesOf (stores table (place * 4) trade) ≡ set (tradesOf table) place trade
-trade-put table place trade h n = ap tradesOf (in-a-row table (place * 4) trade) ∙ words-put table place trade h n
+pub trade-put : (table : List ℕ) (place : ℕ) (trade : Trade) → HasSlot table place → Narrow trade → tradesOf (stores table (place * width) trade) ≡ set (tradesOf table) place trade
+trade-put table place trade h n = ap tradesOf (in-a-row table (place * width) trade) ∙ words-put table place trade h n
 
 -- the numbers behind it are as they were
-pub behind : (table : List ℕ) (place : ℕ) (trade : Trade) (k : ℕ) → place * 4 + 4 ≤ k → getD (stores table (place * 4) trade) k 0 ≡ getD table k 0
-behind table place trade k h = ap (λ (t : List ℕ). getD t k 0) (in-a-row table (place * 4) trade) ∙ getD-sets-outside (words trade) table (place * 4) k (inr h)
+pub behind : (table : List ℕ) (place : ℕ) (trade : Trade) (k : ℕ) → place * width + width ≤ k → getD (stores table (place * width) trade) k 0 ≡ getD table k 0
+behind table place trade k h = ap (λ (t : List ℕ). getD t k 0) (in-a-row table (place * width) trade) ∙ getD-sets-outside (words trade) table (place * width) k (inr h)

@@ -47,7 +47,7 @@ use Rattle.rules.specs.Trades.{noTrade}
 use Rattle.rules.proofs.trade.Trade as T
 use Rattle.rules.proofs.trade.Trade.Laws as T′
 use Rattle.book.specs.Types.{Trade}
-use Rattle.core.specs.Flat.{tradesOf}
+use Rattle.core.specs.Flat.{width, tradesOf}
 use Rattle.book.proofs.TableLaws.{words-fit, place-fits, CopiedTo, copied-none, copied-next, copied-all}
 use Rattle.book.proofs.WalkAgain.{slice-at, Slice, lends, comes-home}
 use Rattle.book.proofs.WalkLoop.{holds, fails, one-up, counts-up}
@@ -76,7 +76,7 @@ module _ {M : Type 1} (𝓤 : URA M) (H : Heap 𝓤) (A : Atoms 𝓤) (W : Given
   abbrev to : Put 𝓤 H A mem run .Ghost
   to = (((ν ∷ [], tt), (fullShare, tt), tt, (slice-at b o δ us, (k, (t, tt))), (sliceVal (b, o) m ∷ [], (vint w64 k ∷ [], (tv t ∷ [], tt)))), tt)
 
-  goes : k * 4 + 3 < length us → k < 2 ^ 64 → Is T.the-row t (tv t ∷ []) → ent 𝓤 (⋆ 𝓤 H A (‵ (Slice u64 (ν ∷ []) b o m δ us) ∷ ‵ (flft (ν ∷ []) fullShare) ∷ [])) (Put 𝓤 H A mem run .pre to)
+  goes : k * width + 3 < length us → k < 2 ^ 64 → Is T.the-row t (tv t ∷ []) → ent 𝓤 (⋆ 𝓤 H A (‵ (Slice u64 (ν ∷ []) b o m δ us) ∷ ‵ (flft (ν ∷ []) fullShare) ∷ [])) (Put 𝓤 H A mem run .pre to)
   goes fits gk gt =
       qed W (‵ (Slice u64 (ν ∷ []) b o m δ us) ∷ ‵ (flft (ν ∷ []) fullShare) ∷ []) ∵ says ! fits $ nothing ! $ move ! (2 ∷ 0 ∷ []) $ join ! $ frame ! $
       nothing ! $ owned ! T.the-row (Is T.the-row) (LL.makes T.the-type T′.the-plain 𝓤 H A) t _ gt $ fjoin ! $ owned ! usize (Is usize) (uint-makes 𝓤 H A W w64) k _ (refl, gk) $ fjoin ! $ move ! (1 ∷ 0 ∷ []) $ fjoin ! $ done !
@@ -122,7 +122,7 @@ module _ {M : Type 1} (𝓤 : URA M) (H : Heap 𝓤) (A : Atoms 𝓤) (W : Given
   abbrev Own : Fml
   Own = ShrSlice (named 0) κ T.the-row .own tab (cv ∷ [])
 
-  exits : n * 4 ≤ m → (us : List ℕ) → CopiedTo ts m n us → ent 𝓤 (⋆ 𝓤 H A (‵ (Slice u64 κ′ b o m γ us) ∷ ‵ (flft κ′ q′) ∷ ‵ (flft κ q) ∷ ‵ Own ∷ [])) (Post vunit)
+  exits : n * width ≤ m → (us : List ℕ) → CopiedTo ts m n us → ent 𝓤 (⋆ 𝓤 H A (‵ (Slice u64 κ′ b o m γ us) ∷ ‵ (flft κ′ q′) ∷ ‵ (flft κ q) ∷ ‵ Own ∷ [])) (Post vunit)
   exits fit us c =
       qed W (‵ (Slice u64 κ′ b o m γ us) ∷ ‵ (flft κ′ q′) ∷ ‵ (flft κ q) ∷ ‵ Own ∷ []) ∵
       suffices ! _ (ends-at 𝓤 H A copy-in.ended stayed (copy-in.clauses 𝓤 H A mem run) W (((κ, (κ′, tt)), (q, (q′, tt)), tt, x, at), tt) vunit tt (tt, (us, tt)) (tt, (c .long, tt))) $ says ! (copied-all ts m us fit c) $
@@ -130,7 +130,7 @@ module _ {M : Type 1} (𝓤 : URA M) (H : Heap 𝓤) (A : Atoms 𝓤) (W : Given
       nothing ! $ move ! (1 ∷ 0 ∷ []) $ fjoin ! $ move ! (1 ∷ 0 ∷ []) $ fjoin ! $ frame ! $
       feqI ! (List Val) (vunit ∷ []) (vunit ∷ []) refl $ done !
 
-  module _ (𝓣 : Tables 𝓤 H) (fm : FmC 𝓤 H (W .laws) (𝓣 .C)) (known : Triple 𝓤 (𝓣 .C #put-trade) (Put 𝓤 H A mem run)) (room : Room T.the-row n) (flat-room : Room u64 m) (fit : n * 4 ≤ m)
+  module _ (𝓣 : Tables 𝓤 H) (fm : FmC 𝓤 H (W .laws) (𝓣 .C)) (known : Triple 𝓤 (𝓣 .C #put-trade) (Put 𝓤 H A mem run)) (room : Room T.the-row n) (flat-room : Room u64 m) (fit : n * width ≤ m)
       (l₀ l₁ l₂ l₃ l₄ l₅ l₆ l₇ l₈ l₉ l₁₀ l₁₁ : ℕ) where
     abbrev C : Calls 𝓤 H
     C = 𝓣 .C
@@ -209,8 +209,8 @@ module _ {M : Type 1} (𝓤 : URA M) (H : Heap 𝓤) (A : Atoms 𝓤) (W : Given
         elem : Trade
         elem = getD ts k noTrade
 
-        words : k * 4 + 3 < length us
-        words = subst (λ (j : ℕ). k * 4 + 3 < j) (sym (c .long)) (words-fit small fit)
+        words : k * width + 3 < length us
+        words = subst (λ (j : ℕ). k * width + 3 < j) (sym (c .long)) (words-fit small fit)
 
         k-fits : k < 2 ^ 64
         k-fits = omega (arith, small, room .0)
@@ -254,7 +254,7 @@ module _ {M : Type 1} (𝓤 : URA M) (H : Heap 𝓤) (A : Atoms 𝓤) (W : Given
         -- [flat's token; true; the table's token; flat; true; what the table owns; _11 at 6; …; _0 at 28]
         keep ! (3 ∷ 0 ∷ 2 ∷ 5 ∷ 6 ∷ 7 ∷ 8 ∷ 9 ∷ 10 ∷ 11 ∷ 12 ∷ 13 ∷ 14 ∷ 15 ∷ 16 ∷ 17 ∷ 18 ∷ 19 ∷ 20 ∷ 21 ∷ 22 ∷ 23 ∷ 24 ∷ 25 ∷ 26 ∷ 27 ∷ 28 ∷ 29 ∷ []) $ from-loop
 
-  walk : (𝓣 : Tables 𝓤 H) → FmC 𝓤 H (W .laws) (𝓣 .C) → Triple 𝓤 (𝓣 .C #put-trade) (Put 𝓤 H A mem run) → Room T.the-row n → Room u64 m → n * 4 ≤ m
+  walk : (𝓣 : Tables 𝓤 H) → FmC 𝓤 H (W .laws) (𝓣 .C) → Triple 𝓤 (𝓣 .C #put-trade) (Put 𝓤 H A mem run) → Room T.the-row n → Room u64 m → n * width ≤ m
       → ent 𝓤 (onEntry 𝓤 H A copy-in.signature (κ, (κ′, tt)) (q, (q′, tt)) x at) (WpFn 𝓤 H (𝓣 .C) (𝓣 .Λ) code.function (cv ∷ sliceVal (b, o) m ∷ []) Post)
   walk 𝓣 fm known room flat-room fit =
       qed W ((‵ (flft κ q) ⊛ ‵ (flft κ′ q′) ⊛ ‵ ftrue) ∷ ‵ (owns (ShrSlice (named 0) κ T.the-row ∷ MutSlice (named 1) κ′ u64 ∷ []) x at) ∷ []) ∵ enter ! (𝓣 .C) (𝓣 .Λ) code.function (cv ∷ sliceVal (b, o) m ∷ []) _ $
@@ -266,7 +266,7 @@ module _ {M : Type 1} (𝓤 : URA M) (H : Heap 𝓤) (A : Atoms 𝓤) (W : Given
   copy-in-walks : Triple 𝓤 (𝓣 .C #put-trade) (Put 𝓤 H A mem run) → Walks 𝓤 H A copy-in.ended stayed (WpFn 𝓤 H (𝓣 .C) (𝓣 .Λ) code.function) (copy-in.clauses 𝓤 H A mem run)
   copy-in-walks known = walked 𝓤 H A copy-in.ended stayed (copy-in.clauses 𝓤 H A mem run) (WpFn 𝓤 H (𝓣 .C) (𝓣 .Λ) code.function)
       (λ κs. (slice-vals, (slice-vals, tt))) (λ κs. (shr-slice-tells (named 0) (κs .0) T.the-row, (mut-slice-tells (named 1) (κs .1 .0) u64, tt)))
-      (λ κs qs bounds a g are. needs 𝓤 (length (now (a .0)) * 4 ≤ length (now (a .1 .0))) _
+      (λ κs qs bounds a g are. needs 𝓤 (length (now (a .0)) * width ≤ length (now (a .1 .0))) _
       (walk 𝓤 H A W mem run (κs .0) (κs .1 .0) (qs .0) (qs .1 .0) (a .0) (a .1 .0 .ptr .0) (a .1 .0 .ptr .1) (a .1 .0 .name) (a .1 .0 .now) 𝓣 (fmOf 𝓤 H (W .laws) 𝓣) known (are .0 .0 .1) (are .1 .0 .0 .1)))
 
 copy-in-meets : {M : Type 1} (𝓤 : URA M) (H : Heap 𝓤) (A : Atoms 𝓤) (W : Given 𝓤 H A) (mem : Memory → SProp 𝓤) (run : Routine → Fun 𝓤) (𝓣 : Tables 𝓤 H) → Triple 𝓤 (𝓣 .C #put-trade) (Put 𝓤 H A mem run)

@@ -49,7 +49,7 @@ use Rattle.rules.specs.Trades.{noTrade}
 use Rattle.rules.proofs.trade.Trade as T
 use Rattle.rules.proofs.trade.Trade.Laws as T′
 use Rattle.book.specs.Types.{Trade}
-use Rattle.core.specs.Flat.{tradeAt}
+use Rattle.core.specs.Flat.{width, tradeAt}
 use Rattle.book.proofs.TableLaws.{words-fit, place-fits, writtenTo, length-written, written-all}
 use Rattle.book.proofs.WalkAgain.{slice-at}
 use Rattle.book.proofs.WalkLoop.{holds, fails, one-up, counts-up}
@@ -117,7 +117,7 @@ module _ {M : Type 1} (𝓤 : URA M) (H : Heap 𝓤) (A : Atoms 𝓤) (W : Given
   abbrev to-get : ℕ → Get 𝓤 H A mem run .Ghost
   to-get k = (((κ, tt), (q, tt), tt, (flat, (k, tt)), (cv ∷ [], (vint w64 k ∷ [], tt))), tt)
 
-  goes-get : (k : ℕ) → k < 2 ^ 64 → k * 4 + 3 < length (now flat) → ent 𝓤 (sep 𝓤 (A .lft κ q) (sem 𝓤 H A Own)) (sep 𝓤 (Get 𝓤 H A mem run .pre (to-get k)) (sem 𝓤 H A Own))
+  goes-get : (k : ℕ) → k < 2 ^ 64 → k * width + 3 < length (now flat) → ent 𝓤 (sep 𝓤 (A .lft κ q) (sem 𝓤 H A Own)) (sep 𝓤 (Get 𝓤 H A mem run .pre (to-get k)) (sem 𝓤 H A Own))
   goes-get k gk fits =
       qed W (‵ (flft κ q) ∷ ‵ Own ∷ []) ∵ move ! (1 ∷ []) $ use1 W (‵ Own ⊛ ‵ Own) (shr-slice-copy 𝓤 H A W (named 0) κ u64 .twice flat (cv ∷ [])) $ split ! $
       nothing ! $ owned ! usize (Is usize) (uint-makes 𝓤 H A W w64) k _ (refl, gk) $ fjoin ! $ move ! (1 ∷ 0 ∷ []) $ fjoin ! $
@@ -127,7 +127,7 @@ module _ {M : Type 1} (𝓤 : URA M) (H : Heap 𝓤) (A : Atoms 𝓤) (W : Given
   get-said : (k : ℕ) (r : Trade) → ent 𝓤 (ensured 𝓤 H A trade-at.ended (trade-at.clauses 𝓤 H A mem run) (κ, tt) (flat, (k, tt)) tt r) (fact 𝓤 (r ≡ tradeAt (now flat) k))
   get-said k r = exE 𝓤 _ (λ ws. snd∗ 𝓤 (sem 𝓤 H A (lasts trade-at.ended (κ, tt) (flat, (k, tt)) ws)) (fact 𝓤 (r ≡ tradeAt (now flat) k)))
 
-  module _ (𝓣 : Tables 𝓤 H) (fm : FmC 𝓤 H (W .laws) (𝓣 .C)) (known : Triple 𝓤 (𝓣 .C #trade-at) (Get 𝓤 H A mem run)) (room : Room T.the-row n) (fit : n * 4 ≤ length (now flat)) (l₀ l₁ l₂ l₃ l₄ l₅ l₆ l₇ l₈ : ℕ) where
+  module _ (𝓣 : Tables 𝓤 H) (fm : FmC 𝓤 H (W .laws) (𝓣 .C)) (known : Triple 𝓤 (𝓣 .C #trade-at) (Get 𝓤 H A mem run)) (room : Room T.the-row n) (fit : n * width ≤ length (now flat)) (l₀ l₁ l₂ l₃ l₄ l₅ l₆ l₇ l₈ : ℕ) where
     abbrev C : Calls 𝓤 H
     C = 𝓣 .C
 
@@ -232,7 +232,7 @@ module _ {M : Type 1} (𝓤 : URA M) (H : Heap 𝓤) (A : Atoms 𝓤) (W : Given
         -- [the row; the open borrow; obs; auth; true; flat's token; table's fact; true; what flat owns; _8 at 9; …]
         keep ! (0 ∷ 1 ∷ 2 ∷ 3 ∷ 5 ∷ 8 ∷ 9 ∷ 10 ∷ 11 ∷ 12 ∷ 13 ∷ 14 ∷ 15 ∷ 16 ∷ 17 ∷ 18 ∷ 19 ∷ 20 ∷ 21 ∷ 22 ∷ 23 ∷ 24 ∷ 25 ∷ 26 ∷ []) $ from-loop
 
-  walk : (𝓣 : Tables 𝓤 H) → FmC 𝓤 H (W .laws) (𝓣 .C) → Triple 𝓤 (𝓣 .C #trade-at) (Get 𝓤 H A mem run) → Room u64 (length (now flat)) → Room T.the-row n → n * 4 ≤ length (now flat)
+  walk : (𝓣 : Tables 𝓤 H) → FmC 𝓤 H (W .laws) (𝓣 .C) → Triple 𝓤 (𝓣 .C #trade-at) (Get 𝓤 H A mem run) → Room u64 (length (now flat)) → Room T.the-row n → n * width ≤ length (now flat)
       → ent 𝓤 (onEntry 𝓤 H A copy-out.signature (κ, (κ′, tt)) (q, (q′, tt)) x at) (WpFn 𝓤 H (𝓣 .C) (𝓣 .Λ) code.function (cv ∷ sliceVal (b, o) n ∷ []) Post)
   walk 𝓣 fm known flat-room room fit =
       qed W ((‵ (flft κ q) ⊛ ‵ (flft κ′ q′) ⊛ ‵ ftrue) ∷ ‵ (owns (ShrSlice (named 0) κ u64 ∷ MutSlice (named 1) κ′ T.the-row ∷ []) x at) ∷ []) ∵ enter ! (𝓣 .C) (𝓣 .Λ) code.function (cv ∷ sliceVal (b, o) n ∷ []) _ $
@@ -244,7 +244,7 @@ module _ {M : Type 1} (𝓤 : URA M) (H : Heap 𝓤) (A : Atoms 𝓤) (W : Given
   copy-out-walks : Triple 𝓤 (𝓣 .C #trade-at) (Get 𝓤 H A mem run) → Walks 𝓤 H A copy-out.ended stayed (WpFn 𝓤 H (𝓣 .C) (𝓣 .Λ) code.function) (copy-out.clauses 𝓤 H A mem run)
   copy-out-walks known = walked 𝓤 H A copy-out.ended stayed (copy-out.clauses 𝓤 H A mem run) (WpFn 𝓤 H (𝓣 .C) (𝓣 .Λ) code.function)
       (λ κs. (slice-vals, (slice-vals, tt))) (λ κs. (shr-slice-tells (named 0) (κs .0) u64, (mut-slice-tells (named 1) (κs .1 .0) T.the-row, tt)))
-      (λ κs qs bounds a g are. needs 𝓤 (length (now (a .1 .0)) * 4 ≤ length (now (a .0))) _
+      (λ κs qs bounds a g are. needs 𝓤 (length (now (a .1 .0)) * width ≤ length (now (a .0))) _
       (walk 𝓤 H A W mem run (κs .0) (κs .1 .0) (qs .0) (qs .1 .0) (a .0) (a .1 .0 .ptr .0) (a .1 .0 .ptr .1) (a .1 .0 .name) (a .1 .0 .now) 𝓣 (fmOf 𝓤 H (W .laws) 𝓣) known (are .0 .0 .1) (are .1 .0 .0 .1)))
 
 copy-out-meets : {M : Type 1} (𝓤 : URA M) (H : Heap 𝓤) (A : Atoms 𝓤) (W : Given 𝓤 H A) (mem : Memory → SProp 𝓤) (run : Routine → Fun 𝓤) (𝓣 : Tables 𝓤 H) → Triple 𝓤 (𝓣 .C #trade-at) (Get 𝓤 H A mem run)

@@ -48,7 +48,7 @@ use Rattle.rules.proofs.event.Entry.Laws as Ev′
 use Rattle.rules.proofs.answer.Applied as B
 use Rattle.rules.proofs.answer.Applied.Laws as B′
 use Rattle.book.specs.Types.{Book, Trade, Entry, Applied}
-use Rattle.core.specs.Flat.{tradesTo, appliedOf}
+use Rattle.core.specs.Flat.{width, tradesTo, appliedOf}
 use Rattle.book.proofs.WalkAgain.{slice-at, Slice, lends, comes-home, shares-out, shared-home}
 use Rattle.book.proofs.WalkCopies.{In, to-in, goes-in, GetsIn, gets-in, Out, to-out, goes-out, GetsOut, gets-out}
 use Rattle.book.proofs.copies.copy_in.Symbol as copy-in-def
@@ -141,7 +141,7 @@ module _ {M : Type 1} (𝓤 : URA M) (H : Heap 𝓤) (A : Atoms 𝓤) (W : Given
     abbrev TakesFirst : List (Item 𝓤)
     TakesFirst = ‵ (flft (ν ∷ []) fullShare) ∷ ‵ (Slice u64 (ν ∷ []) b′ o′ m δ us) ∷ (‵ (flft κ q) ⊛ ‵ Own) ∷ []
 
-    goes-first : Is Bk.the-row bk (kv ∷ []) → Is Ev.the-row en (ev ∷ []) → n < 2 ^ 64 → n * 4 ≤ length us → ent 𝓤 (⋆ 𝓤 H A TakesFirst) (First 𝓤 H A mem run .pre to-first)
+    goes-first : Is Bk.the-row bk (kv ∷ []) → Is Ev.the-row en (ev ∷ []) → n < 2 ^ 64 → n * width ≤ length us → ent 𝓤 (⋆ 𝓤 H A TakesFirst) (First 𝓤 H A mem run .pre to-first)
     goes-first gb ge gn fits =
         qed W TakesFirst ∵ says ! fits $ move ! (2 ∷ []) $ split ! $
         -- [calendar's token; what it owns; ν's token; the numbers]
@@ -167,7 +167,7 @@ module _ {M : Type 1} (𝓤 : URA M) (H : Heap 𝓤) (A : Atoms 𝓤) (W : Given
         at-once ! $ show ! (λ (us′ : List ℕ). mean 𝓤 H A (GetsFirst w us′)) (zs .1 .1 .0) $ check ! (e .1 ∙ ap (λ (ts : List Trade). step (now cal) bk ts en .table) same, (l, subst (λ (y : Applied). Is B.the-row y (w ∷ [])) (e .0 ∙ ap (λ (ts : List Trade). appliedOf (step (now cal) bk ts en)) same) is)) $ keep ! (0 ∷ 4 ∷ 2 ∷ []) $ done !)))))
 
   module _ (C : Calls 𝓤 H) (Λ : Loops 𝓤 H) (fm : FmC 𝓤 H (W .laws) C) (known-in : Triple 𝓤 (C #copy-in) (In 𝓤 H A mem run)) (known-first : Triple 𝓤 (C #first) (First 𝓤 H A mem run)) (known-out : Triple 𝓤 (C #copy-out) (Out 𝓤 H A mem run))
-      (room : Room T.the-row n) (flat-room : Room u64 m) (gb : Is Bk.the-row bk (kv ∷ [])) (ge : Is Ev.the-row en (ev ∷ [])) (fits : n * 4 ≤ m)
+      (room : Room T.the-row n) (flat-room : Room u64 m) (gb : Is Bk.the-row bk (kv ∷ [])) (ge : Is Ev.the-row en (ev ∷ [])) (fits : n * width ≤ m)
       (l₀ l₁ l₂ l₃ l₄ l₅ l₆ l₇ l₈ l₉ l₁₀ l₁₁ l₁₂ l₁₃ l₁₄ l₁₅ l₁₆ l₁₇ l₁₈ : ℕ) where
     abbrev word : Ty
     word = tyInt w64
@@ -224,7 +224,7 @@ module _ {M : Type 1} (𝓤 : URA M) (H : Heap 𝓤) (A : Atoms 𝓤) (W : Given
         assigns ! (agg ! (and-then ! (loads ! (from ! (stop !)) (look ! 8 refl)) (and-then ! (loads ! (from ! (fld ! refl (stop !))) (look-in ! 36 (sub ! 1 refl (whole !)))) (no-more !)))) (from ! (stop !)) (init ! 6 refl (tt, (tt, (record { fits = room .0 }, tt)))) $
         lends ! tt T.the-row κ₁ q₁ γ b o n ys refl room (λ ν′ δ′. move ! (3 ∷ 4 ∷ []) $
         shares-out ! tt u64 κ₂ q₂ γ′ b′ o′ m us long flat-room (λ ν δ. join ! $ move ! (2 ∷ 3 ∷ []) $ join ! $
-        use2 W (raw (Out 𝓤 H A mem run .pre (to-out 𝓤 H A W mem run b o ys b′ o′ m us (ν ∷ []) fullShare δ (ν′ ∷ []) fullShare δ′))) (goes-out 𝓤 H A W mem run b o ys b′ o′ m us (ν ∷ []) fullShare δ (ν′ ∷ []) fullShare δ′ (subst (λ (j : ℕ). n * 4 ≤ j) (sym long) fits)) $
+        use2 W (raw (Out 𝓤 H A mem run .pre (to-out 𝓤 H A W mem run b o ys b′ o′ m us (ν ∷ []) fullShare δ (ν′ ∷ []) fullShare δ′))) (goes-out 𝓤 H A W mem run b o ys b′ o′ m us (ν ∷ []) fullShare δ (ν′ ∷ []) fullShare δ′ (subst (λ (j : ℕ). n * width ≤ j) (sym long) fits)) $
         -- [pre; what is kept of the numbers; of the table; calendar's token; what it owns; _18 at 5; …]
         calls-at ! fm (Out 𝓤 H A mem run) known-out (to-out 𝓤 H A W mem run b o ys b′ o′ m us (ν ∷ []) fullShare δ (ν′ ∷ []) fullShare δ′) (and-then ! (loads ! (from ! (stop !)) (look ! 9 refl)) (and-then ! (loads ! (from ! (stop !)) (look ! 5 refl)) (no-more !))) (λ w.
         use1 W (later (some (GetsOut 𝓤 H A W mem run b o ys b′ o′ m us (ν ∷ []) fullShare δ (ν′ ∷ []) fullShare δ′ w))) (gets-out 𝓤 H A W mem run b o ys b′ o′ m us (ν ∷ []) fullShare δ (ν′ ∷ []) fullShare δ′ w) $ await ! tt $ pick ! (λ zs. learn ! (λ e. split ! $ move ! (0 ∷ 2 ∷ []) $
@@ -244,7 +244,7 @@ module _ {M : Type 1} (𝓤 : URA M) (H : Heap 𝓤) (A : Atoms 𝓤) (W : Given
         move ! (5 ∷ []) $ use1 W (‵ Own ⊛ ‵ Own) (shr-slice-copy 𝓤 H A W (named 0) κ u32 .twice cal (cv ∷ [])) $ split ! $ move ! (6 ∷ 0 ∷ []) $ join ! $ move ! (4 ∷ 5 ∷ []) $
         -- [the numbers; their token; calendar's token and a copy of what it owns; what it owns; the table; its token; _18 at 7; …]
         lends ! tt u64 κ₂ q₂ γ′ b′ o′ m us long flat-room (λ ν δ. move ! (1 ∷ 0 ∷ 3 ∷ []) $
-        use3 W (raw (First 𝓤 H A mem run .pre (to-first us same ν δ))) (goes-first us same ν δ gb ge (room .0) (subst (λ (j : ℕ). n * 4 ≤ j) (sym long) fits)) $
+        use3 W (raw (First 𝓤 H A mem run .pre (to-first us same ν δ))) (goes-first us same ν δ gb ge (room .0) (subst (λ (j : ℕ). n * width ≤ j) (sym long) fits)) $
         -- [pre; what is kept of the numbers; what calendar owns; the table; its token; _18 at 5; …]
         calls-at ! fm (First 𝓤 H A mem run) known-first (to-first us same ν δ)
         (and-then ! (loads ! (from ! (stop !)) (look ! 39 refl)) (and-then ! (loads ! (from ! (stop !)) (look ! 37 refl)) (and-then ! (loads ! (from ! (stop !)) (look ! 13 refl)) (and-then ! (loads ! (from ! (stop !)) (look ! 29 refl)) (and-then ! (loads ! (from ! (stop !)) (look ! 31 refl)) (no-more !)))))) (λ w.
@@ -287,7 +287,7 @@ module _ {M : Type 1} (𝓤 : URA M) (H : Heap 𝓤) (A : Atoms 𝓤) (W : Given
 
   module _ (C : Calls 𝓤 H) (Λ : Loops 𝓤 H) where
     walk : FmC 𝓤 H (W .laws) C → Triple 𝓤 (C #copy-in) (In 𝓤 H A mem run) → Triple 𝓤 (C #first) (First 𝓤 H A mem run) → Triple 𝓤 (C #copy-out) (Out 𝓤 H A mem run)
-        → Is (ShrSlice (named 0) κ u32) cal (cv ∷ []) → Room T.the-row n → Room u64 m → Is Bk.the-row bk (kv ∷ []) → Is Ev.the-row en (ev ∷ []) → n * 4 ≤ m
+        → Is (ShrSlice (named 0) κ u32) cal (cv ∷ []) → Room T.the-row n → Room u64 m → Is Bk.the-row bk (kv ∷ []) → Is Ev.the-row en (ev ∷ []) → n * width ≤ m
         → ent 𝓤 (onEntry 𝓤 H A apply-by.signature (κ, (κ₁, (κ₂, tt))) (q, (q₁, (q₂, tt))) x at) (WpFn 𝓤 H C Λ code.function (cv ∷ kv ∷ sliceVal (b, o) n ∷ sliceVal (b′, o′) m ∷ ev ∷ []) Post)
     walk fm known-in known-first known-out gc room flat-room gb ge fits =
         qed W ((‵ (flft κ q) ⊛ ‵ (flft κ₁ q₁) ⊛ ‵ (flft κ₂ q₂) ⊛ ‵ ftrue) ∷ ‵ (owns (ShrSlice (named 0) κ u32 ∷ Bk.the-row ∷ MutSlice (named 1) κ₁ T.the-row ∷ MutSlice (named 2) κ₂ u64 ∷ Ev.the-row ∷ []) x at) ∷ []) ∵
@@ -302,7 +302,7 @@ module _ {M : Type 1} (𝓤 : URA M) (H : Heap 𝓤) (A : Atoms 𝓤) (W : Given
   apply-by-walks = walked 𝓤 H A apply-by.ended stayed (apply-by.clauses 𝓤 H A mem run) (WpFn 𝓤 H (𝓣 .C) (𝓣 .Λ) code.function)
       (λ κs. (slice-vals, (LL.vals Bk.the-type Bk′.the-laws, (slice-vals, (slice-vals, (EL.vals Ev.the-type Ev′.the-laws, tt))))))
       (λ κs. (shr-slice-tells (named 0) (κs .0) u32, (LL.tells Bk.the-type Bk′.the-laws, (mut-slice-tells (named 1) (κs .1 .0) T.the-row, (mut-slice-tells (named 2) (κs .1 .1 .0) u64, (EL.tells Ev.the-type Ev′.the-laws, tt))))))
-      (λ κs qs bounds a g are. needs 𝓤 (length (now (a .1 .1 .0)) * 4 ≤ length (now (a .1 .1 .1 .0))) _
+      (λ κs qs bounds a g are. needs 𝓤 (length (now (a .1 .1 .0)) * width ≤ length (now (a .1 .1 .1 .0))) _
       (walk 𝓤 H A W mem run (κs .0) (κs .1 .0) (κs .1 .1 .0) (qs .0) (qs .1 .0) (qs .1 .1 .0) (a .0) (a .1 .0) (a .1 .1 .0 .ptr .0) (a .1 .1 .0 .ptr .1) (a .1 .1 .0 .name) (a .1 .1 .0 .now) (a .1 .1 .1 .0 .ptr .0) (a .1 .1 .1 .0 .ptr .1) (a .1 .1 .1 .0 .name) (a .1 .1 .1 .0 .now) (a .1 .1 .1 .1 .0)
       (𝓣 .C) (𝓣 .Λ) (fmOf 𝓤 H (W .laws) 𝓣) known-in known-first known-out (are .0) (are .1 .1 .0 .0 .1) (are .1 .1 .1 .0 .0 .1) (are .1 .0) (are .1 .1 .1 .1 .0)))
 

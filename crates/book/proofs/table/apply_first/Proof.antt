@@ -3,7 +3,7 @@ use Prim.Native.Nat.{ℕ, _*_, _%_}
 use borrow.Author.Needs.{needs}
 use lib.ListN.{length, take, drop}
 use lib.Seq.{length-take-le}
-use Rattle.core.specs.Flat.{tradesTo, tradesOf}
+use Rattle.core.specs.Flat.{width, tradesTo, tradesOf}
 use Rattle.book.proofs.TableLaws.{fours, trades-of-front, trades-before}
 use Rattle.book.proofs.table.apply_first.Statement.{statement}
 use Rattle.book.proofs.table.apply_first.Tie as tie
@@ -17,12 +17,12 @@ slice-relend-prefix-apply-flat c = search needs
 slice-aggregate-apply-flat : tie.Need-slice-aggregate-apply-flat
 slice-aggregate-apply-flat c =
     let a = c .before .before .before in
-    sym (length-take-le (a .args .count * 4) (a .args .flat .now) (a .pre))
+    sym (length-take-le (a .args .count * width) (a .args .flat .now) (a .pre))
 
 apply-flat-requires : tie.Need-apply-flat-requires
 apply-flat-requires c κs =
     let a = c .before .before .before in
-    ap (λ (n : ℕ). n % 4) (length-take-le (a .args .count * 4) (a .args .flat .now) (a .pre)) ∙ fours (a .args .count)
+    ap (λ (n : ℕ). n % width) (length-take-le (a .args .count * width) (a .args .flat .now) (a .pre)) ∙ fours (a .args .count)
 
 same-length : tie.Need-same-length
 same-length c = search needs
@@ -30,7 +30,7 @@ same-length c = search needs
 returns : tie.Need-returns
 returns c =
     let a = c .before .before .before .before .before .before in
-    let end : ℕ = a .args .count * 4 in
+    let end : ℕ = a .args .count * width in
     let called = c .before .before .apply-flat in
     let long : length (called .last .1 .1 .0) ≡ end = called .kept .1 .1 .0 ∙ length-take-le end (a .args .flat .now) (a .pre) in
     let front : tradesOf (take end (a .args .flat .now)) ≡ tradesTo (a .args .flat .now) (a .args .count) = trades-of-front (a .args .flat .now) (a .args .count) (a .pre) in

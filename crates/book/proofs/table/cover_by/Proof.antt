@@ -45,7 +45,7 @@ use Rattle.rules.proofs.book.Book.Laws as Bk′
 use Rattle.rules.proofs.answer.Cover as B
 use Rattle.rules.proofs.answer.Cover.Laws as B′
 use Rattle.book.specs.Types.{Book, Trade, Cover}
-use Rattle.core.specs.Flat.{tradesTo}
+use Rattle.core.specs.Flat.{width, tradesTo}
 use Rattle.book.proofs.WalkAgain.{slice-at, Slice, Shared, lends, comes-home, shares-out, shared-home}
 use Rattle.book.proofs.WalkCopies.{In, to-in, goes-in, GetsIn, gets-in}
 use Rattle.book.proofs.copies.copy_in.Symbol as copy-in-def
@@ -132,7 +132,7 @@ module _ {M : Type 1} (𝓤 : URA M) (H : Heap 𝓤) (A : Atoms 𝓤) (W : Given
     abbrev TakesFirst : List (Item 𝓤)
     TakesFirst = ‵ (flft (ν ∷ []) fullShare) ∷ ‵ (Shared u64 (ν ∷ []) b′ o′ m δ us) ∷ (‵ (flft κ q) ⊛ ‵ Own) ∷ []
 
-    goes-first : Is Bk.the-row bk (kv ∷ []) → n < 2 ^ 64 → n * 4 ≤ length us → ent 𝓤 (⋆ 𝓤 H A TakesFirst) (First 𝓤 H A mem run .pre to-first)
+    goes-first : Is Bk.the-row bk (kv ∷ []) → n < 2 ^ 64 → n * width ≤ length us → ent 𝓤 (⋆ 𝓤 H A TakesFirst) (First 𝓤 H A mem run .pre to-first)
     goes-first gb gn fits =
         qed W TakesFirst ∵ says ! fits $ move ! (2 ∷ []) $ split ! $
         -- [calendar's token; what it owns; ν's token; the numbers]
@@ -159,7 +159,7 @@ module _ {M : Type 1} (𝓤 : URA M) (H : Heap 𝓤) (A : Atoms 𝓤) (W : Given
         at-once ! $ check ! (subst (λ (y : Cover). Is B.the-row y (w ∷ [])) (e ∙ ap (λ (ts : List Trade). coverOf (now cal) bk ts) same) is) $ keep ! (0 ∷ 2 ∷ []) $ done !)))
 
   module _ (C : Calls 𝓤 H) (Λ : Loops 𝓤 H) (fm : FmC 𝓤 H (W .laws) C) (known-in : Triple 𝓤 (C #copy-in) (In 𝓤 H A mem run)) (known-first : Triple 𝓤 (C #first) (First 𝓤 H A mem run))
-      (room : Room T.the-row n) (flat-room : Room u64 m) (gb : Is Bk.the-row bk (kv ∷ [])) (fits : n * 4 ≤ m)
+      (room : Room T.the-row n) (flat-room : Room u64 m) (gb : Is Bk.the-row bk (kv ∷ [])) (fits : n * width ≤ m)
       (l₀ l₁ l₂ l₃ l₄ l₅ l₆ l₇ l₈ l₉ l₁₀ : ℕ) where
     abbrev word : Ty
     word = tyInt w64
@@ -201,7 +201,7 @@ module _ {M : Type 1} (𝓤 : URA M) (H : Heap 𝓤) (A : Atoms 𝓤) (W : Given
         move ! (5 ∷ []) $ use1 W (‵ Own ⊛ ‵ Own) (shr-slice-copy 𝓤 H A W (named 0) κ u32 .twice cal (cv ∷ [])) $ split ! $ move ! (4 ∷ 5 ∷ []) $
         -- [the numbers; their token; what calendar owns, twice; the table; its token; calendar's token; _10 at 7; …]
         shares-out ! tt u64 κ₂ q₂ γ′ b′ o′ m us long flat-room (λ ν δ. move ! (7 ∷ 3 ∷ []) $ join ! $ move ! (2 ∷ 1 ∷ 0 ∷ []) $
-        use3 W (raw (First 𝓤 H A mem run .pre (to-first us same ν δ))) (goes-first us same ν δ gb (room .0) (subst (λ (j : ℕ). n * 4 ≤ j) (sym long) fits)) $
+        use3 W (raw (First 𝓤 H A mem run .pre (to-first us same ν δ))) (goes-first us same ν δ gb (room .0) (subst (λ (j : ℕ). n * width ≤ j) (sym long) fits)) $
         -- [pre; what is kept of the numbers; what calendar owns; the table; its token; _10 at 5; …]
         calls-at ! fm (First 𝓤 H A mem run) known-first (to-first us same ν δ)
         (and-then ! (loads ! (from ! (stop !)) (look ! 23 refl)) (and-then ! (loads ! (from ! (stop !)) (look ! 21 refl)) (and-then ! (loads ! (from ! (stop !)) (look ! 5 refl)) (and-then ! (loads ! (from ! (stop !)) (look ! 15 refl)) (no-more !))))) (λ w.
@@ -243,7 +243,7 @@ module _ {M : Type 1} (𝓤 : URA M) (H : Heap 𝓤) (A : Atoms 𝓤) (W : Given
 
   module _ (C : Calls 𝓤 H) (Λ : Loops 𝓤 H) where
     walk : FmC 𝓤 H (W .laws) C → Triple 𝓤 (C #copy-in) (In 𝓤 H A mem run) → Triple 𝓤 (C #first) (First 𝓤 H A mem run)
-        → Is (ShrSlice (named 0) κ u32) cal (cv ∷ []) → Room T.the-row n → Room u64 m → Is Bk.the-row bk (kv ∷ []) → n * 4 ≤ m
+        → Is (ShrSlice (named 0) κ u32) cal (cv ∷ []) → Room T.the-row n → Room u64 m → Is Bk.the-row bk (kv ∷ []) → n * width ≤ m
         → ent 𝓤 (onEntry 𝓤 H A cover-by.signature (κ, (κ₁, (κ₂, tt))) (q, (q₁, (q₂, tt))) x at) (WpFn 𝓤 H C Λ code.function (cv ∷ kv ∷ sliceVal (b, o) n ∷ sliceVal (b′, o′) m ∷ []) Post)
     walk fm known-in known-first gc room flat-room gb fits =
         qed W ((‵ (flft κ q) ⊛ ‵ (flft κ₁ q₁) ⊛ ‵ (flft κ₂ q₂) ⊛ ‵ ftrue) ∷ ‵ (owns (ShrSlice (named 0) κ u32 ∷ Bk.the-row ∷ ShrSlice (named 1) κ₁ T.the-row ∷ MutSlice (named 2) κ₂ u64 ∷ []) x at) ∷ []) ∵
@@ -258,7 +258,7 @@ module _ {M : Type 1} (𝓤 : URA M) (H : Heap 𝓤) (A : Atoms 𝓤) (W : Given
   cover-by-walks = walked 𝓤 H A cover-by.ended stayed (cover-by.clauses 𝓤 H A mem run) (WpFn 𝓤 H (𝓣 .C) (𝓣 .Λ) code.function)
       (λ κs. (slice-vals, (LL.vals Bk.the-type Bk′.the-laws, (slice-vals, (slice-vals, tt)))))
       (λ κs. (shr-slice-tells (named 0) (κs .0) u32, (LL.tells Bk.the-type Bk′.the-laws, (shr-slice-tells (named 1) (κs .1 .0) T.the-row, (mut-slice-tells (named 2) (κs .1 .1 .0) u64, tt)))))
-      (λ κs qs bounds a g are. needs 𝓤 (length (now (a .1 .1 .0)) * 4 ≤ length (now (a .1 .1 .1 .0))) _
+      (λ κs qs bounds a g are. needs 𝓤 (length (now (a .1 .1 .0)) * width ≤ length (now (a .1 .1 .1 .0))) _
       (walk 𝓤 H A W mem run (κs .0) (κs .1 .0) (κs .1 .1 .0) (qs .0) (qs .1 .0) (qs .1 .1 .0) (a .0) (a .1 .0) (a .1 .1 .0 .ptr .0) (a .1 .1 .0 .ptr .1) (a .1 .1 .0 .name) (a .1 .1 .0 .now) (a .1 .1 .1 .0 .ptr .0) (a .1 .1 .1 .0 .ptr .1) (a .1 .1 .1 .0 .name) (a .1 .1 .1 .0 .now)
       (𝓣 .C) (𝓣 .Λ) (fmOf 𝓤 H (W .laws) 𝓣) known-in known-first (are .0) (are .1 .1 .0 .0 .1) (are .1 .1 .1 .0 .0 .1) (are .1 .0)))
 

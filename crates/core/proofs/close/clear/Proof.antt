@@ -52,8 +52,9 @@ same-length-2 c = c .before .loop .inv .2
 
 returns : tie.Need-returns Inv-loop μ-loop
 returns c =
+    let s : tie.Start Inv-loop μ-loop = search needs in
     let inv = c .before .loop .inv in
-    let pre = c .before .before .pre in
+    let pre = s .pre in
     let e : c .before .loop .i ≡ 128 = omega arith in
     (all-filled 0 _ _ 128 (inv .1 ∙ pre .0) (length-replicate {A = ℕ} 128 0) (rw e at (inv .3)), all-filled 0 _ _ 128 (inv .2 ∙ pre .1) (length-replicate {A = ℕ} 128 0) (rw e at (inv .4)))
 

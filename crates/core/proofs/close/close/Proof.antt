@@ -43,10 +43,14 @@ abbrev from-plan : tie.After-maturity-plan → tie.Start
 from-plan c = search needs
 
 abbrev from-today : tie.After-today-fit → tie.Start
-from-today c = from-plan (c .before .before)
+from-today c =
+    let at-maturity-plan : tie.After-maturity-plan = search needs in
+    from-plan at-maturity-plan
 
 abbrev from-cleared : tie.After-cleared-fit → tie.Start
-from-cleared c = from-today (c .before .before .before)
+from-cleared c =
+    let at-today-fit : tie.After-today-fit = search needs in
+    from-today at-today-fit
 
 abbrev from-day : tie.After-day-number → tie.Start
 from-day c = search needs
@@ -54,10 +58,13 @@ from-day c = search needs
 abbrev past-first : tie.After-today-fit → tie.Else1
 past-first c = search needs
 
-redeemable : (c : tie.After-day-number) → Redeemable (from-day c .args .table .now) (from-day c .args .desk .trades) (c .before .before .payment-day .result)
+abbrev paid-on : tie.After-day-number → tie.After-payment-day
+paid-on c = search needs
+
+redeemable : (c : tie.After-day-number) → Redeemable (from-day c .args .table .now) (from-day c .args .desk .trades) (paid-on c .payment-day .result)
 redeemable c =
     let s = from-day c in
-    subst (λ (day : ℕ). Redeemable (s .args .table .now) (s .args .desk .trades) day) (sym (c .before .before .payment-day .ensures))
+    subst (λ (day : ℕ). Redeemable (s .args .table .now) (s .args .desk .trades) day) (sym (paid-on c .payment-day .ensures))
     (fit-redeemable (s .args .calendar .now) (book s) (s .args .table .now) (s .pre .fits) (s .pre .few))
 
 -- the plan is what matures
@@ -66,14 +73,14 @@ module _ (c : tie.After-maturity-plan) where
   sheets-matured =
       let s = from-plan c in
       let day = c .before .day-number in
-      let payment = c .before .before .before .payment-day in
+      let payment = paid-on (c .before) .payment-day in
       sheets-planned (s .args .calendar .now) (book s) (s .args .table .now) (s .pre .fits) (day .result) (payment .result) (day .ensures) (payment .ensures) (c .maturity-plan .result) (c .maturity-plan .ensures)
 
   amount-matured : c .maturity-plan .result .amount ≡ maturedAmount (from-plan c .args .calendar .now) (book (from-plan c)) (trades (from-plan c))
   amount-matured =
       let s = from-plan c in
       let day = c .before .day-number in
-      let payment = c .before .before .before .payment-day in
+      let payment = paid-on (c .before) .payment-day in
       amount-planned (s .args .calendar .now) (book s) (s .args .table .now) (s .pre .fits) (day .result) (payment .result) (day .ensures) (payment .ensures) (c .maturity-plan .result) (c .maturity-plan .ensures)
 
 -- today's net as (b) begins, and the cleared net after it
@@ -86,10 +93,14 @@ with-matured c =
 all-joined : (c : tie.After-joined)
     → c .joined .result ≡ record { today = pos 0; cleared = cleared-net (from-plan (c .before .before .before .before)) }
 all-joined c =
-    c .joined .ensures ∙ ap (λ (nets : Nets). record { today = pos 0; cleared = nets .cleared +ℤ nets .today }) (with-matured (c .before .before .before))
+    let at-today-plus : tie.After-today-plus = search needs in
+    c .joined .ensures ∙ ap (λ (nets : Nets). record { today = pos 0; cleared = nets .cleared +ℤ nets .today }) (with-matured at-today-plus)
 
 -- the tests, as the causes have them
-may-go-on : (c : tie.Else1) → not (mayClose (c .before .before .before .before .before .before .before .before .args .desk .standing)) ≡ false
+abbrev from-first : tie.Else1 → tie.Start
+from-first c = search needs
+
+may-go-on : (c : tie.Else1) → not (mayClose (from-first c .args .desk .standing)) ≡ false
 may-go-on c = denied-not (c .before .may-close .ensures) (c .if1 .left)
 
 today-asked : (c : tie.After-today-fit)
@@ -108,9 +119,10 @@ answered-requires c κs = search needs
 
 returns : tie.Need-returns
 returns c =
+    let at-may-close : tie.After-may-close = search needs in
     let s : tie.Start = search needs in
     close-refused (s .args .calendar .now) (s .args .desk) (rows s) (left-of s) (trades s) 4 _
-    (not-now (s .args .calendar .now) (book s) (trades s) (denied (c .before .before .may-close .ensures) (c .before .if1 .taken)))
+    (not-now (s .args .calendar .now) (book s) (trades s) (denied (at-may-close .may-close .ensures) (c .before .if1 .taken)))
     (c .answered .ensures)
 
 payment-day-requires : tie.Need-payment-day-requires
@@ -139,17 +151,19 @@ same-length c = search needs
 
 returns-2 : tie.Need-returns-2
 returns-2 c =
+    let at-today-fit : tie.After-today-fit = search needs in
     let past1 : tie.Else1 = search needs in
-    let s = from-today (c .before .before) in
+    let s = from-today at-today-fit in
     close-refused (s .args .calendar .now) (s .args .desk) (rows s) (left-of s) (trades s) 14 _
-    (today-outside (s .args .calendar .now) (book s) (trades s) (may-go-on past1) (denied (today-asked (c .before .before)) (c .before .if2 .taken)))
+    (today-outside (s .args .calendar .now) (book s) (trades s) (may-go-on past1) (denied (today-asked at-today-fit) (c .before .if2 .taken)))
     (c .answered2 .ensures)
 
 joined-requires : tie.Need-joined-requires
 joined-requires c κs =
+    let at-today-plus : tie.After-today-plus = search needs in
     let s = from-today (c .before) in
     let nets = fit-parts (s .args .calendar .now) (book s) (trades s) (s .pre .fits) .nets in
-    (sym (c .before .today-fit .ensures) ∙ holds _ (c .if2 .left), rw (with-matured (c .before .before)) (le-leb (natAbs (s .args .desk .nets .cleared)) netLimit (nets .cleared)))
+    (sym (c .before .today-fit .ensures) ∙ holds _ (c .if2 .left), rw (with-matured at-today-plus) (le-leb (natAbs (s .args .desk .nets .cleared)) netLimit (nets .cleared)))
 
 cleared-fit-requires : tie.Need-cleared-fit-requires
 cleared-fit-requires c κs = search needs
@@ -162,12 +176,13 @@ same-length-2 c = search needs
 
 returns-3 : tie.Need-returns-3
 returns-3 c =
+    let at-cleared-fit : tie.After-cleared-fit = search needs in
     let past1 : tie.Else1 = search needs in
     let at-today-fit : tie.After-today-fit = search needs in
     let past2 : tie.Else2 = search needs in
-    let s = from-cleared (c .before .before) in
+    let s = from-cleared at-cleared-fit in
     close-refused (s .args .calendar .now) (s .args .desk) (rows s) (left-of s) (trades s) 14 _
-    (cleared-outside (s .args .calendar .now) (book s) (trades s) (may-go-on past1) (denied-not (today-asked at-today-fit) (past2 .if2 .left)) (denied (cleared-asked (c .before .before)) (c .before .if3 .taken)))
+    (cleared-outside (s .args .calendar .now) (book s) (trades s) (may-go-on past1) (denied-not (today-asked at-today-fit) (past2 .if2 .left)) (denied (cleared-asked at-cleared-fit) (c .before .if3 .taken)))
     (c .answered3 .ensures)
 
 closed-requires : tie.Need-closed-requires

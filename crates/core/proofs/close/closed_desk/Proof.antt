@@ -18,8 +18,11 @@ closed-standing-requires c κs = search needs
 
 returns : tie.Need-returns
 unfolding closedBook isShortClose
-returns c = λ calendar rows trades table nets end left kept.
-    rw (c .closed-standing .ensures, c .before .short-at-close .ensures, c .before .before .is-short .ensures, c .before .before .before .value-of .ensures, nets, sym end, left, kept)
+returns c =
+    let at-is-short : tie.After-is-short = search needs in
+    let at-value-of : tie.After-value-of = search needs in
+    λ calendar rows trades table nets end left kept.
+    rw (c .closed-standing .ensures, c .before .short-at-close .ensures, at-is-short .is-short .ensures, at-value-of .value-of .ensures, nets, sym end, left, kept)
 
 pub closed-desk-spec : {M : Type 1} → statement M
 closed-desk-spec =

@@ -27,12 +27,13 @@ is-served-requires c κs = search needs
 applications-requires : tie.Need-applications-requires
 unfolding allArrived
 applications-requires c κs =
+    let at-guarantee-arrived : tie.After-guarantee-arrived = search needs in
     let at-all-arrived : tie.After-all-arrived = search needs in
     let s : tie.Start = search needs in
     let arrived = at-all-arrived .all-arrived in
     let kept = evening-begins (book s) (s .pre .securities) (s .pre .cash) in
     let sound = sound-of (begun (book s)) kept in
-    rw (c .before .before .guarantee-arrived .ensures, arrived .ensures)
+    rw (at-guarantee-arrived .guarantee-arrived .ensures, arrived .ensures)
     ((s .pre .kinds-long, s .pre .units-long, arrived .kept .0 ∙ s .pre .held-long, s .pre .withdrawals), (sound .0, sound .1, sound .2, kept .cash, refl, refl))
 
 same-length : tie.Need-same-length
@@ -41,10 +42,12 @@ same-length c = search needs
 returns : tie.Need-returns
 unfolding evening allArrived
 returns c =
+    let at-is-served : tie.After-is-served = search needs in
+    let at-guarantee-arrived : tie.After-guarantee-arrived = search needs in
     let at-all-arrived : tie.After-all-arrived = search needs in
     λ trades left.
-    let end = c .before .before in
-    rw (end .applications .ensures, end .before .before .is-served .ensures, end .before .before .before .guarantee-arrived .ensures, at-all-arrived .all-arrived .ensures, left)
+    let end : tie.After-applications = search needs in
+    rw (end .applications .ensures, at-is-served .is-served .ensures, at-guarantee-arrived .guarantee-arrived .ensures, at-all-arrived .all-arrived .ensures, left)
 
 pub evening-end-spec : {M : Type 1} → statement M
 evening-end-spec =

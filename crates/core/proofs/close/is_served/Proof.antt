@@ -15,7 +15,9 @@ has-failed-requires : tie.Need-has-failed-requires
 has-failed-requires c κs = search needs
 
 returns-2 : tie.Need-returns-2
-returns-2 c = rw (sym (c .before .before .is-paid .ensures) ∙ not-false _ (c .before .if1 .left)) (ap not (c .has-failed .ensures))
+returns-2 c =
+    let at-is-paid : tie.After-is-paid = search needs in
+    rw (sym (at-is-paid .is-paid .ensures) ∙ not-false _ (c .before .if1 .left)) (ap not (c .has-failed .ensures))
 
 pub is-served-spec : {M : Type 1} → statement M
 is-served-spec = tie.close (tie.spec is-paid-requires returns has-failed-requires returns-2)

@@ -15,15 +15,19 @@ is-trading-requires c κs = search needs
 
 returns-2 : tie.Need-returns-2
 returns-2 c =
-    rw (sym (c .before .before .before .is-paid .ensures) ∙ c .before .before .if1 .left, sym (c .before .is-trading .ensures) ∙ not-true _ (c .if2 .taken)) refl
+    let at-is-paid : tie.After-is-paid = search needs in
+    let past1 : tie.Else1 = search needs in
+    rw (sym (at-is-paid .is-paid .ensures) ∙ past1 .if1 .left, sym (c .before .is-trading .ensures) ∙ not-true _ (c .if2 .taken)) refl
 
 is-terminated-requires : tie.Need-is-terminated-requires
 is-terminated-requires c κs = search needs
 
 returns-3 : tie.Need-returns-3
 returns-3 c =
+    let past1 : tie.Else1 = search needs in
+    let at-is-trading : tie.After-is-trading = search needs in
     let at-is-paid : tie.After-is-paid = search needs in
-    rw (sym (at-is-paid .is-paid .ensures) ∙ c .before .before .before .if1 .left, sym (c .before .before .is-trading .ensures) ∙ not-false _ (c .before .if2 .left))
+    rw (sym (at-is-paid .is-paid .ensures) ∙ past1 .if1 .left, sym (at-is-trading .is-trading .ensures) ∙ not-false _ (c .before .if2 .left))
     (c .is-terminated .ensures)
 
 pub may-close-spec : {M : Type 1} → statement M

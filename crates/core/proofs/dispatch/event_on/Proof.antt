@@ -142,27 +142,31 @@ same-length c = search needs
 returns : tie.Need-returns
 unfolding eventCauses act
 returns c =
+    let at-open : tie.After-open = search needs in
     let at-enum-told : tie.After-enum-told = search needs in
     let s : tie.Start = search needs in
-    rw (at-enum-told .enum-told .given .1) (changes-table _ (book s) (table s) (s .pre .book .fits) (s .pre .book .few) _ _ _ refl _ _ (c .before .before .«open» .ensures (rows s)))
+    rw (at-enum-told .enum-told .given .1) (changes-table _ (book s) (table s) (s .pre .book .fits) (s .pre .book .few) _ _ _ refl _ _ (at-open .«open» .ensures (rows s)))
 
 returns-2 : tie.Need-returns-2
 unfolding eventCauses act
 returns-2 c =
+    let at-event : tie.After-event = search needs in
     let s : tie.Start = search needs in
-    rw (c .before .before .event .given .1) (leaves-table _ (book s) (table s) (s .pre .book .fits) (s .pre .book .few) _ _ refl _ (c .fund-in .ensures (rows s)))
+    rw (at-event .event .given .1) (leaves-table _ (book s) (table s) (s .pre .book .fits) (s .pre .book .few) _ _ refl _ (c .fund-in .ensures (rows s)))
 
 returns-3 : tie.Need-returns-3
 unfolding eventCauses act
 returns-3 c =
+    let at-event2 : tie.After-event2 = search needs in
     let s : tie.Start = search needs in
-    rw (c .before .before .event2 .given .1) (leaves-table _ (book s) (table s) (s .pre .book .fits) (s .pre .book .few) _ _ refl _ (c .fund-out .ensures (rows s)))
+    rw (at-event2 .event2 .given .1) (leaves-table _ (book s) (table s) (s .pre .book .fits) (s .pre .book .few) _ _ refl _ (c .fund-out .ensures (rows s)))
 
 returns-4 : tie.Need-returns-4
 unfolding eventCauses act
 returns-4 c =
+    let at-event3 : tie.After-event3 = search needs in
     let s : tie.Start = search needs in
-    rw (c .before .before .event3 .given .1) (leaves-table _ (book s) (table s) (s .pre .book .fits) (s .pre .book .few) _ _ refl _ (c .set-size .ensures (rows s) (table s) (s .pre .counted)))
+    rw (at-event3 .event3 .given .1) (leaves-table _ (book s) (table s) (s .pre .book .fits) (s .pre .book .few) _ _ refl _ (c .set-size .ensures (rows s) (table s) (s .pre .counted)))
 
 same-length-2 : tie.Need-same-length-2
 same-length-2 c = search needs
@@ -170,9 +174,10 @@ same-length-2 c = search needs
 returns-5 : tie.Need-returns-5
 unfolding eventCauses act
 returns-5 c =
+    let at-set-rate : tie.After-set-rate = search needs in
     let at-event4 : tie.After-event4 = search needs in
     let s : tie.Start = search needs in
-    rw (at-event4 .event4 .given .1) (leaves-table _ (book s) (table s) (s .pre .book .fits) (s .pre .book .few) _ _ refl _ (c .before .before .set-rate .ensures (s .args .kinds .now) (s .args .units .now)))
+    rw (at-event4 .event4 .given .1) (leaves-table _ (book s) (table s) (s .pre .book .fits) (s .pre .book .few) _ _ refl _ (at-set-rate .set-rate .ensures (s .args .kinds .now) (s .args .units .now)))
 
 same-length-3 : tie.Need-same-length-3
 same-length-3 c = search needs
@@ -180,9 +185,10 @@ same-length-3 c = search needs
 returns-6 : tie.Need-returns-6
 unfolding eventCauses act
 returns-6 c =
+    let at-pledge : tie.After-pledge = search needs in
     let at-event5 : tie.After-event5 = search needs in
     let s : tie.Start = search needs in
-    rw (at-event5 .event5 .given .1) (leaves-table _ (book s) (table s) (s .pre .book .fits) (s .pre .book .few) _ _ refl _ (c .before .before .pledge .ensures (s .args .kinds .now) (s .args .units .now)))
+    rw (at-event5 .event5 .given .1) (leaves-table _ (book s) (table s) (s .pre .book .fits) (s .pre .book .few) _ _ refl _ (at-pledge .pledge .ensures (s .args .kinds .now) (s .args .units .now)))
 
 same-length-4 : tie.Need-same-length-4
 same-length-4 c = search needs
@@ -190,9 +196,10 @@ same-length-4 c = search needs
 returns-7 : tie.Need-returns-7
 unfolding eventCauses act
 returns-7 c =
+    let at-freeze : tie.After-freeze = search needs in
     let at-event6 : tie.After-event6 = search needs in
     let s : tie.Start = search needs in
-    rw (at-event6 .event6 .given .1) (leaves-table _ (book s) (table s) (s .pre .book .fits) (s .pre .book .few) _ _ refl _ (c .before .before .freeze .ensures (s .args .kinds .now) (s .args .units .now)))
+    rw (at-event6 .event6 .given .1) (leaves-table _ (book s) (table s) (s .pre .book .fits) (s .pre .book .few) _ _ refl _ (at-freeze .freeze .ensures (s .args .kinds .now) (s .args .units .now)))
 
 same-length-5 : tie.Need-same-length-5
 same-length-5 c = search needs
@@ -220,9 +227,10 @@ same-length-9 c = search needs
 returns-9 : tie.Need-returns-9
 unfolding eventCauses act
 returns-9 c =
+    let at-initial : tie.After-initial = search needs in
     let at-event8 : tie.After-event8 = search needs in
     let s : tie.Start = search needs in
-    rw (at-event8 .event8 .given .1) (changes-table _ (book s) (table s) (s .pre .book .fits) (s .pre .book .few) _ _ _ refl _ _ (c .before .before .initial .ensures (s .args .kinds .now) (s .args .units .now)))
+    rw (at-event8 .event8 .given .1) (changes-table _ (book s) (table s) (s .pre .book .fits) (s .pre .book .few) _ _ _ refl _ _ (at-initial .initial .ensures (s .args .kinds .now) (s .args .units .now)))
 
 same-length-10 : tie.Need-same-length-10
 same-length-10 c = search needs
@@ -230,9 +238,10 @@ same-length-10 c = search needs
 returns-10 : tie.Need-returns-10
 unfolding eventCauses act
 returns-10 c =
+    let at-early : tie.After-early = search needs in
     let at-event9 : tie.After-event9 = search needs in
     let s : tie.Start = search needs in
-    rw (at-event9 .event9 .given .1) (changes-table _ (book s) (table s) (s .pre .book .fits) (s .pre .book .few) _ _ _ refl _ _ (c .before .before .early .ensures (rows s)))
+    rw (at-event9 .event9 .given .1) (changes-table _ (book s) (table s) (s .pre .book .fits) (s .pre .book .few) _ _ _ refl _ _ (at-early .early .ensures (rows s)))
 
 returns-11 : tie.Need-returns-11
 unfolding eventCauses act

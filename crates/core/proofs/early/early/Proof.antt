@@ -16,19 +16,26 @@ use Rattle.core.proofs.early.early.Tie as tie
 kept : (s : tie.Start) → Kept (s .args .table .now) (s .args .desk .trades)
 kept s = fit-keeps (s .args .calendar .now) (bookOf (s .args .desk) (s .pre .rows)) (s .args .table .now) (s .pre .fits)
 
-clear : (c : tie.Else1) (rows : Rows) → (let s = c .before .before .before .before .before .before .before .args in firstOf (earlyCauses (s .calendar .now) (bookOf (s .desk) rows) (tradesOf (s .table .now)) (s .contract) (s .count) (s .price)) ≡ none)
+abbrev start-of : tie.Else1 → tie.Start
+start-of c = search needs
+
+abbrev placed : tie.Else1 → tie.After-place-of
+placed c = search needs
+
+clear : (c : tie.Else1) (rows : Rows) → (let s = start-of c .args in firstOf (earlyCauses (s .calendar .now) (bookOf (s .desk) rows) (tradesOf (s .table .now)) (s .contract) (s .count) (s .price)) ≡ none)
 clear c rows =
-    let s′ : tie.Start = search needs in
-    let s = s′ .args in
+    let s = start-of c .args in
     early-clear (s .calendar .now) (bookOf (s .desk) rows) _ _ _ _ _ (c .before .early-refusal .ensures rows) (c .if1 .left)
 
-redeems : (c : tie.Else1) → (let s = c .before .before .before .before .before .before .before .args in Redeems (s .table .now) (s .desk .trades) (c .before .before .before .place-of .result) (s .count) (s .price))
+redeems : (c : tie.Else1) → (let s = start-of c .args in Redeems (s .table .now) (s .desk .trades) (placed c .place-of .result) (s .count) (s .price))
 redeems c =
     let start : tie.Start = search needs in
-    early-redeems (start .args .calendar .now) (bookOf (start .args .desk) (start .pre .rows)) _ _ _ _ _ (start .pre .fits) (c .before .before .before .place-of .ensures) (clear c (start .pre .rows))
+    early-redeems (start .args .calendar .now) (bookOf (start .args .desk) (start .pre .rows)) _ _ _ _ _ (start .pre .fits) (placed c .place-of .ensures) (clear c (start .pre .rows))
 
 place-of-requires : tie.Need-place-of-requires
-place-of-requires c κs = kept (c .before .before .before) .room
+place-of-requires c κs =
+    let s : tie.Start = search needs in
+    kept s .room
 
 early-refusal-requires : tie.Need-early-refusal-requires
 early-refusal-requires c κs = search needs
@@ -41,11 +48,12 @@ same-length c = search needs
 
 returns : tie.Need-returns
 returns c rows =
+    let at-early-refusal : tie.After-early-refusal = search needs in
     let s′ : tie.Start = search needs in
     let s = s′ .args in
     let causes = earlyCauses (s .calendar .now) (bookOf (s .desk) rows) (tradesOf (s .table .now)) (s .contract) (s .count) (s .price) in
-    let refusal = refused (firstOf causes) _ (c .before .before .early-refusal .ensures rows) (c .before .if1 .taken) in
-    (turned-down causes _ rows _ _ (c .before .before .early-refusal .ensures rows) (c .before .if1 .taken) (c .answered .ensures) refl, rw refusal)
+    let refusal = refused (firstOf causes) _ (at-early-refusal .early-refusal .ensures rows) (c .before .if1 .taken) in
+    (turned-down causes _ rows _ _ (at-early-refusal .early-refusal .ensures rows) (c .before .if1 .taken) (c .answered .ensures) refl, rw refusal)
 
 amount-at-requires : tie.Need-amount-at-requires
 amount-at-requires c κs =
@@ -56,8 +64,9 @@ amount-at-requires c κs =
 
 sheets-at-requires : tie.Need-sheets-at-requires
 sheets-at-requires c κs =
+    let past1 : tie.Else1 = search needs in
     let s : tie.Start = search needs in
-    omega (arith, redeems (c .before .before .before) .below, kept s .room)
+    omega (arith, redeems past1 .below, kept s .room)
 
 sub-left : tie.Need-sub-left
 sub-left c =
@@ -77,7 +86,9 @@ today-plus-requires c κs =
     let start : tie.Start = search needs in
     let s = start .args in
     let r = redeems past1 in
-    (fit-net (s .calendar .now) (bookOf (s .desk) (start .pre .rows)) (s .table .now) (start .pre .fits), rw (at-amount-at .amount-at .ensures (start .pre .rows)) (early-at-most (s .calendar .now) (bookOf (s .desk) (start .pre .rows)) (tradesOf (s .table .now)) (s .contract) (s .count) (s .price) (start .pre .few) (r .few) (r .cheap)))
+    let book = bookOf (s .desk) (start .pre .rows) in
+    let most = early-at-most (s .calendar .now) book (tradesOf (s .table .now)) (s .contract) (s .count) (s .price) (start .pre .few) (r .few) (r .cheap) in
+    (fit-net (s .calendar .now) book (s .table .now) (start .pre .fits), rw (at-amount-at .amount-at .ensures (start .pre .rows)) most)
 
 answered-requires-2 : tie.Need-answered-requires-2
 answered-requires-2 c κs = search needs

@@ -26,12 +26,12 @@ named-refusal-requires c κs = let s : tie.Start = search needs in (kept s .room
 returns-2 : tie.Need-returns-2
 unfolding earlyCauses
 returns-2 c rows =
-    let order = c .before .before in
+    let order : tie.Else1 = search needs in
     group-passes _ refl (order .before .order-refusal .ensures rows) (order .if1 .left) _ _ (group-applies _ _ _ (c .before .named-refusal .ensures rows) (c .if2 .taken))
 
 take-refusal-requires : tie.Need-take-refusal-requires
 take-refusal-requires c κs =
-    let order = c .before .before in
+    let order : tie.Else1 = search needs in
     let s : tie.Start = search needs in
     let on = group-clear _ refl (c .before .named-refusal .ensures noRows) (c .if2 .left) 10 in
     let cheap = group-clear _ refl (order .before .order-refusal .ensures noRows) (order .if1 .left) 8 in
@@ -41,7 +41,7 @@ returns-3 : tie.Need-returns-3
 unfolding earlyCauses
 returns-3 c rows =
     let named = c .before in
-    let order = named .before .before in
+    let order : tie.Else1 = search needs in
     group-passes _ refl (order .before .order-refusal .ensures rows) (order .if1 .left) _ _
     (group-passes _ refl (named .before .named-refusal .ensures rows) (named .if2 .left) _ _ (c .take-refusal .ensures rows))
 

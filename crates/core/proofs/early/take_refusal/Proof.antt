@@ -20,15 +20,20 @@ module _ (c : tie.Else1) where
   start = search needs
 
   few : start .args .count .0 ≤ tradeLimit
-  few = omega (arith, kept-within _ _ (kept start) _ (start .pre .below) .sheets, c .before .before .sheets-at .ensures, c .if1 .left)
+  few =
+      let at-sheets-at : tie.After-sheets-at = search needs in
+      omega (arith, kept-within _ _ (kept start) _ (start .pre .below) .sheets, at-sheets-at .sheets-at .ensures, c .if1 .left)
 
 sheets-at-requires : tie.Need-sheets-at-requires
-sheets-at-requires c κs = omega (arith, kept (c .before .before) .room)
+sheets-at-requires c κs =
+    let s : tie.Start = search needs in
+    omega (arith, kept s .room)
 
 returns : tie.Need-returns
 returns c rows =
+    let at-sheets-at : tie.After-sheets-at = search needs in
     let s : tie.Start = search needs in
-    let short = short-of _ _ _ _ (kept s .room) (s .pre .named .stands) _ _ (c .before .before .sheets-at .ensures) (s .pre .below) (c .if1 .taken) in search column depth 20
+    let short = short-of _ _ _ _ (kept s .room) (s .pre .named .stands) _ _ (at-sheets-at .sheets-at .ensures) (s .pre .below) (c .if1 .taken) in search column depth 20
 
 amount-at-requires : tie.Need-amount-at-requires
 amount-at-requires c κs =
@@ -36,23 +41,29 @@ amount-at-requires c κs =
 
 over-plus-requires : tie.Need-over-plus-requires
 over-plus-requires c κs =
-    let s = start (c .before .before) in
+    let past1 : tie.Else1 = search needs in
+    let s = start past1 in
     let rows = s .pre .named .book .rows in
-    (fit-net (s .args .calendar .now) (bookOf (s .args .desk) rows) (s .args .table .now) (s .pre .named .book .fits), rw (c .amount-at .ensures rows) (early-at-most (s .args .calendar .now) (bookOf (s .args .desk) rows) (tradesOf (s .args .table .now)) (s .args .contract) (s .args .count) (s .args .price) (s .pre .named .book .few) (few (c .before .before)) (s .pre .cheap)))
+    let book = bookOf (s .args .desk) rows in
+    let fits = s .pre .named .book in
+    let most = early-at-most (s .args .calendar .now) book (tradesOf (s .args .table .now)) (s .args .contract) (s .args .count) (s .args .price) (fits .few) (few past1) (s .pre .cheap) in
+    (fit-net (s .args .calendar .now) book (s .args .table .now) (fits .fits), rw (c .amount-at .ensures rows) most)
 
 returns-2 : tie.Need-returns-2
 returns-2 c rows =
+    let at-amount-at : tie.After-amount-at = search needs in
     let enough : tie.Else1 = search needs in
     let s = start enough in
     let has = not-short-of _ _ _ _ (kept s .room) (s .pre .named .stands) _ _ (enough .before .before .sheets-at .ensures) (s .pre .below) (enough .if1 .left) in
-    let net = rw (c .before .before .amount-at .ensures rows) at (c .before .over-plus .ensures) in search column depth 20
+    let net = rw (at-amount-at .amount-at .ensures rows) at (c .before .over-plus .ensures) in search column depth 20
 
 returns-3 : tie.Need-returns-3
 returns-3 c rows =
+    let at-amount-at : tie.After-amount-at = search needs in
     let enough : tie.Else1 = search needs in
     let s = start enough in
     let has = not-short-of _ _ _ _ (kept s .room) (s .pre .named .stands) _ _ (enough .before .before .sheets-at .ensures) (s .pre .below) (enough .if1 .left) in
-    let net = rw (c .before .before .amount-at .ensures rows) at (c .before .over-plus .ensures) in search column depth 20
+    let net = rw (at-amount-at .amount-at .ensures rows) at (c .before .over-plus .ensures) in search column depth 20
 
 pub take-refusal-spec : {M : Type 1} → statement M
 take-refusal-spec = tie.close (tie.spec sheets-at-requires returns amount-at-requires over-plus-requires returns-2 returns-3)

@@ -12,8 +12,9 @@ enum-known-entry c = search needs
 
 figures-moved-requires : tie.Need-figures-moved-requires
 figures-moved-requires c κs =
+    let past1 : tie.Else1 = search needs in
     let s : tie.Start = search needs in
-    (s .pre .0, (rw (c .before .entry .given .1) at (s .pre .1)) .1 (c .before .before .before .if1 .left))
+    (s .pre .0, (rw (c .before .entry .given .1) at (s .pre .1)) .1 (past1 .if1 .left))
 
 enum-told : tie.Need-enum-told
 enum-told c = search needs

@@ -66,17 +66,19 @@ enum-known-event c = search needs
 
 add-t11 : tie.Need-add-t11
 add-t11 c =
+    let at-event : tie.After-event = search needs in
     let s : tie.Start = search needs in
     let parts = fit-parts _ _ _ (s .pre .0 .fits) in
-    omega (arith, told s (c .before .before .before .event .given .1) .0, parts .size .within, parts .size .covers)
+    omega (arith, told s (at-event .event .given .1) .0, parts .size .within, parts .size .covers)
 
 enum-known-event-2 : tie.Need-enum-known-event-2
 enum-known-event-2 c = search needs
 
 sub-t12 : tie.Need-sub-t12
 sub-t12 c =
+    let at-event2 : tie.After-event2 = search needs in
     let s : tie.Start = search needs in
-    omega (arith, told s (c .before .before .before .event2 .given .1) .0)
+    omega (arith, told s (at-event2 .event2 .given .1) .0)
 
 enum-told-9 : tie.Need-enum-told-9
 enum-told-9 c = search needs
@@ -123,14 +125,16 @@ returns-8 c =
 
 returns-9 : tie.Need-returns-9
 returns-9 c =
+    let at-event : tie.After-event = search needs in
     let s : tie.Start = search needs in
-    let p = told s (c .before .before .before .event .given .1) in
+    let p = told s (at-event .event .given .1) in
     rw (sym (p .0), sym (p .1))
 
 returns-10 : tie.Need-returns-10
 returns-10 c =
+    let at-event2 : tie.After-event2 = search needs in
     let s : tie.Start = search needs in
-    let p = told s (c .before .before .before .event2 .given .1) in
+    let p = told s (at-event2 .event2 .given .1) in
     rw (less _ _ _ (p .0), p .1)
 
 returns-11 : tie.Need-returns-11

@@ -56,12 +56,17 @@ others-fit-requires c κs =
     let each = upheld (gathered .0) (c .before .before .if3 .left) in
     (s .pre .3, s .pre .1, s .pre .2, kept-where-fit _ _ (s .pre .4) each, gathered .1 each .1)
 
+abbrev start : tie.After-others-fit → tie.Start
+start c = search needs
+
+abbrev rows-asked : tie.After-others-fit → tie.After-securities-fit
+rows-asked c = search needs
+
 returns-5 : tie.Need-returns-5
 returns-5 c =
-    let s = c .before .before .before .before .before .before .before .before .before .before .before .before .before .before .before in
-    let capacity = s .pre .4 in
-    let row = c .before .before .before .before .before .before .before .before .before .securities-fit .ensures (s .args .desk .guarantee) in
-    let gathered = gathered-where _ _ (s .pre .5) in
+    let capacity = start c .pre .4 in
+    let row = rows-asked c .securities-fit .ensures (start c .args .desk .guarantee) in
+    let gathered = gathered-where _ _ (start c .pre .5) in
     let each = upheld (gathered .0) (c .before .before .before .if3 .left) in
     let size = rw (gathered .1 each .0) at (c .before .before .size-fit .ensures) in
     by-flat-tests _ _ _ _ (search fitting depth 12)

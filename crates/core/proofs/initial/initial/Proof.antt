@@ -34,17 +34,20 @@ same-length c = search needs
 
 returns : tie.Need-returns
 returns c kinds units =
+    let at-initial-refusal : tie.After-initial-refusal = search needs in
     let s : tie.Start = search needs in
     let a = s .args in
     let causes = initialCauses (a .calendar .now) (bookOf (a .desk) (rowsOf (a .held .now) kinds units)) (tradesOf (a .table .now)) (a .terms) in
-    let said = c .before .before .initial-refusal .ensures kinds units in
+    let said = at-initial-refusal .initial-refusal .ensures kinds units in
     (turned-down causes (a .desk) (rowsOf (a .held .now) kinds units) _ _ said (c .before .if1 .taken) (c .answered .ensures) refl, rw (refused (firstOf causes) _ said (c .before .if1 .taken)) refl)
 
 begun-trade-requires : tie.Need-begun-trade-requires
 begun-trade-requires c κs = search needs
 
 put-trade-requires : tie.Need-put-trade-requires
-put-trade-requires c κs = omega (arith, begins (c .before .before) .room)
+put-trade-requires c κs =
+    let past1 : tie.Else1 = search needs in
+    omega (arith, begins past1 .room)
 
 mul-today-less : tie.Need-mul-today-less
 mul-today-less c =
@@ -74,13 +77,14 @@ same-length-2 c = search needs
 returns-2 : tie.Need-returns-2
 unfolding initialBook initialTable principal
 returns-2 c kinds units =
+    let at-today-less : tie.After-today-less = search needs in
     let at-put-trade : tie.After-put-trade = search needs in
     let at-begun-trade : tie.After-begun-trade = search needs in
     let q : tie.Else1 = search needs in
     let a = start q .args in
     let rows = rowsOf (a .held .now) kinds units in
     let none-applies = clear q kinds units in (
-      carried-out _ _ rows _ _ none-applies (c .answered2 .ensures) (rw (c .before .with-trades .ensures, c .before .before .today-less .ensures)),
+      carried-out _ _ rows _ _ none-applies (c .answered2 .ensures) (rw (c .before .with-trades .ensures, at-today-less .today-less .ensures)),
       at-put-trade .put-trade .ensures .0 ∙ rw (at-begun-trade .begun-trade .ensures rows, none-applies) refl,
     )
 

@@ -21,7 +21,9 @@ module _ (c : tie.Else2) where
   past-count : (bs : List Cause) (n : ℕ) → n ≡ numberOf (firstOf bs)
       → n ≡ numberOf (firstOf (timeCauses (bookOf (start .args .desk) noRows) ++ (countCauses (start .args .terms) ++ bs)))
   past-count bs n e =
-      group-passes _ refl (c .before .before .before .time-refusal .ensures noRows) (c .before .before .if1 .left) _ _
+      let at-time-refusal : tie.After-time-refusal = search needs in
+      let past1 : tie.Else1 = search needs in
+      group-passes _ refl (at-time-refusal .time-refusal .ensures noRows) (past1 .if1 .left) _ _
       (passes _ _ _ (asked-not (c .before .bad-count .ensures) (c .if2 .left)) e)
 
 time-refusal-requires : tie.Need-time-refusal-requires
@@ -37,7 +39,9 @@ bad-count-requires c κs = search needs
 returns-2 : tie.Need-returns-2
 unfolding initialCauses
 returns-2 c kinds units =
-    group-passes _ refl (c .before .before .before .time-refusal .ensures noRows) (c .before .before .if1 .left) _ _
+    let at-time-refusal : tie.After-time-refusal = search needs in
+    let past1 : tie.Else1 = search needs in
+    group-passes _ refl (at-time-refusal .time-refusal .ensures noRows) (past1 .if1 .left) _ _
     (applies _ _ (asked (c .before .bad-count .ensures) (c .if2 .taken)))
 
 term-refusal-requires : tie.Need-term-refusal-requires
@@ -46,16 +50,21 @@ term-refusal-requires c κs =
 
 returns-3 : tie.Need-returns-3
 unfolding initialCauses
-returns-3 c kinds units = past-count (c .before .before) _ _ (group-applies _ _ _ (c .before .term-refusal .ensures noRows) (c .if3 .taken))
+returns-3 c kinds units =
+    let past2 : tie.Else2 = search needs in
+    past-count past2 _ _ (group-applies _ _ _ (c .before .term-refusal .ensures noRows) (c .if3 .taken))
 
 slot-refusal-requires : tie.Need-slot-refusal-requires
-slot-refusal-requires c κs = fit-keeps _ _ _ (start (c .before .before) .pre .book .fits) .room
+slot-refusal-requires c κs =
+    let past2 : tie.Else2 = search needs in
+    fit-keeps _ _ _ (start past2 .pre .book .fits) .room
 
 returns-4 : tie.Need-returns-4
 unfolding initialCauses
 returns-4 c kinds units =
-    let terms = c .before .before in
-    past-count (terms .before .before) _ _
+    let past2 : tie.Else2 = search needs in
+    let terms : tie.Else3 = search needs in
+    past-count past2 _ _
     (group-passes _ refl (terms .before .term-refusal .ensures noRows) (terms .if3 .left) _ _
     (group-applies _ _ _ (c .before .slot-refusal .ensures noRows) (c .if4 .taken)))
 
@@ -68,9 +77,10 @@ sheet-refusal-requires c κs =
 returns-5 : tie.Need-returns-5
 unfolding initialCauses
 returns-5 c kinds units =
+    let past2 : tie.Else2 = search needs in
     let slots = c .before in
-    let terms = slots .before .before in
-    past-count (terms .before .before) _ _
+    let terms : tie.Else3 = search needs in
+    past-count past2 _ _
     (group-passes _ refl (terms .before .term-refusal .ensures noRows) (terms .if3 .left) _ _
     (group-passes _ refl (slots .before .slot-refusal .ensures noRows) (slots .if4 .left) _ _
     (c .sheet-refusal .ensures kinds units)))

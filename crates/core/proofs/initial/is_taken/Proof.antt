@@ -15,7 +15,7 @@ place-of-requires c κs = search needs
 
 returns : tie.Need-returns
 returns c =
-    let s = c .before .before in
+    let s : tie.Start = search needs in
     let l = tradesTo (s .args .table .now) (s .args .count) in
     let in-use : take (s .args .count) (tradesOf (s .args .table .now)) ≡ l = take-trades _ _ (omega arith) in
     rw in-use

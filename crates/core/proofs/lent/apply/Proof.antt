@@ -26,7 +26,9 @@ same-length-4 : tie.Need-same-length-4
 same-length-4 c = search needs
 
 returns : tie.Need-returns
-returns c = rw (c .answered .ensures) (sym (refused-step _ _ (refuted (c .before .before .fitness-in .ensures .0) (c .before .if1 .taken)) _), λ z. refl)
+returns c =
+    let at-fitness-in : tie.After-fitness-in = search needs in
+    rw (c .answered .ensures) (sym (refused-step _ _ (refuted (at-fitness-in .fitness-in .ensures .0) (c .before .if1 .taken)) _), λ z. refl)
 
 entry-on-requires : tie.Need-entry-on-requires
 entry-on-requires c κs =

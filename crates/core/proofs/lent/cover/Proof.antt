@@ -17,7 +17,9 @@ refused-requires : tie.Need-refused-requires
 refused-requires c κs = search needs
 
 returns : tie.Need-returns
-returns c = c .refused .ensures ∙ sym (refused-cover _ _ (refuted (c .before .before .fitness-in .ensures .0) (c .before .if1 .taken)))
+returns c =
+    let at-fitness-in : tie.After-fitness-in = search needs in
+    c .refused .ensures ∙ sym (refused-cover _ _ (refuted (at-fitness-in .fitness-in .ensures .0) (c .before .if1 .taken)))
 
 figures-of-requires : tie.Need-figures-of-requires
 figures-of-requires c κs =
@@ -26,13 +28,16 @@ figures-of-requires c κs =
 
 cover-from-requires : tie.Need-cover-from-requires
 cover-from-requires c κs =
-    let found = fit-in _ _ (upheld (c .before .before .fitness-in .ensures .0) (c .before .if1 .left)) in
+    let at-fitness-in : tie.After-fitness-in = search needs in
+    let found = fit-in _ _ (upheld (at-fitness-in .fitness-in .ensures .0) (c .before .if1 .left)) in
     let size = fit-parts _ _ _ (found .fits) .size in
     (size .within, rw (c .figures-of .ensures) (omega (arith, size .within, size .covers)))
 
 returns-2 : tie.Need-returns-2
 returns-2 c =
-    let found = fit-in _ _ (upheld (c .before .before .before .fitness-in .ensures .0) (c .before .before .if1 .left)) in
+    let at-fitness-in : tie.After-fitness-in = search needs in
+    let past1 : tie.Else1 = search needs in
+    let found = fit-in _ _ (upheld (at-fitness-in .fitness-in .ensures .0) (past1 .if1 .left)) in
     c .cover-from .ensures
     ∙ counted-from _ _ _ (c .before .figures-of .ensures)
     ∙ sym (by-cover _ _ (found .whole) ∙ fit-cover _ _ _ (not-unfit _ _ _ (found .fits) (found .few)))

@@ -1,3 +1,4 @@
+use borrow.Author.Needs.{needs}
 use mathlib.Core.Path.{refl}
 use borrow.Author.Tests.{eq-eqb, ne-eqb}
 use Rattle.core.specs.Lent.{isWhole}
@@ -17,13 +18,15 @@ returns-2 c = test-holds _ _ _ (eq-eqb _ _ (c .before .if1 .left)) (test-fails _
 returns-3 : tie.Need-returns-3
 unfolding isWhole
 returns-3 c =
-    test-holds _ _ _ (eq-eqb _ _ (c .before .before .if1 .left))
+    let past1 : tie.Else1 = search needs in
+    test-holds _ _ _ (eq-eqb _ _ (past1 .if1 .left))
     (test-holds _ _ _ (eq-eqb _ _ (c .before .if2 .left)) (test-fails _ _ (ne-eqb _ _ (c .if3 .taken))))
 
 returns-4 : tie.Need-returns-4
 unfolding isWhole
 returns-4 c =
-    test-holds _ _ _ (eq-eqb _ _ (c .before .before .if1 .left))
+    let past1 : tie.Else1 = search needs in
+    test-holds _ _ _ (eq-eqb _ _ (past1 .if1 .left))
     (test-holds _ _ _ (eq-eqb _ _ (c .before .if2 .left)) (test-holds _ _ _ (eq-eqb _ _ (c .if3 .left)) (last-test _ _ refl)))
 
 pub is-whole-spec : {M : Type 1} → statement M

@@ -15,13 +15,15 @@ same-length c = search needs
 
 returns : tie.Need-returns
 returns c =
+    let at-put-trade : tie.After-put-trade = search needs in
     let in1 : tie.Then1 = search needs in
-    let put = c .before .before .put-trade in
+    let put = at-put-trade .put-trade in
     (put .ensures .0, λ k h. put .ensures .1 k (omega (arith, h, in1 .if1 .taken)))
 
 returns-2 : tie.Need-returns-2
 returns-2 c =
-    let a = c .before .before .args in
+    let s : tie.Start = search needs in
+    let a = s .args in
     (sym (set-out (tradesOf (a .table .now)) (a .place) (a .trade) (omega (arith, c .if1 .left, length-trades (a .table .now) (capacity (a .table .now))))), λ k h. refl)
 
 pub put-trade-spec : {M : Type 1} → statement M

@@ -43,7 +43,9 @@ same-length-8 c = search needs
 
 returns-2 : tie.Need-returns-2
 returns-2 c =
-    let found = fit-in _ _ (upheld (c .before .before .before .fitness-in .ensures .0) (c .before .before .if1 .left)) in
+    let at-fitness-in : tie.After-fitness-in = search needs in
+    let past1 : tie.Else1 = search needs in
+    let found = fit-in _ _ (upheld (at-fitness-in .fitness-in .ensures .0) (past1 .if1 .left)) in
     let told = bad-lengths _ _ _ _ _ (not-unfit _ _ _ (found .fits) (found .few)) _ (c .before .lengths-refusal .ensures) (c .if2 .taken) in
     (run-parts _ _ _ _ (told .0) (told .1) (told .2) ∙ sym (by-run _ _ _ _ (found .whole)), λ z. refl)
 

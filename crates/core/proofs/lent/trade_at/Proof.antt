@@ -13,7 +13,8 @@ no-trade-requires c κs = search needs
 
 returns : tie.Need-returns
 returns c =
-    let a = c .before .before .before .args in
+    let s : tie.Start = search needs in
+    let a = s .args in
     c .no-trade .ensures ∙ sym (List·getD-eq-default (tradesOf (a .table .now)) noTrade (omega (arith, c .before .if1 .taken, length-trades (a .table .now) (capacity (a .table .now)))))
 
 trade-at-requires : tie.Need-trade-at-requires

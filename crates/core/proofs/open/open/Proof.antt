@@ -31,8 +31,9 @@ answered-requires c κs = search needs
 
 returns : tie.Need-returns
 returns c rows =
+    let at-is-closed : tie.After-is-closed = search needs in
     let s : tie.Start = search needs in
-    let e = not-closed (now (s .args .calendar)) (bookOf (s .args .desk) rows) (tradesOf (now (s .args .table))) (sym (c .before .before .is-closed .ensures) ∙ not-true _ (c .before .if1 .taken)) in
+    let e = not-closed (now (s .args .calendar)) (bookOf (s .args .desk) rows) (tradesOf (now (s .args .table))) (sym (at-is-closed .is-closed .ensures) ∙ not-true _ (c .before .if1 .taken)) in
     (rw (c .answered .ensures, e), rw e)
 
 opens-requires : tie.Need-opens-requires
@@ -43,7 +44,7 @@ answered-requires-2 c κs = search needs
 
 returns-2 : tie.Need-returns-2
 returns-2 c rows =
-    let q = c .before .before in
+    let q : tie.After-opens = search needs in
     let s : tie.Start = search needs in
     let e = no-day-to-open (now (s .args .calendar)) (bookOf (s .args .desk) rows) (tradesOf (now (s .args .table))) (closed (q .before)) (sym (q .opens .ensures) ∙ not-true _ (c .before .if2 .taken)) in
     (rw (c .answered2 .ensures, e), rw e)
@@ -56,12 +57,13 @@ turns-terminated-requires c κs = ap (λ (standing : Standing). standing .status
 
 terminated-requires : tie.Need-terminated-requires
 terminated-requires c κs =
-    let t = c .before .before in
-    let q = t .before .before in
+    let past1 : tie.Else1 = search needs in
+    let t : tie.After-turns-terminated = search needs in
+    let q : tie.Else2 = search needs in
     let s : tie.Start = search needs in
     record {
       opening = record { book = s .pre; follows = follows q; opened = t .before .opened-standing .ensures };
-      closed = closed (q .before .before);
+      closed = closed past1;
       ended = sym (t .turns-terminated .ensures) ∙ c .before .if3 .taken;
     }
 
@@ -77,11 +79,12 @@ answered-requires-3 c κs = search needs
 returns-4 : tie.Need-returns-4
 unfolding openedBook openedTable
 returns-4 c rows =
-    let t = c .before .before in
-    let q = t .before .before in
+    let past1 : tie.Else1 = search needs in
+    let t : tie.After-turns-terminated = search needs in
+    let q : tie.Else2 = search needs in
     let s : tie.Start = search needs in
     let stays = sym (t .turns-terminated .ensures) ∙ c .before .if3 .left in
-    let e = none-unless-ended (now (s .args .calendar)) (bookOf (s .args .desk) rows) (tradesOf (now (s .args .table))) (closed (q .before .before)) (follows q) stays in
+    let e = none-unless-ended (now (s .args .calendar)) (bookOf (s .args .desk) rows) (tradesOf (now (s .args .table))) (closed past1) (follows q) stays in
     (rw (c .answered3 .ensures, e, t .before .opened-standing .ensures, stays), rw (e, stays))
 
 pub open-spec : {M : Type 1} → statement M

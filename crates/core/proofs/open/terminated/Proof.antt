@@ -38,7 +38,7 @@ same-length c = search needs
 
 returns : tie.Need-returns
 returns c rows =
-    let q = c .before .before in
+    let q : tie.After-cleared-fit = search needs in
     let s : tie.Start = search needs in
     let e = net-too-large (now (s .args .calendar)) (bookOf (s .args .desk) rows) (tradesOf (now (s .args .table))) (s .pre .closed) (s .pre .opening .follows) (s .pre .ended) (net-tested q rows ∙ not-true _ (c .before .if1 .taken)) in
     (rw (c .answered .ensures, e), rw e)
@@ -57,13 +57,14 @@ same-length-2 c = search needs
 returns-2 : tie.Need-returns-2
 unfolding openedBook openedTable
 returns-2 c rows =
-    let r = c .before .before .before in
-    let q = r .before .before .before in
+    let past1 : tie.Else1 = search needs in
+    let r : tie.After-redeem-due = search needs in
+    let q : tie.After-cleared-fit = search needs in
     let s : tie.Start = search needs in
     let calendar = now (s .args .calendar) in
     let table = now (s .args .table) in
     let ended = s .pre .ended in
-    let e = none-within-net calendar (bookOf (s .args .desk) rows) (tradesOf table) (s .pre .closed) (s .pre .opening .follows) ended (net-tested q rows ∙ not-false _ (r .before .before .if1 .left)) in (
+    let e = none-within-net calendar (bookOf (s .args .desk) rows) (tradesOf table) (s .pre .closed) (s .pre .opening .follows) ended (net-tested q rows ∙ not-false _ (past1 .if1 .left)) in (
       rw (c .answered2 .ensures, e, q .before .with-fallbacks .ensures rows, s .pre .opening .opened, ended),
       r .redeem-due .ensures ∙ rw (e, ended, fit-in-use calendar (book s) table (s .pre .opening .book .fits), all-due table (s .args .desk .trades)),
     )

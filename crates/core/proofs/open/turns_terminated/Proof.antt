@@ -18,8 +18,10 @@ is-terminated-requires-2 c κs = search needs
 returns-2 : tie.Need-returns-2
 unfolding turnsTerminated
 returns-2 c =
-    rw (sym (c .before .before .is-terminated .ensures) ∙ c .before .if1 .left)
-    (c .is-terminated2 .ensures ∙ ap isTerminated (c .before .before .before .pre))
+    let at-is-terminated : tie.After-is-terminated = search needs in
+    let s : tie.Start = search needs in
+    rw (sym (at-is-terminated .is-terminated .ensures) ∙ c .before .if1 .left)
+    (c .is-terminated2 .ensures ∙ ap isTerminated (s .pre))
 
 pub turns-terminated-spec : {M : Type 1} → statement M
 turns-terminated-spec = tie.close (tie.spec is-terminated-requires returns is-terminated-requires-2 returns-2)

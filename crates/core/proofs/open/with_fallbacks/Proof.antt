@@ -37,9 +37,10 @@ cleared-plus-requires c κs =
 
 returns : tie.Need-returns
 returns c rows =
+    let at-payment-day : tie.After-payment-day = search needs in
     let s : tie.Start = search needs in
     c .cleared-plus .ensures
-    ∙ rw (c .before .fallback-total .ensures, c .before .before .payment-day .ensures, s .pre .opened, fit-in-use (now (s .args .calendar)) (book s) (now (s .args .table)) (s .pre .book .fits))
+    ∙ rw (c .before .fallback-total .ensures, at-payment-day .payment-day .ensures, s .pre .opened, fit-in-use (now (s .args .calendar)) (book s) (now (s .args .table)) (s .pre .book .fits))
 
 pub with-fallbacks-spec : {M : Type 1} → statement M
 with-fallbacks-spec =

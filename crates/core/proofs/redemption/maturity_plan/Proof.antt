@@ -15,8 +15,14 @@ Inv-loop table count today payment sheets₀ amount₀ i₀ sheets amount i = (i
 abbrev μ-loop : tie.MeasureT-loop
 μ-loop table count today payment sheets₀ amount₀ i₀ sheets amount i = count - i
 
+abbrev args : tie.After-redeemed-for Inv-loop μ-loop → tie.Start Inv-loop μ-loop
+args c = search needs
+
+abbrev turn : tie.After-redeemed-for Inv-loop μ-loop → tie.At-loop Inv-loop μ-loop
+turn c = search needs
+
 paid : (c : tie.After-redeemed-for Inv-loop μ-loop)
-    → c .redeemed-for .result ≡ maturityAmount (c .before .before .before .before .before .before .args .today) (c .before .before .before .before .before .before .args .payment) (tradeAt (c .before .before .before .before .before .before .args .table .now) (c .before .before .before .before .loop .i))
+    → (let a = args c .args in c .redeemed-for .result ≡ maturityAmount (a .today) (a .payment) (tradeAt (a .table .now) (turn c .loop .i)))
 paid c = rw (c .before .price-at .ensures, c .before .before .maturing-at .ensures) at (c .redeemed-for .ensures)
 
 loop-holds : tie.Need-loop-holds Inv-loop μ-loop

@@ -112,8 +112,9 @@ same-length-5 c = search needs
 
 returns : tie.Need-returns Inv-loop μ-loop
 returns c =
+    let at-loop-at : tie.At-loop Inv-loop μ-loop = search needs in
     let s : tie.Start Inv-loop μ-loop = search needs in
-    all-run _ _ _ _ _ _ _ _ _ _ refl (c .before .before .loop .inv .0) (c .before .loop-test .left) (omega (arith, s .pre .1))
+    all-run _ _ _ _ _ _ _ _ _ _ refl (at-loop-at .loop .inv .0) (c .before .loop-test .left) (omega (arith, s .pre .1))
 
 pub run-events-spec : {M : Type 1} → statement M
 run-events-spec =
