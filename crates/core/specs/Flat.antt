@@ -175,6 +175,13 @@ pub record Redeemable (table : List ℕ) (count payment : ℕ) : Type 0 where
   pub begun : allTrades (λ trade. leb (trade .first) payment) (tradesTo table count) ≡ true
   pub term : payment ≤ termLimit
 
+-- the test of a book: rows of their lengths, and a calendar within its limit
+pub record RowsLong (calendar : Calendar) (held kinds units : List ℕ) : Type 0 where
+  pub held-long : length held ≡ heldLength
+  pub kinds-long : length kinds ≡ applicationLimit
+  pub units-long : length units ≡ applicationLimit
+  pub few : length calendar ≤ calendarLimit
+
 -- Open: there is a day to go to, and this is how the firm stands on it
 pub record Opening (calendar : Calendar) (desk : Desk) (table : List Trade) (after : Standing) : Type 0 where
   pub book : Fits calendar desk table
@@ -198,8 +205,8 @@ pub record Running (calendar : Calendar) (desk : Desk) (table : List ℕ) (place
   pub below : place < desk .trades
   pub cheap : price .0 ≤ priceLimit
 
--- Close: the evening of a book that is fit
-pub record EveningFits (desk : Desk) (held kinds units : List ℕ) : Type 0 where
+-- Withdraw and Close: rows of their lengths that are fit, and the cash
+pub record RowsFit (desk : Desk) (held kinds units : List ℕ) : Type 0 where
   pub held-long : length held ≡ heldLength
   pub kinds-long : length kinds ≡ applicationLimit
   pub units-long : length units ≡ applicationLimit

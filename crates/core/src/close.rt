@@ -15,7 +15,7 @@ ghost use Rattle.rules.specs.Book.{noApplications};
 ghost use Rattle.rules.specs.Close.{mayClose, maturedTrades, maturedSheets, clearedAtClose, served, evening as eveningOf, shortMore, shortAtClose, closedStanding, closeCauses, closedBook, closedTable};
 ghost use Rattle.rules.specs.Trades.{outstanding, remaining};
 ghost use Rattle.core.specs.Types.{Trade};
-ghost use Rattle.core.specs.Flat.{FitsWhole, EveningFits, Rows, vaultOf, securitiesOf, rowsOf, bookOf, eveningAt, appliedAt, tradesOf, closedBy, tableBy, Kept, heldLength};
+ghost use Rattle.core.specs.Flat.{FitsWhole, RowsFit, Rows, vaultOf, securitiesOf, rowsOf, bookOf, eveningAt, appliedAt, tradesOf, closedBy, tableBy, Kept, heldLength};
 use crate::days;
 use crate::evening;
 use crate::evening::Evened;
@@ -108,7 +108,7 @@ fn clear(kinds: &mut [u8], units: &mut [u64])
 
 // The evening's end, with the sheets of the trades that part (a) leaves.
 fn evening_end(desk: Desk, held: &mut [u64], kinds: &[u8], units: &[u64], left: u64) -> Evened
-    requires { ⌜ EveningFits desk (now held) (now kinds) (now units) ⌝ }
+    requires { ⌜ RowsFit desk (now held) (now kinds) (now units) ⌝ }
     ensures { λ r.
         let book = bookOf desk (rowsOf (now (held .entry)) (now (kinds .entry)) (now (units .entry))) in
         ⌜ ((trades : List Trade) → left ≡ outstanding trades → eveningAt r (securitiesOf (now (held .exit))) ≡ eveningOf book trades) ⌝ }
@@ -183,7 +183,7 @@ fn closed(
     matured: u64,
     cleared: Nets,
 ) -> Done
-    requires { ⌜ (EveningFits desk (now held) (now kinds) (now units)) × (Kept (now table) (desk .trades)) ⌝ }
+    requires { ⌜ (RowsFit desk (now held) (now kinds) (now units)) × (Kept (now table) (desk .trades)) ⌝ }
     ensures { λ r.
         let book = bookOf desk (rowsOf (now (held .entry)) (now (kinds .entry)) (now (units .entry))) in
         let trades = tradesOf (now (table .entry)) in

@@ -10,7 +10,7 @@ ghost use Rattle.rules.specs.Folds.{every};
 ghost use Rattle.rules.specs.Trades.{differ};
 ghost use Rattle.rules.specs.Fit.{capacityFit, sizeFit, netsFit, withdrawalsFit, unopenedFit, openedFit, dayFit, fit};
 ghost use Rattle.core.specs.Types.{Trade};
-ghost use Rattle.core.specs.Flat.{rowsOf, bookOf, tradesTo, tradesOf, Kept, heldLength};
+ghost use Rattle.core.specs.Flat.{RowsLong, rowsOf, bookOf, tradesTo, tradesOf, Kept};
 ghost use Rattle.core.specs.Figures.{outstandingAt, latestFirst, gatheredOf};
 use crate::days;
 use crate::flat;
@@ -141,10 +141,7 @@ fn is_fit(
     table: &[u64],
     gathered: Gathered,
 ) -> bool
-    requires { ⌜ (length (now held) ≡ heldLength)
-        × (length (now kinds) ≡ applicationLimit)
-        × (length (now units) ≡ applicationLimit)
-        × (length (now calendar) ≤ calendarLimit)
+    requires { ⌜ (RowsLong (now calendar) (now held) (now kinds) (now units))
         × (capacityFit (desk .trades) (tradesOf (now table)) ≡ true)
         × (gathered ≡ gatheredOf (tradesTo (now table) (desk .trades))) ⌝ }
     ensures { λ r.
@@ -184,7 +181,7 @@ pub fn fitness_of(
     units: &[u64],
     table: &[u64],
 ) -> Fitness
-    requires { ⌜ (length (now held) ≡ heldLength) × (length (now kinds) ≡ applicationLimit) × (length (now units) ≡ applicationLimit) × (length (now calendar) ≤ calendarLimit) ⌝ }
+    requires { ⌜ RowsLong (now calendar) (now held) (now kinds) (now units) ⌝ }
     ensures { λ r.
         let trades = tradesOf (now (table .entry)) in
         ⌜ (r .fit ≡ fit (now (calendar .entry)) (bookOf desk (rowsOf (now (held .entry)) (now (kinds .entry)) (now (units .entry)))) trades)

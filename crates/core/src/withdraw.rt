@@ -3,13 +3,10 @@ ghost use mathlib.Core.Path.{_≡_};
 ghost use mathlib.Core.Bool.{true};
 ghost use Prim.Native.Nat.{_+_, _≤_};
 ghost use lib.Dec.{ltb};
-ghost use lib.ListN.{length};
 ghost use Rattle.money.specs.Causes.{firstOf, numberOf};
-ghost use Rattle.rules.specs.Limits.{applicationLimit};
-ghost use Rattle.rules.specs.Fit.{withdrawalsFit, securitiesFit, cashFit};
 ghost use Rattle.rules.specs.Vault.{effectiveOf, frozenOf};
 ghost use Rattle.rules.specs.Withdraw.{applied, withdrawCauses, withdrawn};
-ghost use Rattle.core.specs.Flat.{rowsOf, bookOf, appliedBy, appliedAt, heldLength};
+ghost use Rattle.core.specs.Flat.{RowsFit, rowsOf, bookOf, appliedBy, appliedAt};
 use crate::vault;
 use desk::done;
 use desk::done::Done;
@@ -20,11 +17,7 @@ use rules::limits::APPLICATION_LIMIT;
 // Whether the units, with those frozen and applied for, are above the effective. The units are tested first: any number may be applied for,
 // and the sum of the three is then below 2^64.
 fn lacks(desk: Desk, held: &[u64], kinds: &[u8], units: &[u64], kind: u8, amount: u64) -> bool
-    requires { ⌜ (length (now held) ≡ heldLength) × (length (now kinds) ≡ applicationLimit) × (length (now units) ≡ applicationLimit) × (kind ≤ 32) ⌝ }
-    requires { let book = bookOf desk (rowsOf (now held) (now kinds) (now units)) in
-        ⌜ (withdrawalsFit (book .withdrawals) ≡ true)
-        × (securitiesFit (book .vault) ≡ true)
-        × (cashFit (desk .cash) (desk .guarantee) ≡ true) ⌝ }
+    requires { ⌜ (RowsFit desk (now held) (now kinds) (now units)) × (kind ≤ 32) ⌝ }
     ensures { λ r.
         let book = bookOf desk (rowsOf (now (held .entry)) (now (kinds .entry)) (now (units .entry))) in
         ⌜ r ≡ ltb (effectiveOf (book .vault) kind) (amount + frozenOf (book .vault) kind + applied (book .withdrawals) kind) ⌝ }
@@ -46,11 +39,7 @@ fn withdraw_refusal(
     kind: u8,
     amount: u64,
 ) -> u8
-    requires { ⌜ (length (now held) ≡ heldLength) × (length (now kinds) ≡ applicationLimit) × (length (now units) ≡ applicationLimit) ⌝ }
-    requires { let book = bookOf desk (rowsOf (now held) (now kinds) (now units)) in
-        ⌜ (withdrawalsFit (book .withdrawals) ≡ true)
-        × (securitiesFit (book .vault) ≡ true)
-        × (cashFit (desk .cash) (desk .guarantee) ≡ true) ⌝ }
+    requires { ⌜ RowsFit desk (now held) (now kinds) (now units) ⌝ }
     ensures { λ r.
         let book = bookOf desk (rowsOf (now (held .entry)) (now (kinds .entry)) (now (units .entry))) in
         let cause = firstOf (withdrawCauses book kind amount) in
@@ -86,11 +75,7 @@ pub fn withdraw(
     kind: u8,
     amount: u64,
 ) -> Done
-    requires { ⌜ (length (now held) ≡ heldLength) × (length (now kinds) ≡ applicationLimit) × (length (now units) ≡ applicationLimit) ⌝ }
-    requires { let book = bookOf desk (rowsOf (now held) (now kinds) (now units)) in
-        ⌜ (withdrawalsFit (book .withdrawals) ≡ true)
-        × (securitiesFit (book .vault) ≡ true)
-        × (cashFit (desk .cash) (desk .guarantee) ≡ true) ⌝ }
+    requires { ⌜ RowsFit desk (now held) (now kinds) (now units) ⌝ }
     ensures { λ r.
         let book = bookOf desk (rowsOf (now (held .entry)) (now (kinds .entry)) (now (units .entry))) in
         ⌜ appliedAt r (rowsOf (now (held .entry)) (now (kinds .exit)) (now (units .exit)))

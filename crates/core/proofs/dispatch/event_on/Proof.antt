@@ -99,7 +99,14 @@ enum-known-event-7 c = search needs
 withdraw-requires : tie.Need-withdraw-requires
 withdraw-requires c κs =
     let s : tie.Start = search needs in
-    ((s .pre .book .held-long, s .pre .book .kinds-long, s .pre .book .units-long), (withdrawals s, securities s, cash s))
+    record {
+      held-long = s .pre .book .held-long;
+      kinds-long = s .pre .book .kinds-long;
+      units-long = s .pre .book .units-long;
+      withdrawals = withdrawals s;
+      securities = securities s;
+      cash = cash s;
+    }
 
 enum-known-event-8 : tie.Need-enum-known-event-8
 enum-known-event-8 c = search needs

@@ -25,7 +25,7 @@ gather-requires c κs =
 is-fit-requires : tie.Need-is-fit-requires
 is-fit-requires c κs =
     let s : tie.Start = search needs in
-    (s .pre .0, s .pre .1, s .pre .2, s .pre .3, upheld (c .before .before .capacity-fit .ensures) (c .before .if1 .left), c .gather .ensures)
+    (s .pre, upheld (c .before .before .capacity-fit .ensures) (c .before .if1 .left), c .gather .ensures)
 
 returns-2 : tie.Need-returns-2
 returns-2 c =

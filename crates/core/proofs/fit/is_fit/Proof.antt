@@ -11,7 +11,7 @@ securities-fit-requires c κs = search needs
 returns : tie.Need-returns
 returns c =
     let s : tie.Start = search needs in
-    let capacity = s .pre .4 in
+    let capacity = s .pre .1 in
     let row = c .before .securities-fit .ensures (s .args .desk .guarantee) in
     by-flat-tests _ _ _ _ (search fitting depth 12)
 
@@ -22,7 +22,7 @@ returns-2 : tie.Need-returns-2
 returns-2 c =
     let at-securities-fit : tie.After-securities-fit = search needs in
     let s : tie.Start = search needs in
-    let capacity = s .pre .4 in
+    let capacity = s .pre .1 in
     let row = at-securities-fit .securities-fit .ensures (s .args .desk .guarantee) in
     by-flat-tests _ _ _ _ (search fitting depth 12)
 
@@ -30,9 +30,9 @@ returns-3 : tie.Need-returns-3
 returns-3 c =
     let at-securities-fit : tie.After-securities-fit = search needs in
     let s : tie.Start = search needs in
-    let capacity = s .pre .4 in
+    let capacity = s .pre .1 in
     let row = at-securities-fit .securities-fit .ensures (s .args .desk .guarantee) in
-    let each = gathered-where _ _ (s .pre .5) .0 in
+    let each = gathered-where _ _ (s .pre .2) .0 in
     by-flat-tests _ _ _ _ (search fitting depth 12)
 
 size-fit-requires : tie.Need-size-fit-requires
@@ -42,9 +42,9 @@ returns-4 : tie.Need-returns-4
 returns-4 c =
     let at-securities-fit : tie.After-securities-fit = search needs in
     let s : tie.Start = search needs in
-    let capacity = s .pre .4 in
+    let capacity = s .pre .1 in
     let row = at-securities-fit .securities-fit .ensures (s .args .desk .guarantee) in
-    let gathered = gathered-where _ _ (s .pre .5) in
+    let gathered = gathered-where _ _ (s .pre .2) in
     let each = upheld (gathered .0) (c .before .before .if3 .left) in
     let size = rw (gathered .1 each .0) at (c .before .size-fit .ensures) in
     by-flat-tests _ _ _ _ (search fitting depth 12)
@@ -52,9 +52,9 @@ returns-4 c =
 others-fit-requires : tie.Need-others-fit-requires
 others-fit-requires c κs =
     let s : tie.Start = search needs in
-    let gathered = gathered-where _ _ (s .pre .5) in
+    let gathered = gathered-where _ _ (s .pre .2) in
     let each = upheld (gathered .0) (c .before .before .if3 .left) in
-    (s .pre .3, s .pre .1, s .pre .2, kept-where-fit _ _ (s .pre .4) each, gathered .1 each .1)
+    (s .pre .0 .few, s .pre .0 .kinds-long, s .pre .0 .units-long, kept-where-fit _ _ (s .pre .1) each, gathered .1 each .1)
 
 abbrev start : tie.After-others-fit → tie.Start
 start c = search needs
@@ -64,9 +64,9 @@ rows-asked c = search needs
 
 returns-5 : tie.Need-returns-5
 returns-5 c =
-    let capacity = start c .pre .4 in
+    let capacity = start c .pre .1 in
     let row = rows-asked c .securities-fit .ensures (start c .args .desk .guarantee) in
-    let gathered = gathered-where _ _ (start c .pre .5) in
+    let gathered = gathered-where _ _ (start c .pre .2) in
     let each = upheld (gathered .0) (c .before .before .before .if3 .left) in
     let size = rw (gathered .1 each .0) at (c .before .before .size-fit .ensures) in
     by-flat-tests _ _ _ _ (search fitting depth 12)

@@ -6,9 +6,9 @@ use native.Mathlib.Omega.{arith}
 use borrow.Author.Needs.{needs}
 use borrow.Author.Tests.{ltb-false, eq-eqb, ne-eqb}
 use Rattle.money.specs.Causes.{firstOf}
-use Rattle.money.proofs.Refusals.{failed}
 use Rattle.rules.specs.Freeze.{freezeCauses, frozen}
 use Rattle.rules.specs.Step.{eventCauses}
+use Rattle.rules.proofs.Accepted.{all-clear}
 use Rattle.core.specs.Types.{Book, Freeze}
 use Rattle.core.specs.Flat.{rowsOf, bookOf}
 use Rattle.core.proofs.HeldLaws.{security-at-row}
@@ -27,7 +27,7 @@ none-applies c kinds amounts =
 
 known-kind : (book : Book) (kind units : ℕ) → firstOf (freezeCauses book kind units) ≡ none → kind ≤ 32
 unfolding freezeCauses
-known-kind book kind units e = ltb-false 32 kind (failed (freezeCauses book kind units) e 3 .0 refl)
+known-kind book kind units e = ltb-false 32 kind (all-clear (freezeCauses book kind units) e 3)
 
 -- a kind that is not cash is a security
 security-kind : (c : tie.Else2) → start (c .before) .args .kind < 32

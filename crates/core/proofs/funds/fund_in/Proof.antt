@@ -8,10 +8,10 @@ use borrow.Author.Tests.{ltb-false}
 use Rattle.money.specs.Limits.{cashLimit}
 use Rattle.money.specs.declared.units.Fen.{Fen}
 use Rattle.money.specs.Causes.{firstOf}
-use Rattle.money.proofs.Refusals.{failed}
 use Rattle.rules.specs.Fit.{allCash}
 use Rattle.rules.specs.Funds.{holds, fundInCauses, fundedIn}
 use Rattle.rules.specs.Step.{eventCauses}
+use Rattle.rules.proofs.Accepted.{all-clear}
 use Rattle.core.specs.Types.{Book, Account, Own, Client, FundIn}
 use Rattle.core.specs.Flat.{Rows, bookOf}
 use Rattle.core.proofs.Refusing.{noRows, turned-down, carried-out, done}
@@ -27,7 +27,7 @@ none-applies c rows =
 -- an account holds at most all cash, so that there is room for the amount
 room : (book : Book) (account : Account) (amount : Fen) → firstOf (fundInCauses book account amount) ≡ none → holds account (book .cash) + amount .0 ≤ cashLimit
 unfolding fundInCauses
-room book account amount e = go account (ltb-false cashLimit (allCash (book .cash) (book .vault .guarantee) + amount .0) (failed (fundInCauses book account amount) e 14 .1 .0 refl))
+room book account amount e = go account (ltb-false cashLimit (allCash (book .cash) (book .vault .guarantee) + amount .0) (all-clear (fundInCauses book account amount) e 14))
   where
     go : (account : Account) → allCash (book .cash) (book .vault .guarantee) + amount .0 ≤ cashLimit → holds account (book .cash) + amount .0 ≤ cashLimit
     go Own h = omega arith

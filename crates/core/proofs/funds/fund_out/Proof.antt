@@ -7,9 +7,9 @@ use borrow.Author.Needs.{needs}
 use borrow.Author.Tests.{ltb-false}
 use Rattle.money.specs.declared.units.Fen.{Fen}
 use Rattle.money.specs.Causes.{firstOf}
-use Rattle.money.proofs.Refusals.{failed}
 use Rattle.rules.specs.Funds.{holds, fundOutCauses, fundedOut}
 use Rattle.rules.specs.Step.{eventCauses}
+use Rattle.rules.proofs.Accepted.{all-clear}
 use Rattle.core.specs.Types.{Book, Account, FundOut}
 use Rattle.core.specs.Flat.{Rows, bookOf}
 use Rattle.core.proofs.Refusing.{noRows, turned-down, carried-out, done}
@@ -24,7 +24,7 @@ none-applies c rows =
 
 covered : (book : Book) (account : Account) (amount : Fen) → firstOf (fundOutCauses book account amount) ≡ none → amount .0 ≤ holds account (book .cash)
 unfolding fundOutCauses
-covered book account amount e = ltb-false (holds account (book .cash)) (amount .0) (failed (fundOutCauses book account amount) e 13 .1 .0 refl)
+covered book account amount e = ltb-false (holds account (book .cash)) (amount .0) (all-clear (fundOutCauses book account amount) e 13)
 
 fund-out-refusal-requires : tie.Need-fund-out-refusal-requires
 fund-out-refusal-requires c κs = search needs

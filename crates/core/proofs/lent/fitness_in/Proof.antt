@@ -42,7 +42,7 @@ fitness-of-requires c κs =
     let at-is-whole : tie.After-is-whole = search needs in
     let past1 : tie.Else1 = search needs in
     let long = lengths _ (upheld (at-is-whole .is-whole .ensures) (past1 .if1 .left)) in
-    (long .held, long .kinds, long .units, few c)
+    record { held-long = long .held; kinds-long = long .kinds; units-long = long .units; few = few c }
 
 returns-3 : tie.Need-returns-3
 returns-3 c =

@@ -7,11 +7,11 @@ use borrow.Author.Needs.{needs}
 use borrow.Author.Tests.{ltb-false, eq-eqb, ne-eqb}
 use Rattle.money.specs.Limits.{unitLimit}
 use Rattle.money.specs.Causes.{firstOf}
-use Rattle.money.proofs.Refusals.{failed}
 use Rattle.rules.specs.Vault.{securityAt}
 use Rattle.rules.specs.Pledge.{pledgeCauses, pledged}
 use Rattle.rules.specs.Step.{eventCauses}
 use Rattle.rules.proofs.FitParts.{cash-fits}
+use Rattle.rules.proofs.Accepted.{all-clear}
 use Rattle.core.specs.Types.{Book, Pledge}
 use Rattle.core.specs.Flat.{rowsOf, bookOf}
 use Rattle.core.proofs.HeldLaws.{security-at-row}
@@ -32,17 +32,17 @@ none-applies c kinds amounts =
 module _ (book : Book) (kind units : ℕ) (e : firstOf (pledgeCauses book kind units) ≡ none) where
   known-kind : kind ≤ 32
   unfolding pledgeCauses
-  known-kind = ltb-false 32 kind (failed (pledgeCauses book kind units) e 3 .0 refl)
+  known-kind = ltb-false 32 kind (all-clear (pledgeCauses book kind units) e 3)
 
   owned : kind ≡ 32 → units ≤ book .cash .own .0
   unfolding pledgeCauses
-  owned cash = ltb-false (book .cash .own .0) units (rw (eq-eqb kind 32 cash) at (failed (pledgeCauses book kind units) e 13 .1 .1 .1 .0 refl))
+  owned cash = ltb-false (book .cash .own .0) units (rw (eq-eqb kind 32 cash) at (all-clear (pledgeCauses book kind units) e 13))
 
   room : (kind ≡ 32 → ⊥) → securityAt (book .vault) kind .effective + securityAt (book .vault) kind .arriving + units ≤ unitLimit
   unfolding pledgeCauses
   room other =
       let security = securityAt (book .vault) kind in
-      ltb-false unitLimit (security .effective + security .arriving + units) (rw (ne-eqb kind 32 other) at (failed (pledgeCauses book kind units) e 14 .1 .1 .1 .1 .0 refl))
+      ltb-false unitLimit (security .effective + security .arriving + units) (rw (ne-eqb kind 32 other) at (all-clear (pledgeCauses book kind units) e 14))
 
 covered : (c : tie.Then2) → (let a = start (c .before) .args in a .units ≤ a .desk .cash .own .0)
 covered c =

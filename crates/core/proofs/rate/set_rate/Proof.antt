@@ -5,9 +5,9 @@ use Prim.Native.Nat.{ℕ, _<_}
 use borrow.Author.Needs.{needs}
 use borrow.Author.Tests.{leb-false}
 use Rattle.money.specs.Causes.{firstOf}
-use Rattle.money.proofs.Refusals.{failed}
 use Rattle.rules.specs.Rate.{rateCauses, rated}
 use Rattle.rules.specs.Step.{eventCauses}
+use Rattle.rules.proofs.Accepted.{all-clear}
 use Rattle.core.specs.Types.{Rate}
 use Rattle.core.specs.Flat.{rowsOf, bookOf}
 use Rattle.core.proofs.HeldLaws.{security-at-row}
@@ -23,7 +23,7 @@ none-applies c =
 
 security-kind : (kind rate : ℕ) → firstOf (rateCauses kind rate) ≡ none → kind < 32
 unfolding rateCauses
-security-kind kind rate e = leb-false 32 kind (failed (rateCauses kind rate) e 3 .0 refl)
+security-kind kind rate e = leb-false 32 kind (all-clear (rateCauses kind rate) e 3)
 
 rate-refusal-requires : tie.Need-rate-refusal-requires
 rate-refusal-requires c κs = search needs

@@ -17,8 +17,8 @@ use Rattle.core.proofs.withdraw.lacks.Tie as tie
 
 sound : (c : tie.Start) → Sound (vaultOf (c .args .desk .guarantee) (securitiesOf (c .args .held .now)))
 sound c =
-    let cash = cash-fits _ _ (c .pre .1 .2) in
-    (c .pre .1 .1, cash .free, omega (arith, cash .sum))
+    let cash = cash-fits _ _ (c .pre .0 .cash) in
+    (c .pre .0 .securities, cash .free, omega (arith, cash .sum))
 
 limit-within : (kind : ℕ) → unitLimitOf kind ≤ cashLimit
 limit-within kind = by-test (λ cash. cond cash cashLimit unitLimit ≤ cashLimit) (isCash kind) (λ _. omega arith) (λ _. omega arith)
@@ -31,7 +31,7 @@ few : (c : tie.After-frozen-of) → start (c .before) .args .amount + c .frozen-
 few c =
     let s = start (c .before) in
     let a = s .args in
-    let kind = kind-fits (vaultOf (a .desk .guarantee) (securitiesOf (a .held .now))) (sound s) (a .kind) (s .pre .0 .3) in
+    let kind = kind-fits (vaultOf (a .desk .guarantee) (securitiesOf (a .held .now))) (sound s) (a .kind) (s .pre .1) in
     omega (arith, kind .free, kind .within, limit-within (a .kind), c .frozen-of .ensures, c .before .before .effective-of .ensures, c .before .if1 .left)
 
 effective-of-requires : tie.Need-effective-of-requires
@@ -57,7 +57,7 @@ add-result-2 : tie.Need-add-result-2
 add-result-2 c =
     let s = start (c .before .before) in
     let a = s .args in
-    omega (arith, few (c .before), c .applied-of .ensures, applied-bound (bookOf (a .desk) (rowsOf (a .held .now) (a .kinds .now) (a .units .now)) .withdrawals) (s .pre .1 .0) (a .kind))
+    omega (arith, few (c .before), c .applied-of .ensures, applied-bound (bookOf (a .desk) (rowsOf (a .held .now) (a .kinds .now) (a .units .now)) .withdrawals) (s .pre .0 .withdrawals) (a .kind))
 
 returns-2 : tie.Need-returns-2
 returns-2 c = rw (c .applied-of .ensures, c .before .frozen-of .ensures, c .before .before .before .effective-of .ensures)

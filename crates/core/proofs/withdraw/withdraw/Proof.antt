@@ -7,10 +7,10 @@ use borrow.Author.Needs.{needs}
 use borrow.Author.Tests.{leb-false}
 use lib.ListN.{length-set}
 use Rattle.money.specs.Causes.{firstOf}
-use Rattle.money.proofs.Refusals.{failed}
 use Rattle.rules.specs.Limits.{applicationLimit}
 use Rattle.rules.specs.Withdraw.{withdrawCauses, withdrawn}
 use Rattle.rules.specs.Step.{eventCauses}
+use Rattle.rules.proofs.Accepted.{all-clear}
 use Rattle.core.specs.Types.{Book, Withdraw}
 use Rattle.core.specs.Flat.{rowsOf, bookOf}
 use Rattle.core.proofs.Refusing.{turned-down, carried-out, done}
@@ -28,7 +28,7 @@ none-applies c =
 
 room-for-one : (book : Book) (kind units : ℕ) → firstOf (withdrawCauses book kind units) ≡ none → book .withdrawals .count < applicationLimit
 unfolding withdrawCauses
-room-for-one book kind units e = leb-false applicationLimit (book .withdrawals .count) (failed (withdrawCauses book kind units) e 17 .1 .1 .1 .1 .1 .0 refl)
+room-for-one book kind units e = leb-false applicationLimit (book .withdrawals .count) (all-clear (withdrawCauses book kind units) e 17)
 
 room : (c : tie.Else1) → start c .args .desk .applications < 128
 room c =
@@ -51,13 +51,13 @@ returns : tie.Need-returns
 returns c = turned-down _ _ _ _ _ (c .before .before .withdraw-refusal .ensures) (c .before .if1 .taken) (c .answered .ensures) refl
 
 slice-write-kinds : tie.Need-slice-write-kinds
-slice-write-kinds c = omega (arith, room c, start c .pre .0 .1)
+slice-write-kinds c = omega (arith, room c, start c .pre .kinds-long)
 
 mul-units : tie.Need-mul-units
 mul-units c = omega (arith, room c)
 
 slice-write-units : tie.Need-slice-write-units
-slice-write-units c = omega (arith, room c, start c .pre .0 .2)
+slice-write-units c = omega (arith, room c, start c .pre .units-long)
 
 add-next : tie.Need-add-next
 add-next c = omega (arith, room c)
