@@ -10,7 +10,7 @@ use Rattle.book.proofs.listing.run_listing.Statement.{statement}
 use Rattle.book.proofs.listing.run_listing.Tie as tie
 
 abbrev at-start : tie.After-listing-refusal → tie.Start
-at-start c = c .before .before .before .before
+at-start c = search needs
 
 clear : (c : tie.Else1) → (let s = at-start (c .before) .args in firstOf (listingCauses (length (s .calendar .now)) (length (s .events .now)) (length (s .lines .now))) ≡ none)
 clear c = listing-clear _ _ _ _ (c .before .listing-refusal .ensures) (c .if1 .left)
@@ -38,7 +38,7 @@ same-length c = search needs
 returns-2 : tie.Need-returns-2
 returns-2 c =
     let told = c .before .before .before in
-    let passed = told .before .before .before .before in
+    let passed : tie.Else1 = search needs in
     let s = at-start (passed .before) .args in
     let e = clear passed in
     rw e (refl, rw (told .before .before .before .fresh .ensures, journal-starts-empty, fresh-listing (s .calendar .now) (s .events .now) (s .lines .now) e) at (told .run-flat .ensures .2))

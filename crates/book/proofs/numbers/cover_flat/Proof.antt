@@ -35,11 +35,15 @@ cover-requires c κs = search needs
 
 returns : tie.Need-returns
 returns c =
-    let units-row = c .before .before .before .before .units-of in
-    let kinds-row = c .before .before .before .before .before .kinds-of in
-    let held-row = c .before .before .before .before .before .before .held-of in
-    let desk = c .before .before .before .before .before .before .before .desk-of in
-    let start = c .before .before .before .before .before .before .before .before .before .before .before .before in
+    let at-units-of : tie.After-units-of = search needs in
+    let at-kinds-of : tie.After-kinds-of = search needs in
+    let at-held-of : tie.After-held-of = search needs in
+    let at-desk-of : tie.After-desk-of = search needs in
+    let units-row = at-units-of .units-of in
+    let kinds-row = at-kinds-of .kinds-of in
+    let held-row = at-held-of .held-of in
+    let desk = at-desk-of .desk-of in
+    let start : tie.Start = search needs in
     let a = start .args in
     let l : Lent = lent (desk .result) (held-row .result) (kinds-row .result) (units-row .result) (a .table .now) in
     let long : Lengths l = record { held = search needs; kinds = search needs; units = search needs; table = start .pre } in

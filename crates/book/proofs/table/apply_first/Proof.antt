@@ -29,7 +29,7 @@ same-length c = search needs
 
 returns : tie.Need-returns
 returns c =
-    let a = c .before .before .before .before .before .before in
+    let a : tie.Start = search needs in
     let end : ℕ = a .args .count * width in
     let called = c .before .before .apply-flat in
     let long : length (called .last .1 .1 .0) ≡ end = called .kept .1 .1 .0 ∙ length-take-le end (a .args .flat .now) (a .pre) in

@@ -23,7 +23,7 @@ cover-flat-requires c κs =
 
 returns : tie.Need-returns
 returns c =
-    let a = c .before .before .before .before in
+    let a : tie.Start = search needs in
     let front : tradesOf (take (a .args .count * width) (a .args .flat .now)) ≡ tradesTo (a .args .flat .now) (a .args .count) = trades-of-front (a .args .flat .now) (a .args .count) (a .pre) in
     rw front at (c .cover-flat .ensures)
 

@@ -43,10 +43,13 @@ same-length-4 c = search needs
 
 returns-2 : tie.Need-returns-2
 returns-2 c =
-    let applied = c .before .before .before .before .before .before .before .before .before .apply in
-    let tested = c .before .before .before .before .before .before .before .before .before .before .before .before .before .before .before .before in
+    let at-apply : tie.After-apply = search needs in
+    let at-desk-on : tie.After-desk-on = search needs in
+    let at-decode : tie.After-decode = search needs in
+    let applied = at-apply .apply in
+    let tested : tie.Else1 = search needs in
     let told = upheld (tested .before .is-told .ensures) (tested .if1 .left) in (
-      λ z. rw (c .left-by .ensures, desk-back (applied .result .desk), ← (c .before .before .before .before .before .before .before .before .before .before .before .before .before .before .before .desk-on .ensures), ← (c .before .before .before .before .before .before .before .before .before .before .before .before .before .before .decode .ensures)) (applied .ensures .0, refl, applied .ensures .1),
+      λ z. rw (c .left-by .ensures, desk-back (applied .result .desk), ← (at-desk-on .desk-on .ensures), ← (at-decode .decode .ensures)) (applied .ensures .0, refl, applied .ensures .1),
       λ z. absurd (false≢true (sym z ∙ told)),
     )
 

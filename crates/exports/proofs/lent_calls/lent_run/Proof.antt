@@ -43,10 +43,12 @@ same-length-5 c = search needs
 
 returns-2 : tie.Need-returns-2
 returns-2 c =
-    let ran = c .before .before .before .before .before .before .before .before .before .before .before .run in
-    let tested = c .before .before .before .before .before .before .before .before .before .before .before .before .before .before .before .before .before .before in
+    let at-run : tie.After-run = search needs in
+    let at-desk-on : tie.After-desk-on = search needs in
+    let ran = at-run .run in
+    let tested : tie.Else1 = search needs in
     let told = upheld (tested .before .is-told .ensures) (tested .if1 .left) in (
-      λ z. rw (c .left-by-run .ensures, desk-back (ran .result .desk), ← (c .before .before .before .before .before .before .before .before .before .before .before .before .before .before .before .before .before .desk-on .ensures)) (ran .ensures .0, refl, ran .ensures .1),
+      λ z. rw (c .left-by-run .ensures, desk-back (ran .result .desk), ← (at-desk-on .desk-on .ensures)) (ran .ensures .0, refl, ran .ensures .1),
       λ z. absurd (false≢true (sym z ∙ told)),
     )
 

@@ -1,3 +1,4 @@
+use borrow.Author.Needs.{needs}
 use mathlib.Core.Path.{refl}
 use borrow.Author.Tests.{le-leb, lt-leb}
 use Rattle.core.proofs.SumLaws.{test-fails, test-holds}
@@ -17,30 +18,38 @@ returns-2 c = test-holds _ _ _ (le-leb _ _ (c .before .before .if1 .left)) (test
 returns-3 : tie.Need-returns-3
 unfolding isTold
 returns-3 c =
-    test-holds _ _ _ (le-leb _ _ (c .before .before .before .before .if1 .left))
+    let past1 : tie.Else1 = search needs in
+    test-holds _ _ _ (le-leb _ _ (past1 .if1 .left))
     (test-holds _ _ _ (le-leb _ _ (c .before .before .if2 .left)) (test-fails _ _ (lt-leb _ _ (c .if3 .taken))))
 
 returns-4 : tie.Need-returns-4
 unfolding isTold
 returns-4 c =
-    test-holds _ _ _ (le-leb _ _ (c .before .before .before .before .before .before .if1 .left))
-    (test-holds _ _ _ (le-leb _ _ (c .before .before .before .before .if2 .left))
+    let past1 : tie.Else1 = search needs in
+    let past2 : tie.Else2 = search needs in
+    test-holds _ _ _ (le-leb _ _ (past1 .if1 .left))
+    (test-holds _ _ _ (le-leb _ _ (past2 .if2 .left))
     (test-holds _ _ _ (le-leb _ _ (c .before .before .if3 .left)) (test-fails _ _ (lt-leb _ _ (c .if4 .taken)))))
 
 returns-5 : tie.Need-returns-5
 unfolding isTold
 returns-5 c =
-    test-holds _ _ _ (le-leb _ _ (c .before .before .before .before .before .before .before .if1 .left))
-    (test-holds _ _ _ (le-leb _ _ (c .before .before .before .before .before .if2 .left))
+    let past1 : tie.Else1 = search needs in
+    let past2 : tie.Else2 = search needs in
+    test-holds _ _ _ (le-leb _ _ (past1 .if1 .left))
+    (test-holds _ _ _ (le-leb _ _ (past2 .if2 .left))
     (test-holds _ _ _ (le-leb _ _ (c .before .before .before .if3 .left))
     (test-holds _ _ _ (le-leb _ _ (c .before .if4 .left)) (last-test _ _ (rw (c .if5 .taken) refl)))))
 
 returns-6 : tie.Need-returns-6
 unfolding isTold
 returns-6 c =
-    test-holds _ _ _ (le-leb _ _ (c .before .before .before .before .before .before .before .before .if1 .left))
-    (test-holds _ _ _ (le-leb _ _ (c .before .before .before .before .before .before .if2 .left))
-    (test-holds _ _ _ (le-leb _ _ (c .before .before .before .before .if3 .left))
+    let past1 : tie.Else1 = search needs in
+    let past2 : tie.Else2 = search needs in
+    let past3 : tie.Else3 = search needs in
+    test-holds _ _ _ (le-leb _ _ (past1 .if1 .left))
+    (test-holds _ _ _ (le-leb _ _ (past2 .if2 .left))
+    (test-holds _ _ _ (le-leb _ _ (past3 .if3 .left))
     (test-holds _ _ _ (le-leb _ _ (c .before .before .if4 .left)) (last-test _ _ (rw (c .before .if5 .left) refl)))))
 
 pub is-told-spec : {M : Type 1} → statement M

@@ -21,7 +21,10 @@ short-number-requires : tie.Need-short-number-requires
 short-number-requires c κs = search needs
 
 returns : tie.Need-returns
-returns c = rw (c .before .before .before .before .before .is-dated .ensures, c .before .before .before .before .day-number .ensures, c .before .before .before .phase-number .ensures, c .before .before .status-number .ensures, c .before .failed-number .ensures, c .short-number .ensures)
+returns c =
+    let at-is-dated : tie.After-is-dated = search needs in
+    let at-day-number : tie.After-day-number = search needs in
+    rw (at-is-dated .is-dated .ensures, at-day-number .day-number .ensures, c .before .before .before .phase-number .ensures, c .before .before .status-number .ensures, c .before .failed-number .ensures, c .short-number .ensures)
 
 pub marks-of-spec : {M : Type 1} → statement M
 marks-of-spec = tie.close (tie.spec is-dated-requires day-number-requires phase-number-requires status-number-requires failed-number-requires short-number-requires returns)

@@ -18,7 +18,9 @@ short-at-requires : tie.Need-short-at-requires
 short-at-requires c κs = search needs
 
 returns : tie.Need-returns
-returns c = rw (c .before .before .before .before .day-at .ensures, c .before .before .before .phase-at .ensures, c .before .before .status-at .ensures, c .before .failed-at .ensures, c .short-at .ensures)
+returns c =
+    let at-day-at : tie.After-day-at = search needs in
+    rw (at-day-at .day-at .ensures, c .before .before .before .phase-at .ensures, c .before .before .status-at .ensures, c .before .failed-at .ensures, c .short-at .ensures)
 
 pub standing-at-spec : {M : Type 1} → statement M
 standing-at-spec = tie.close (tie.spec day-at-requires phase-at-requires status-at-requires failed-at-requires short-at-requires returns)
