@@ -11,7 +11,8 @@ use lib.Dec.{ltb}
 use lib.IntN.{ℤ, natAbs}
 use lib.ListN.{length, length-map, take, drop}
 use lib.Seq.{take-at, drop-at}
-use Rattle.money.specs.Units.{sheets}
+use Rattle.money.specs.declared.units.Sheets.{Sheets}
+use Rattle.money.specs.Units.{fen, sheets}
 use Rattle.money.specs.Causes.{firstOf}
 use Rattle.money.specs.Days.{Calendar}
 use Rattle.money.proofs.Refusals.{hit, skip, clear}
@@ -28,7 +29,7 @@ use Rattle.core.specs.Types.{Security, Book, Trade}
 use Rattle.desk.specs.declared.state.Desk.{Desk}
 use Rattle.desk.specs.declared.done.Done.{Done}
 use Rattle.core.specs.declared.evening.Evened.{Evened}
-use Rattle.core.specs.declared.redemption.Plan.{Plan}
+use Rattle.core.specs.Redemption.{Redeemed, maturityOf}
 use Rattle.core.specs.Flat.{Rows, rowsOf, tradesTo, tradesOf, bookOf, eveningAt, appliedAt, closedBy, tableBy, Kept}
 use Rattle.core.proofs.FitFacts.{fit-in-use}
 use Rattle.core.proofs.FlatLaws.{length-trades, take-trades}
@@ -86,14 +87,14 @@ module _ (calendar : Calendar) (book : Book) (table : List Trade) where
 -- ---- (a) what is planned over the flat table is what matures
 
 module _ (calendar : Calendar) (book : Book) (table : List ℕ) (fits : fit calendar book (tradesOf table) ≡ true) (day payment : ℕ) (d : day ≡ today book) (p : payment ≡ paymentDay calendar (book .standing .day))
-    (plan : Plan) (planned : plan ≡ record { sheets = total (maturing day) (tradesTo table (book .trades)); amount = total (maturityAmount day payment) (tradesTo table (book .trades)) }) where
-  pub sheets-planned : plan .sheets ≡ maturedSheets book (tradesOf table)
+    (plan : Redeemed) (planned : plan ≡ maturityOf day payment (tradesTo table (book .trades))) where
+  pub sheets-planned : plan .sheets ≡ sheets (maturedSheets book (tradesOf table))
   unfolding maturedSheets
-  sheets-planned = rw (planned, d) (ap (total (maturing (today book))) (sym (fit-in-use calendar book table fits)))
+  sheets-planned = rw (planned, d) (ap (λ (trades : List Trade). sheets (total (maturing (today book)) trades)) (sym (fit-in-use calendar book table fits)))
 
-  pub amount-planned : plan .amount ≡ maturedAmount calendar book (tradesOf table)
+  pub amount-planned : plan .amount ≡ fen (maturedAmount calendar book (tradesOf table))
   unfolding maturedAmount
-  amount-planned = rw (planned, d, p) (ap (total (maturityAmount (today book) (paymentDay calendar (book .standing .day)))) (sym (fit-in-use calendar book table fits)))
+  amount-planned = rw (planned, d, p) (ap (λ (trades : List Trade). fen (total (maturityAmount (today book) (paymentDay calendar (book .standing .day))) trades)) (sym (fit-in-use calendar book table fits)))
 
 -- ---- (a) and (e): the flat table after its due trades are redeemed
 
@@ -162,9 +163,9 @@ pub rows-cleared : (desk : Desk) (held : List ℕ) {kinds cleared-kinds units cl
     → bookOf desk (rowsOf held cleared-kinds cleared-units) ≡ book → bookOf desk (rowsOf held kinds units) ≡ book
 rows-cleared desk held k u e = rw (k, u) e
 
-pub close-done : (calendar : Calendar) (book : Book) (left table : List Trade) (matured : ℕ) (evened : Evened) (securities : List Security) (desk : Desk) (rows : Rows)
-    → matured ≡ maturedSheets book table → eveningAt evened securities ≡ evening book left → bookOf desk rows ≡ closedBook calendar book left table
-    → appliedAt (record { answer = record { number = 0; matured = sheets matured; done = evened .done; dropped = evened .dropped }; desk = desk }) rows ≡ closedBy none calendar book left table
+pub close-done : (calendar : Calendar) (book : Book) (left table : List Trade) (matured : Sheets) (evened : Evened) (securities : List Security) (desk : Desk) (rows : Rows)
+    → matured ≡ sheets (maturedSheets book table) → eveningAt evened securities ≡ evening book left → bookOf desk rows ≡ closedBook calendar book left table
+    → appliedAt (record { answer = record { number = 0; matured = matured; done = evened .done; dropped = evened .dropped }; desk = desk }) rows ≡ closedBy none calendar book left table
 unfolding closeAnswer
 close-done calendar book left table matured evened securities desk rows m end next =
     rw (m, sym end, sym next)

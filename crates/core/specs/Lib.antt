@@ -1,6 +1,7 @@
 -- How the core names and lays out its data, and what its calls give; no rule stands here.
 pub mod Types
 pub mod Flat
+pub mod Redemption
 pub mod Figures
 pub mod Chains
 pub mod Lent

@@ -8,6 +8,7 @@ ghost use lib.IntN.{pos};
 ghost use lib.ListN.{length};
 ghost use Rattle.money.specs.Limits.{cashLimit};
 ghost use Rattle.money.specs.Causes.{firstOf};
+ghost use Rattle.money.specs.Units.{sheets};
 ghost use Rattle.money.specs.Days.{Calendar};
 ghost use Rattle.rules.specs.Limits.{applicationLimit};
 ghost use Rattle.rules.specs.Fit.{securitiesFit};
@@ -30,6 +31,7 @@ use desk::headroom;
 use desk::standing;
 use desk::state::Desk;
 use money::units::Fen;
+use money::units::Sheets;
 use rules::book::Cash;
 use rules::book::Nets;
 use rules::book::Phase;
@@ -180,7 +182,7 @@ fn closed(
     kinds: &mut [u8],
     units: &mut [u64],
     table: &mut [u64],
-    matured: u64,
+    matured: Sheets,
     cleared: Nets,
 ) -> Done
     requires { ⌜ (RowsFit desk (now held) (now kinds) (now units)) × (Kept (now table) (desk .trades)) ⌝ }
@@ -189,7 +191,7 @@ fn closed(
         let trades = tradesOf (now (table .entry)) in
         let remains = maturedTrades book trades in
         ⌜ ((calendar : Calendar) →
-        matured ≡ maturedSheets book trades
+        matured ≡ sheets (maturedSheets book trades)
         → cleared ≡ record { today = pos 0; cleared = clearedAtClose calendar book trades }
         → appliedAt r (rowsOf (now (held .exit)) (now (kinds .exit)) (now (units .exit))) ≡ closedBy none calendar book remains trades)
         × (tradesOf (now (table .exit)) ≡ closedTable book remains trades) ⌝ }

@@ -3,12 +3,14 @@ ghost use mathlib.Core.Path.{_≡_};
 ghost use Prim.Native.Nat.{_≤_, _<_};
 ghost use Rattle.money.specs.Limits.{tradeLimit};
 ghost use Rattle.money.specs.Causes.{firstOf, numberOf};
-ghost use Rattle.rules.specs.Early.{earlyAmount, pastDue, orderCauses, namedCauses, takeCauses, earlyCauses, earlyBook, earlyTable};
+ghost use Rattle.rules.specs.Early.{pastDue, orderCauses, namedCauses, takeCauses, earlyCauses, earlyBook, earlyTable};
 ghost use Rattle.core.specs.Flat.{HasSlots, Rows, bookOf, Fits, Named, Running, appliedAt, tradesTo, tradesOf, placeOf, appliedBy, tableBy};
+ghost use Rattle.core.specs.Redemption.{earlyOf};
 use crate::days;
 use crate::flat;
 use crate::nets;
 use crate::redemption;
+use crate::redemption::Redeemed;
 use crate::trades;
 use desk::done;
 use desk::done::Done;
@@ -32,8 +34,8 @@ fn past_due(desk: Desk, table: &[u64], place: usize, contract: Contract) -> bool
     flat::due_at(table, place) <= days::day_number(day)
 }
 
-// The amount of sheets of the trade at a place, from its first payment day to today's.
-fn amount_at(
+// What sheets of the trade at a place are redeemed for, from its first payment day to today's.
+fn early_plan(
     calendar: &[u32],
     desk: Desk,
     table: &[u64],
@@ -41,16 +43,19 @@ fn amount_at(
     contract: Contract,
     count: Sheets,
     price: Ticks,
-) -> u64
+) -> Redeemed
     requires { ⌜ (Running (now calendar) desk (now table) place contract price) × (count .0 ≤ tradeLimit) ⌝ }
     ensures { λ r.
         ⌜ ((rows : Rows) →
-        r ≡ earlyAmount (now (calendar .entry)) (bookOf desk rows) (tradesOf (now (table .entry))) contract count price) ⌝ }
+        r ≡ earlyOf (now (calendar .entry)) (bookOf desk rows) (tradesOf (now (table .entry))) contract count price) ⌝ }
 {
     let standing = desk.standing;
     let day = standing.day;
     let payment = days::payment_day(calendar, day);
-    redemption::redeemed_for(table, place, count.0, price, payment)
+    Redeemed {
+        sheets: count,
+        amount: redemption::redeemed_for(table, place, count, price, payment),
+    }
 }
 
 // The causes, group by group as the rules have them: when sheets may be redeemed and how many at which price, the contract's
@@ -105,8 +110,8 @@ fn take_refusal(
         return 13;
     }
     let nets = desk.nets;
-    let amount = amount_at(calendar, desk, table, place, contract, count, price);
-    if nets::over_plus(nets, amount) {
+    let plan = early_plan(calendar, desk, table, place, contract, count, price);
+    if nets::over_plus(nets, plan.amount) {
         return 14;
     }
     0
@@ -162,11 +167,11 @@ pub fn early(
     if refusal != 0 {
         return done::answered(refusal, desk);
     }
-    let amount = amount_at(calendar, desk, &*table, place, contract, count, price);
-    let left = flat::sheets_at(&*table, place) - count.0;
+    let plan = early_plan(calendar, desk, &*table, place, contract, count, price);
+    let left = flat::sheets_at(&*table, place) - plan.sheets.0;
     flat::put_sheets(table, place, left);
     let nets = desk.nets;
     let mut next = desk;
-    next.nets = nets::today_plus(nets, amount);
+    next.nets = nets::today_plus(nets, plan.amount);
     done::answered(0, next)
 }

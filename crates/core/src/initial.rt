@@ -1,13 +1,14 @@
 // 9 Initial: a new last trade; its amount is taken from today's net.
 ghost use mathlib.Core.Path.{_≡_};
 ghost use mathlib.Core.List.{List};
-ghost use Prim.Native.Nat.{ℕ, _≤_, _<_, _*_};
+ghost use Prim.Native.Nat.{ℕ, _≤_, _<_};
 ghost use lib.Dec.{leb};
 ghost use lib.IntN.{pos};
 ghost use lib.ListN.{length};
 ghost use lib.Signed.{ltZ};
 ghost use Rattle.money.specs.Limits.{calendarLimit, termLimit, tradeLimit};
 ghost use Rattle.money.specs.Causes.{firstOf, numberOf};
+ghost use Rattle.money.specs.Money.{principal};
 ghost use Rattle.rules.specs.Days.{dayNumber};
 ghost use Rattle.rules.specs.Trades.{inUse, onTable};
 ghost use Rattle.rules.specs.Vault.{headroom};
@@ -27,6 +28,7 @@ use desk::state;
 use desk::state::Desk;
 use money::limits::PRICE_LIMIT;
 use money::limits::TRADE_LIMIT;
+use money::units::Fen;
 use money::units::Sheets;
 use money::units::Ticks;
 use rules::book::Day;
@@ -81,6 +83,15 @@ fn is_full(table: &[u64], trades: usize) -> bool
     ensures { λ r. ⌜ r ≡ leb (length (tradesOf (now (table .entry)))) trades ⌝ }
 {
     state::is_full(flat::slots(table), trades)
+}
+
+// What a trade takes from today's net.
+fn principal_of(count: Sheets) -> Fen
+    requires { ⌜ count .0 ≤ tradeLimit ⌝ }
+    ensures { λ r. ⌜ r ≡ principal count ⌝ }
+{
+    let answer = money::amounts::initial(count);
+    answer.fen
 }
 
 // Whether sheets are above headroom.
@@ -169,7 +180,8 @@ fn sheet_refusal(
         return 12;
     }
     let nets = desk.nets;
-    if nets::over_less(nets, 10_000 * terms.sheets.0) {
+    let count = terms.sheets;
+    if nets::over_less(nets, principal_of(count)) {
         return 14;
     }
     0
@@ -249,6 +261,7 @@ pub fn initial(
     }
     let place = desk.trades;
     flat::put_trade(table, place, begun_trade(calendar, desk, terms));
-    let nets = nets::today_less(desk.nets, 10_000 * terms.sheets.0);
+    let count = terms.sheets;
+    let nets = nets::today_less(desk.nets, principal_of(count));
     done::answered(0, state::with_trades(desk, nets, place + 1))
 }

@@ -7,6 +7,7 @@ ghost use lib.IntN.{pos, negℤ, natAbs, subℕ, _+ℤ_, _-ℤ_};
 ghost use lib.Signed.{ltZ};
 ghost use Rattle.rules.specs.Limits.{netLimit};
 ghost use Rattle.rules.specs.Fit.{netFit};
+use money::units::Fen;
 use rules::book::Nets;
 use rules::limits::NET_LIMIT;
 use rules::limits::NET_LIMIT_DOWN;
@@ -79,50 +80,50 @@ pub fn cleared_fit(nets: Nets) -> bool
 }
 
 // An initial trade is taken from today's net.
-pub fn today_less(nets: Nets, amount: u64) -> Nets
-    requires { ⌜ (netFit (nets .today) ≡ true) × (amount ≤ 500000000000000000) ⌝ }
-    ensures { λ r. ⌜ r ≡ record { today = nets .today -ℤ pos amount; cleared = nets .cleared } ⌝ }
+pub fn today_less(nets: Nets, amount: Fen) -> Nets
+    requires { ⌜ (netFit (nets .today) ≡ true) × (amount .0 ≤ 500000000000000000) ⌝ }
+    ensures { λ r. ⌜ r ≡ record { today = nets .today -ℤ pos (amount .0); cleared = nets .cleared } ⌝ }
 {
     Nets {
-        today: plus(nets.today, negative(amount)),
+        today: plus(nets.today, negative(amount.0)),
         cleared: nets.cleared,
     }
 }
 
 // A redemption joins today's net.
-pub fn today_plus(nets: Nets, amount: u64) -> Nets
-    requires { ⌜ (netFit (nets .today) ≡ true) × (amount ≤ 500000000000000000) ⌝ }
-    ensures { λ r. ⌜ r ≡ record { today = nets .today +ℤ pos amount; cleared = nets .cleared } ⌝ }
+pub fn today_plus(nets: Nets, amount: Fen) -> Nets
+    requires { ⌜ (netFit (nets .today) ≡ true) × (amount .0 ≤ 500000000000000000) ⌝ }
+    ensures { λ r. ⌜ r ≡ record { today = nets .today +ℤ pos (amount .0); cleared = nets .cleared } ⌝ }
 {
     Nets {
-        today: plus(nets.today, signed(amount)),
+        today: plus(nets.today, signed(amount.0)),
         cleared: nets.cleared,
     }
 }
 
 // Whether today's net would leave its limit with an amount taken from it, or joining it.
-pub fn over_less(nets: Nets, amount: u64) -> bool
-    requires { ⌜ (netFit (nets .today) ≡ true) × (amount ≤ 500000000000000000) ⌝ }
-    ensures { λ r. ⌜ r ≡ ltb netLimit (natAbs (nets .today -ℤ pos amount)) ⌝ }
+pub fn over_less(nets: Nets, amount: Fen) -> bool
+    requires { ⌜ (netFit (nets .today) ≡ true) × (amount .0 ≤ 500000000000000000) ⌝ }
+    ensures { λ r. ⌜ r ≡ ltb netLimit (natAbs (nets .today -ℤ pos (amount .0))) ⌝ }
 {
     !today_fit(today_less(nets, amount))
 }
 
-pub fn over_plus(nets: Nets, amount: u64) -> bool
-    requires { ⌜ (netFit (nets .today) ≡ true) × (amount ≤ 500000000000000000) ⌝ }
-    ensures { λ r. ⌜ r ≡ ltb netLimit (natAbs (nets .today +ℤ pos amount)) ⌝ }
+pub fn over_plus(nets: Nets, amount: Fen) -> bool
+    requires { ⌜ (netFit (nets .today) ≡ true) × (amount .0 ≤ 500000000000000000) ⌝ }
+    ensures { λ r. ⌜ r ≡ ltb netLimit (natAbs (nets .today +ℤ pos (amount .0))) ⌝ }
 {
     !today_fit(today_plus(nets, amount))
 }
 
 // A redemption on termination joins the cleared net.
-pub fn cleared_plus(nets: Nets, amount: u64) -> Nets
-    requires { ⌜ (netFit (nets .cleared) ≡ true) × (amount ≤ 500000000000000000) ⌝ }
-    ensures { λ r. ⌜ r ≡ record { today = nets .today; cleared = nets .cleared +ℤ pos amount } ⌝ }
+pub fn cleared_plus(nets: Nets, amount: Fen) -> Nets
+    requires { ⌜ (netFit (nets .cleared) ≡ true) × (amount .0 ≤ 500000000000000000) ⌝ }
+    ensures { λ r. ⌜ r ≡ record { today = nets .today; cleared = nets .cleared +ℤ pos (amount .0) } ⌝ }
 {
     Nets {
         today: nets.today,
-        cleared: plus(nets.cleared, signed(amount)),
+        cleared: plus(nets.cleared, signed(amount.0)),
     }
 }
 
@@ -138,7 +139,7 @@ pub fn joined(nets: Nets) -> Nets
 }
 
 // The net due is paid.
-pub fn settled(nets: Nets) -> Nets
+pub fn paid(nets: Nets) -> Nets
     ensures { λ r. ⌜ r ≡ record { today = nets .today; cleared = pos 0 } ⌝ }
 {
     Nets {

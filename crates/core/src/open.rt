@@ -108,8 +108,8 @@ fn with_fallbacks(calendar: &[u32], desk: Desk, table: &[u64], after: Standing) 
     let nets = desk.nets;
     let day = after.day;
     let payment = days::payment_day(calendar, day);
-    let amount = redemption::fallback_total(table, desk.trades, payment);
-    nets::cleared_plus(nets, amount)
+    let plan = redemption::termination_plan(table, desk.trades, payment);
+    nets::cleared_plus(nets, plan.amount)
 }
 
 // On turning terminated the table is emptied, unless the net would leave its limit.

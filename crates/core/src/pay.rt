@@ -117,7 +117,7 @@ fn paid(desk: Desk) -> Desk
     let cash = desk.cash;
     let standing = desk.standing;
     let mut next = desk;
-    next.nets = nets::settled(nets);
+    next.nets = nets::paid(nets);
     next.cash = cash_moved(nets, cash);
     next.standing = paid_standing(standing, FailedRun::NotFailed);
     next

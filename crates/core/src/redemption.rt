@@ -4,82 +4,85 @@ ghost use mathlib.Core.List.{map};
 ghost use Prim.Native.Nat.{_-_, _≤_, _<_};
 ghost use lib.ListN.{set};
 ghost use Rattle.money.specs.Limits.{tradeLimit, priceLimit, termLimit};
-ghost use Rattle.rules.specs.Trades.{total, redeemed, fallbackAmount, maturing, maturityAmount, matured, over};
+ghost use Rattle.money.specs.Units.{fen, sheets};
+ghost use Rattle.rules.specs.Trades.{redeemed, maturing, matured, over};
 ghost use Rattle.core.specs.Flat.{HasSlots, HasSlot, tradeAt, tradesTo, tradesOf, Redeemable};
+ghost use Rattle.core.specs.Redemption.{maturityOf, terminationOf};
 use crate::flat;
+use money::units::Fen;
 use money::units::Sheets;
 use money::units::Ticks;
 
-// The sheets that mature, and what they are redeemed for.
-pub struct Plan {
-    pub sheets: u64,
-    pub amount: u64,
+// What Early, Close or Open redeems: the sheets, and what is paid for them.
+pub struct Redeemed {
+    pub sheets: Sheets,
+    pub amount: Fen,
 }
 
 // What some sheets of a trade are redeemed for, with no division where there are none.
-pub fn redeemed_for(table: &[u64], place: usize, count: u64, price: Ticks, payment: u32) -> u64
-    requires { ⌜ (HasSlot (now table) place) × (count ≤ tradeLimit) × (price .0 ≤ priceLimit) ⌝ }
+pub fn redeemed_for(table: &[u64], place: usize, count: Sheets, price: Ticks, payment: u32) -> Fen
+    requires { ⌜ (HasSlot (now table) place) × (count .0 ≤ tradeLimit) × (price .0 ≤ priceLimit) ⌝ }
     requires { ⌜ (tradeAt (now table) place .first ≤ payment) × (payment ≤ termLimit) ⌝ }
-    ensures { λ r. ⌜ r ≡ redeemed payment count price (tradeAt (now (table .entry)) place) ⌝ }
+    ensures { λ r. ⌜ r ≡ fen (redeemed payment (count .0) price (tradeAt (now (table .entry)) place)) ⌝ }
 {
-    if count == 0 {
-        return 0;
+    if count.0 == 0 {
+        return Fen(0);
     }
     let days = payment - flat::first_at(table, place);
-    let answer = money::amounts::redemption(Sheets(count), price, days);
-    answer.fen.0
+    let answer = money::amounts::redemption(count, price, days);
+    answer.fen
 }
 
-fn maturing_at(table: &[u64], place: usize, today: u32) -> u64
+fn maturing_at(table: &[u64], place: usize, today: u32) -> Sheets
     requires { ⌜ HasSlot (now table) place ⌝ }
-    ensures { λ r. ⌜ r ≡ maturing today (tradeAt (now (table .entry)) place) ⌝ }
+    ensures { λ r. ⌜ r ≡ sheets (maturing today (tradeAt (now (table .entry)) place)) ⌝ }
 {
     if flat::due_at(table, place) > today {
-        return 0;
+        return Sheets(0);
     }
-    flat::sheets_at(table, place)
+    Sheets(flat::sheets_at(table, place))
 }
 
 // "Trades due today or earlier are redeemed at their price."
-pub fn maturity_plan(table: &[u64], count: usize, today: u32, payment: u32) -> Plan
+pub fn maturity_plan(table: &[u64], count: usize, today: u32, payment: u32) -> Redeemed
     requires { ⌜ Redeemable (now table) count payment ⌝ }
-    ensures { λ r.
-        let trades = tradesTo (now (table .entry)) count in
-        ⌜ r ≡ record { sheets = total (maturing today) trades; amount = total (maturityAmount today payment) trades } ⌝ }
+    ensures { λ r. ⌜ r ≡ maturityOf today payment (tradesTo (now (table .entry)) count) ⌝ }
 {
     let mut sheets = 0;
     let mut amount = 0;
     let mut i = 0;
     while i < count {
         let due = maturing_at(table, i, today);
-        sheets += due;
-        amount += redeemed_for(table, i, due, flat::price_at(table, i), payment);
+        let paid = redeemed_for(table, i, due, flat::price_at(table, i), payment);
+        sheets += due.0;
+        amount += paid.0;
         i += 1;
     }
-    Plan {
-        sheets: sheets,
-        amount: amount,
+    Redeemed {
+        sheets: Sheets(sheets),
+        amount: Fen(amount),
     }
 }
 
 // "Every trade is redeemed whole at its fallback price."
-pub fn fallback_total(table: &[u64], count: usize, payment: u32) -> u64
+pub fn termination_plan(table: &[u64], count: usize, payment: u32) -> Redeemed
     requires { ⌜ Redeemable (now table) count payment ⌝ }
-    ensures { λ r. ⌜ r ≡ total (fallbackAmount payment) (tradesTo (now (table .entry)) count) ⌝ }
+    ensures { λ r. ⌜ r ≡ terminationOf payment (tradesTo (now (table .entry)) count) ⌝ }
 {
+    let mut sheets = 0;
     let mut amount = 0;
     let mut i = 0;
     while i < count {
-        amount += redeemed_for(
-            table,
-            i,
-            flat::sheets_at(table, i),
-            flat::fallback_at(table, i),
-            payment,
-        );
+        let left = Sheets(flat::sheets_at(table, i));
+        let paid = redeemed_for(table, i, left, flat::fallback_at(table, i), payment);
+        sheets += left.0;
+        amount += paid.0;
         i += 1;
     }
-    amount
+    Redeemed {
+        sheets: Sheets(sheets),
+        amount: Fen(amount),
+    }
 }
 
 fn redeem_one(table: &mut [u64], place: usize, by: u32)
@@ -87,7 +90,8 @@ fn redeem_one(table: &mut [u64], place: usize, by: u32)
     ensures { λ _.
         ⌜ tradesOf (now (table .exit)) ≡ set (tradesOf (now (table .entry))) place (matured by (tradeAt (now (table .entry)) place)) ⌝ }
 {
-    let left = flat::sheets_at(table, place) - maturing_at(table, place, by);
+    let due = maturing_at(table, place, by);
+    let left = flat::sheets_at(table, place) - due.0;
     flat::put_sheets(table, place, left);
 }
 

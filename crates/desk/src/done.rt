@@ -1,6 +1,5 @@
 // What an event leaves beside the rows and the table. The core's answers are made here only.
 ghost use mathlib.Core.Path.{_≡_};
-ghost use Rattle.money.specs.Units.{sheets};
 ghost use Rattle.rules.specs.Book.{answer};
 use crate::state::Desk;
 use money::units::Sheets;
@@ -27,14 +26,14 @@ pub fn answered(number: u8, desk: Desk) -> Done
 }
 
 // An accepted Close carries the sheets matured and the applications done and dropped.
-pub fn of_close(matured: u64, done: u32, dropped: u32, desk: Desk) -> Done
+pub fn of_close(matured: Sheets, done: u32, dropped: u32, desk: Desk) -> Done
     ensures { λ r.
-        ⌜ r ≡ record { answer = record { number = 0; matured = sheets matured; done = done; dropped = dropped }; desk = desk } ⌝ }
+        ⌜ r ≡ record { answer = record { number = 0; matured = matured; done = done; dropped = dropped }; desk = desk } ⌝ }
 {
     Done {
         answer: Answer {
             number: 0,
-            matured: Sheets(matured),
+            matured,
             done,
             dropped,
         },

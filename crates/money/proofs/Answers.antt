@@ -9,7 +9,7 @@ use lib.ListN.{length}
 use Rattle.money.specs.Units.{Sheets, Ticks}
 use Rattle.money.specs.Limits.{calendarLimit, tradeLimit, priceLimit, termLimit, rateLimit}
 use Rattle.money.specs.Days.{Calendar, searchResult, dayOr0}
-use Rattle.money.specs.Money.{redemption, redemptionAmount}
+use Rattle.money.specs.Money.{principal, redemption, initialAmount, redemptionAmount}
 use Rattle.money.specs.Collateral.{rateOf, unitLimitOf, kindValue, kindWorth}
 use Rattle.money.proofs.Refusals.{hit, skip, clear}
 
@@ -39,6 +39,10 @@ none-elsewhere calendar none h e = refl
 none-elsewhere calendar (some day) h e = absurd (e (number-0-where-found calendar day h))
 
 -- ---- amounts and values within their limits
+
+pub initial-within : (q : Sheets) → q .0 ≤ tradeLimit → initialAmount q .fen ≡ principal q
+unfolding initialAmount
+initial-within q h = rw (skip _ _ (le-ltb _ _ h) clear) refl
 
 pub redemption-within : (q : Sheets) (price : Ticks) (days : ℕ) → q .0 ≤ tradeLimit → price .0 ≤ priceLimit → days ≤ termLimit → redemptionAmount q price days .fen ≡ redemption q price days
 unfolding redemptionAmount

@@ -11,7 +11,7 @@ use lib.Dec.{leb}
 use Rattle.money.specs.Units.{Sheets, Ticks}
 use Rattle.money.specs.Causes.{Cause, firstOf}
 use Rattle.money.specs.Days.{Calendar, searchCauses}
-use Rattle.money.specs.Money.{initialCauses, redemptionCauses}
+use Rattle.money.specs.Money.{initialAmountCauses, redemptionCauses}
 use Rattle.money.specs.Collateral.{worthCauses}
 
 -- each number is at least the one before it
@@ -47,7 +47,7 @@ least-cause n k (c ∷ cs) r e = go (c .applies) refl (leb n (c .number)) (least
 pub search-smallest : (calendar : Calendar) (found : Option ℕ) (k : ℕ) → firstOf (searchCauses calendar found) ≡ some k → Least k (searchCauses calendar found)
 search-smallest calendar found k e = least-cause 0 k _ refl e
 
-pub initial-smallest : (q : Sheets) (k : ℕ) → firstOf (initialCauses q) ≡ some k → Least k (initialCauses q)
+pub initial-smallest : (q : Sheets) (k : ℕ) → firstOf (initialAmountCauses q) ≡ some k → Least k (initialAmountCauses q)
 initial-smallest q k e = least-cause 0 k _ refl e
 
 pub redemption-smallest : (q : Sheets) (price : Ticks) (days k : ℕ) → firstOf (redemptionCauses q price days) ≡ some k → Least k (redemptionCauses q price days)

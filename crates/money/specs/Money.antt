@@ -26,8 +26,8 @@ unfoldable pub redemption : Sheets → Ticks → ℕ → Fen
 redemption q price days = fen (principal q .0 + income q price days .0)
 
 -- "an amount with sheets or a price past its limit, or over more than 38,400 days, is 14" (01, Turned-down events)
-abbrev pub initialCauses : Sheets → List Cause
-initialCauses q = (ltb tradeLimit (q .0) ⇒ 14) ∷ []
+abbrev pub initialAmountCauses : Sheets → List Cause
+initialAmountCauses q = (ltb tradeLimit (q .0) ⇒ 14) ∷ []
 
 abbrev pub redemptionCauses : Sheets → Ticks → ℕ → List Cause
 redemptionCauses q price days =
@@ -38,7 +38,7 @@ amount refusal due = record { number = numberOf refusal; fen = fen (resultOf ref
 
 -- the calls: the number, and beside it the amount
 unfoldable pub initialAmount : Sheets → Amount
-initialAmount q = amount (firstOf (initialCauses q)) (principal q)
+initialAmount q = amount (firstOf (initialAmountCauses q)) (principal q)
 
 unfoldable pub redemptionAmount : Sheets → Ticks → ℕ → Amount
 redemptionAmount q price days = amount (firstOf (redemptionCauses q price days)) (redemption q price days)

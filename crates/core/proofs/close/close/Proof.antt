@@ -5,6 +5,8 @@ use Prim.Native.Nat.{ℕ}
 use borrow.Author.Needs.{needs}
 use borrow.Author.Tests.{le-leb}
 use lib.IntN.{ℤ, pos, natAbs, _+ℤ_}
+use Rattle.money.specs.declared.units.Fen.{Fen}
+use Rattle.money.specs.Units.{fen, sheets}
 use Rattle.rules.specs.Limits.{netLimit}
 use Rattle.rules.specs.Fit.{netFit}
 use Rattle.rules.specs.Close.{mayClose, maturedTrades, maturedSheets, maturedAmount, netWithMatured, clearedAtClose}
@@ -69,14 +71,14 @@ redeemable c =
 
 -- the plan is what matures
 module _ (c : tie.After-maturity-plan) where
-  sheets-matured : c .maturity-plan .result .sheets ≡ maturedSheets (book (from-plan c)) (trades (from-plan c))
+  sheets-matured : c .maturity-plan .result .sheets ≡ sheets (maturedSheets (book (from-plan c)) (trades (from-plan c)))
   sheets-matured =
       let s = from-plan c in
       let day = c .before .day-number in
       let payment = paid-on (c .before) .payment-day in
       sheets-planned (s .args .calendar .now) (book s) (s .args .table .now) (s .pre .fits) (day .result) (payment .result) (day .ensures) (payment .ensures) (c .maturity-plan .result) (c .maturity-plan .ensures)
 
-  amount-matured : c .maturity-plan .result .amount ≡ maturedAmount (from-plan c .args .calendar .now) (book (from-plan c)) (trades (from-plan c))
+  amount-matured : c .maturity-plan .result .amount ≡ fen (maturedAmount (from-plan c .args .calendar .now) (book (from-plan c)) (trades (from-plan c)))
   amount-matured =
       let s = from-plan c in
       let day = c .before .day-number in
@@ -88,7 +90,7 @@ with-matured : (c : tie.After-today-plus)
     → c .today-plus .result ≡ record { today = today-net (from-plan (c .before)); cleared = from-plan (c .before) .args .desk .nets .cleared }
 with-matured c =
     let nets = from-plan (c .before) .args .desk .nets in
-    c .today-plus .ensures ∙ ap (λ n. record { today = nets .today +ℤ pos n; cleared = nets .cleared }) (amount-matured (c .before))
+    c .today-plus .ensures ∙ ap (λ (amount : Fen). record { today = nets .today +ℤ pos (amount .0); cleared = nets .cleared }) (amount-matured (c .before))
 
 all-joined : (c : tie.After-joined)
     → c .joined .result ≡ record { today = pos 0; cleared = cleared-net (from-plan (c .before .before .before .before)) }

@@ -1,10 +1,11 @@
 use mathlib.Core.Option.{none}
-use mathlib.Core.Path.{_≡_, refl, _∙_}
+use mathlib.Core.Path.{_≡_, refl, ap, _∙_}
 use native.Mathlib.Omega.{arith}
 use borrow.Author.Needs.{needs}
 use Rattle.money.specs.Causes.{firstOf}
 use Rattle.rules.specs.Early.{earlyCauses, earlyBook, earlyTable}
 use Rattle.core.specs.Flat.{Rows, bookOf, tradesOf, Kept}
+use Rattle.core.specs.Redemption.{Redeemed}
 use Rattle.core.proofs.Refusing.{refused, turned-down, carried-out}
 use Rattle.core.proofs.FitFacts.{fit-keeps, fit-net}
 use Rattle.core.proofs.ContractLaws.{take-off-here}
@@ -55,8 +56,8 @@ returns c rows =
     let refusal = refused (firstOf causes) _ (at-early-refusal .early-refusal .ensures rows) (c .before .if1 .taken) in
     (turned-down causes _ rows _ _ (at-early-refusal .early-refusal .ensures rows) (c .before .if1 .taken) (c .answered .ensures) refl, rw refusal)
 
-amount-at-requires : tie.Need-amount-at-requires
-amount-at-requires c κs =
+early-plan-requires : tie.Need-early-plan-requires
+early-plan-requires c κs =
     let at-place-of : tie.After-place-of = search needs in
     let start : tie.Start = search needs in
     let r = redeems (c .before) in
@@ -71,7 +72,9 @@ sheets-at-requires c κs =
 sub-left : tie.Need-sub-left
 sub-left c =
     let past1 : tie.Else1 = search needs in
-    omega (arith, redeems past1 .enough, c .before .sheets-at .ensures)
+    let start : tie.Start = search needs in
+    let at-early-plan : tie.After-early-plan = search needs in
+    omega (arith, redeems past1 .enough, c .before .sheets-at .ensures, ap (λ (plan : Redeemed). plan .sheets .0) (at-early-plan .early-plan .ensures (start .pre .rows)))
 
 put-sheets-requires : tie.Need-put-sheets-requires
 put-sheets-requires c κs =
@@ -82,13 +85,13 @@ put-sheets-requires c κs =
 today-plus-requires : tie.Need-today-plus-requires
 today-plus-requires c κs =
     let past1 : tie.Else1 = search needs in
-    let at-amount-at : tie.After-amount-at = search needs in
+    let at-early-plan : tie.After-early-plan = search needs in
     let start : tie.Start = search needs in
     let s = start .args in
     let r = redeems past1 in
     let book = bookOf (s .desk) (start .pre .rows) in
     let most = early-at-most (s .calendar .now) book (tradesOf (s .table .now)) (s .contract) (s .count) (s .price) (start .pre .few) (r .few) (r .cheap) in
-    (fit-net (s .calendar .now) book (s .table .now) (start .pre .fits), rw (at-amount-at .amount-at .ensures (start .pre .rows)) most)
+    (fit-net (s .calendar .now) book (s .table .now) (start .pre .fits), rw (at-early-plan .early-plan .ensures (start .pre .rows)) most)
 
 answered-requires-2 : tie.Need-answered-requires-2
 answered-requires-2 c κs = search needs
@@ -103,13 +106,13 @@ returns-2 c rows =
     let at-sheets-at : tie.After-sheets-at = search needs in
     let at-put-sheets : tie.After-put-sheets = search needs in
     let at-place-of : tie.After-place-of = search needs in
-    let at-amount-at : tie.After-amount-at = search needs in
+    let at-early-plan : tie.After-early-plan = search needs in
     let start : tie.Start = search needs in
     let r = redeems past1 in
-    let written = rw (at-sheets-at .sheets-at .ensures) at (at-put-sheets .put-sheets .ensures) in
+    let written = rw (at-sheets-at .sheets-at .ensures, at-early-plan .early-plan .ensures rows) at (at-put-sheets .put-sheets .ensures) in
     let taken-off = take-off-here _ _ _ _ (kept start .room) (at-place-of .place-of .ensures) _ (r .below) in
     let e = clear past1 rows in
-    (carried-out _ _ rows _ _ e (c .answered2 .ensures) (rw (c .before .today-plus .ensures, at-amount-at .amount-at .ensures rows)), rw e (written ∙ taken-off))
+    (carried-out _ _ rows _ _ e (c .answered2 .ensures) (rw (c .before .today-plus .ensures, at-early-plan .early-plan .ensures rows)), rw e (written ∙ taken-off))
 
 pub early-spec : {M : Type 1} → statement M
 early-spec =
@@ -120,7 +123,7 @@ early-spec =
     answered-requires
     same-length
     returns
-    amount-at-requires
+    early-plan-requires
     sheets-at-requires
     sub-left
     put-sheets-requires

@@ -35,8 +35,8 @@ returns c rows =
     let s : tie.Start = search needs in
     let short = short-of _ _ _ _ (kept s .room) (s .pre .named .stands) _ _ (at-sheets-at .sheets-at .ensures) (s .pre .below) (c .if1 .taken) in search column depth 20
 
-amount-at-requires : tie.Need-amount-at-requires
-amount-at-requires c κs =
+early-plan-requires : tie.Need-early-plan-requires
+early-plan-requires c κs =
     let s = start (c .before) in (s .pre, few (c .before))
 
 over-plus-requires : tie.Need-over-plus-requires
@@ -47,23 +47,23 @@ over-plus-requires c κs =
     let book = bookOf (s .args .desk) rows in
     let fits = s .pre .named .book in
     let most = early-at-most (s .args .calendar .now) book (tradesOf (s .args .table .now)) (s .args .contract) (s .args .count) (s .args .price) (fits .few) (few past1) (s .pre .cheap) in
-    (fit-net (s .args .calendar .now) book (s .args .table .now) (fits .fits), rw (c .amount-at .ensures rows) most)
+    (fit-net (s .args .calendar .now) book (s .args .table .now) (fits .fits), rw (c .early-plan .ensures rows) most)
 
 returns-2 : tie.Need-returns-2
 returns-2 c rows =
-    let at-amount-at : tie.After-amount-at = search needs in
+    let at-early-plan : tie.After-early-plan = search needs in
     let enough : tie.Else1 = search needs in
     let s = start enough in
     let has = not-short-of _ _ _ _ (kept s .room) (s .pre .named .stands) _ _ (enough .before .before .sheets-at .ensures) (s .pre .below) (enough .if1 .left) in
-    let net = rw (at-amount-at .amount-at .ensures rows) at (c .before .over-plus .ensures) in search column depth 20
+    let net = rw (at-early-plan .early-plan .ensures rows) at (c .before .over-plus .ensures) in search column depth 20
 
 returns-3 : tie.Need-returns-3
 returns-3 c rows =
-    let at-amount-at : tie.After-amount-at = search needs in
+    let at-early-plan : tie.After-early-plan = search needs in
     let enough : tie.Else1 = search needs in
     let s = start enough in
     let has = not-short-of _ _ _ _ (kept s .room) (s .pre .named .stands) _ _ (enough .before .before .sheets-at .ensures) (s .pre .below) (enough .if1 .left) in
-    let net = rw (at-amount-at .amount-at .ensures rows) at (c .before .over-plus .ensures) in search column depth 20
+    let net = rw (at-early-plan .early-plan .ensures rows) at (c .before .over-plus .ensures) in search column depth 20
 
 pub take-refusal-spec : {M : Type 1} → statement M
-take-refusal-spec = tie.close (tie.spec sheets-at-requires returns amount-at-requires over-plus-requires returns-2 returns-3)
+take-refusal-spec = tie.close (tie.spec sheets-at-requires returns early-plan-requires over-plus-requires returns-2 returns-3)

@@ -49,16 +49,17 @@ put-trade-requires c κs =
     let past1 : tie.Else1 = search needs in
     omega (arith, begins past1 .room)
 
-mul-today-less : tie.Need-mul-today-less
-mul-today-less c =
+principal-of-requires : tie.Need-principal-of-requires
+principal-of-requires c κs =
     let past1 : tie.Else1 = search needs in
     omega (arith, begins past1 .few)
 
 today-less-requires : tie.Need-today-less-requires
+unfolding principal
 today-less-requires c κs =
     let s : tie.Start = search needs in
     let past1 : tie.Else1 = search needs in
-    (fit-net _ _ _ (s .pre .book .fits), omega (arith, begins past1 .few))
+    (fit-net _ _ _ (s .pre .book .fits), rw (c .principal-of .ensures) (omega (arith, begins past1 .few)))
 
 add-with-trades : tie.Need-add-with-trades
 add-with-trades c =
@@ -75,16 +76,17 @@ same-length-2 : tie.Need-same-length-2
 same-length-2 c = search needs
 
 returns-2 : tie.Need-returns-2
-unfolding initialBook initialTable principal
+unfolding initialBook initialTable
 returns-2 c kinds units =
     let at-today-less : tie.After-today-less = search needs in
+    let at-principal-of : tie.After-principal-of = search needs in
     let at-put-trade : tie.After-put-trade = search needs in
     let at-begun-trade : tie.After-begun-trade = search needs in
     let q : tie.Else1 = search needs in
     let a = start q .args in
     let rows = rowsOf (a .held .now) kinds units in
     let none-applies = clear q kinds units in (
-      carried-out _ _ rows _ _ none-applies (c .answered2 .ensures) (rw (c .before .with-trades .ensures, at-today-less .today-less .ensures)),
+      carried-out _ _ rows _ _ none-applies (c .answered2 .ensures) (rw (c .before .with-trades .ensures, at-today-less .today-less .ensures, at-principal-of .principal-of .ensures)),
       at-put-trade .put-trade .ensures .0 ∙ rw (at-begun-trade .begun-trade .ensures rows, none-applies) refl,
     )
 
@@ -98,7 +100,7 @@ initial-spec =
     returns
     begun-trade-requires
     put-trade-requires
-    mul-today-less
+    principal-of-requires
     today-less-requires
     add-with-trades
     with-trades-requires

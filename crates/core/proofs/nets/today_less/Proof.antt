@@ -13,7 +13,7 @@ use Rattle.core.proofs.nets.today_less.Tie as tie
 net-read : (c : tie.After-struct-told) → toZ w64 (ofZ w64 (c .before .before .args .nets .today)) ≡ c .before .before .args .nets .today
 net-read c = toZ-ofZ w64 (c .before .before .args .nets .today) (record { sfits = c .struct-told .given .0 .1 })
 
-more-read : (c : tie.After-struct-told) → toZ w64 (ofZ w64 (c .before .negative .result)) ≡ negℤ (pos (c .before .before .args .amount))
+more-read : (c : tie.After-struct-told) → toZ w64 (ofZ w64 (c .before .negative .result)) ≡ negℤ (pos (c .before .before .args .amount .0))
 more-read c = rw (toZ-ofZ w64 (c .before .negative .result) (record { sfits = c .before .negative .ok })) (c .before .negative .ensures)
 
 negative-requires : tie.Need-negative-requires
@@ -22,7 +22,7 @@ negative-requires c κs = search needs
 plus-requires : tie.Need-plus-requires
 plus-requires c κs =
     rw (net-read c, more-read c)
-    (omega (arith, within-limit (c .before .before .args .nets .today) (c .before .before .pre .0)), omega (arith, size-of-negative (c .before .before .args .amount), c .before .before .pre .1))
+    (omega (arith, within-limit (c .before .before .args .nets .today) (c .before .before .pre .0)), omega (arith, size-of-negative (c .before .before .args .amount .0), c .before .before .pre .1))
 
 returns : tie.Need-returns
 returns c =

@@ -13,7 +13,7 @@ use Rattle.core.proofs.nets.today_plus.Tie as tie
 net-read : (c : tie.After-struct-told) → toZ w64 (ofZ w64 (c .before .before .args .nets .today)) ≡ c .before .before .args .nets .today
 net-read c = toZ-ofZ w64 (c .before .before .args .nets .today) (record { sfits = c .struct-told .given .0 .1 })
 
-more-read : (c : tie.After-struct-told) → toZ w64 (ofZ w64 (c .before .signed .result)) ≡ pos (c .before .before .args .amount)
+more-read : (c : tie.After-struct-told) → toZ w64 (ofZ w64 (c .before .signed .result)) ≡ pos (c .before .before .args .amount .0)
 more-read c = rw (toZ-ofZ w64 (c .before .signed .result) (record { sfits = c .before .signed .ok })) (c .before .signed .ensures)
 
 signed-requires : tie.Need-signed-requires

@@ -24,8 +24,8 @@ redeemable s =
 payment-day-requires : tie.Need-payment-day-requires
 payment-day-requires c κs = search needs
 
-fallback-total-requires : tie.Need-fallback-total-requires
-fallback-total-requires c κs =
+termination-plan-requires : tie.Need-termination-plan-requires
+termination-plan-requires c κs =
     let s : tie.Start = search needs in
     rw (c .payment-day .ensures) (redeemable s)
 
@@ -33,15 +33,15 @@ cleared-plus-requires : tie.Need-cleared-plus-requires
 cleared-plus-requires c κs =
     let s : tie.Start = search needs in
     let f = fit-parts (now (s .args .calendar)) (book s) (tradesOf (now (s .args .table))) (s .pre .book .fits) in
-    (le-leb _ _ (f .nets .cleared), rw (c .fallback-total .ensures, c .before .payment-day .ensures) (fallback-bound _ _ _ (redeemable s)))
+    (le-leb _ _ (f .nets .cleared), rw (c .termination-plan .ensures, c .before .payment-day .ensures) (fallback-bound _ _ _ (redeemable s)))
 
 returns : tie.Need-returns
 returns c rows =
     let at-payment-day : tie.After-payment-day = search needs in
     let s : tie.Start = search needs in
     c .cleared-plus .ensures
-    ∙ rw (c .before .fallback-total .ensures, at-payment-day .payment-day .ensures, s .pre .opened, fit-in-use (now (s .args .calendar)) (book s) (now (s .args .table)) (s .pre .book .fits))
+    ∙ rw (c .before .termination-plan .ensures, at-payment-day .payment-day .ensures, s .pre .opened, fit-in-use (now (s .args .calendar)) (book s) (now (s .args .table)) (s .pre .book .fits))
 
 pub with-fallbacks-spec : {M : Type 1} → statement M
 with-fallbacks-spec =
-    tie.close (tie.spec payment-day-requires fallback-total-requires cleared-plus-requires returns)
+    tie.close (tie.spec payment-day-requires termination-plan-requires cleared-plus-requires returns)

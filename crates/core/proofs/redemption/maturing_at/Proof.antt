@@ -13,7 +13,7 @@ sheets-at-requires : tie.Need-sheets-at-requires
 sheets-at-requires c κs = search needs
 
 returns-2 : tie.Need-returns-2
-returns-2 c = rw (le-leb _ _ (rw (c .before .before .due-at .ensures) at (c .before .if1 .left))) (c .sheets-at .ensures)
+returns-2 c = rw (le-leb _ _ (rw (c .before .before .due-at .ensures) at (c .before .if1 .left)), c .sheets-at .ensures)
 
 pub maturing-at-spec : {M : Type 1} → statement M
 maturing-at-spec = tie.close (tie.spec due-at-requires returns sheets-at-requires returns-2)

@@ -4,8 +4,8 @@ use Rattle.core.specs.Flat.{bookOf}
 use Rattle.core.proofs.RedemptionLaws.{begun-before}
 use Rattle.core.proofs.FitFacts.{fit-keeps, fit-redeemable}
 use Rattle.core.proofs.ContractLaws.{trade-here}
-use Rattle.core.proofs.early.amount_at.Statement.{statement}
-use Rattle.core.proofs.early.amount_at.Tie as tie
+use Rattle.core.proofs.early.early_plan.Statement.{statement}
+use Rattle.core.proofs.early.early_plan.Tie as tie
 
 payment-day-requires : tie.Need-payment-day-requires
 payment-day-requires c κs = search needs
@@ -25,5 +25,5 @@ returns c rows =
     let own = trade-here _ _ _ _ (fit-keeps (start .args .calendar .now) (bookOf (start .args .desk) (start .pre .0 .named .book .rows)) (start .args .table .now) (start .pre .0 .named .book .fits) .room) (start .pre .0 .named .stands) (start .pre .0 .below) in
     rw (c .redeemed-for .ensures, c .before .payment-day .ensures, own)
 
-pub amount-at-spec : {M : Type 1} → statement M
-amount-at-spec = tie.close (tie.spec payment-day-requires redeemed-for-requires returns)
+pub early-plan-spec : {M : Type 1} → statement M
+early-plan-spec = tie.close (tie.spec payment-day-requires redeemed-for-requires returns)
