@@ -1,7 +1,5 @@
 -- The laws that the book's proofs share.
 
--- laws for the listing on a fresh book
-pub mod ListingLaws
 -- walks by hand of the functions over a lent table
 pub mod TableLaws
 pub mod WalkAgain

@@ -1,8 +1,5 @@
 // The book: the calls on one firm's book and its lent table of trades, the layer above the core's numbers.
 
-// The run of a journal's events on a fresh book.
-pub mod listing;
-
 // One event, a run of events, headroom and O.
 pub mod table;
 

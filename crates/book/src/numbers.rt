@@ -4,13 +4,11 @@ ghost use Prim.Native.Nat.{_%_};
 ghost use lib.ListN.{length};
 ghost use Rattle.rules.specs.Step.{step};
 ghost use Rattle.rules.specs.Cover.{coverOf};
-ghost use Rattle.rules.specs.Listing.{runOutcome};
 ghost use Rattle.core.specs.Flat.{width, tradesOf, appliedOf};
 use core::lent;
 use core::split;
 use rules::answer::Applied;
 use rules::answer::Cover;
-use rules::answer::Ran;
 use rules::book::Book;
 use rules::event::Entry;
 
@@ -56,42 +54,4 @@ pub fn cover_flat(calendar: &[u32], book: Book, table: &[u64]) -> Cover
     let kinds = split::kinds_of(withdrawals);
     let units = split::units_of(withdrawals);
     lent::cover(calendar, desk, &held, &kinds, &units, table)
-}
-
-pub fn run_flat(
-    calendar: &[u32],
-    book: Book,
-    table: &mut [u64],
-    events: &[u8],
-    lines: &mut [u64],
-) -> Ran
-    requires { ⌜ length (now table) % width ≡ 0 ⌝ }
-    ensures { λ r.
-        let trades = tradesOf (now (table .entry)) in
-        let ended = runOutcome (now (calendar .entry)) book trades (now (events .entry)) (now (lines .entry)) in
-        ⌜ (r ≡ ended .ran)
-        × (tradesOf (now (table .exit)) ≡ ended .table)
-        × (now (lines .exit) ≡ ended .lines) ⌝ }
-{
-    let vault = book.vault;
-    let withdrawals = book.withdrawals;
-    let desk = split::desk_of(book);
-    let mut held = split::held_of(vault);
-    let mut kinds = split::kinds_of(withdrawals);
-    let mut units = split::units_of(withdrawals);
-    let ended = lent::run(
-        calendar,
-        desk,
-        &mut held,
-        &mut kinds,
-        &mut units,
-        table,
-        events,
-        lines,
-    );
-    let last = ended.desk;
-    Ran {
-        number: ended.number,
-        book: split::book_of(last, &held, kinds, units),
-    }
 }

@@ -68,7 +68,7 @@ pub fn expect_lines(calendar: &[u32], start: &[u64], earlier: &[u64], events: &[
     let length = start.len() + earlier.len() + events.len();
     let bytes = encoded(start, earlier, events);
     let mut listing = [0; 336];
-    let number = book::listing::run_listing(calendar, &bytes[..length * 8], &mut listing);
+    let number = core::listing::run_listing(calendar, &bytes[..length * 8], &mut listing);
     check::expect(number == 0);
     let end = length / 5 * 7;
     check::expect(same_numbers(&listing[..end], end - lines.len(), lines));

@@ -36,5 +36,6 @@ pub mod CoverLaws
 pub mod FigureLaws
 pub mod LineLaws
 pub mod RunLaws
+pub mod ListingLaws
 pub mod LentLaws
 pub mod ToldLaws

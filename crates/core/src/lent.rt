@@ -27,6 +27,9 @@ use desk::state::Desk;
 use rules::answer::Cover;
 use rules::event::Entry;
 use rules::limits::APPLICATION_LIMIT;
+use rules::limits::EVENT_BYTES;
+use rules::limits::EVENT_LIMIT;
+use rules::limits::LINE_NUMBERS;
 use rules::trade::Trade;
 
 fn is_whole(desk: Desk, held: &[u64], kinds: &[u8], units: &[u64], table: &[u64]) -> bool
@@ -137,13 +140,13 @@ pub fn cover(
 pub fn lengths_refusal(bytes: usize, room: usize) -> u8
     ensures { λ r. ⌜ r ≡ numberOf (firstOf (lengthCauses bytes room)) ⌝ }
 {
-    if bytes % 40 != 0 {
+    if bytes % EVENT_BYTES != 0 {
         return 18;
     }
-    if bytes / 40 > 1_500 {
+    if bytes / EVENT_BYTES > EVENT_LIMIT {
         return 18;
     }
-    if room < 7 * (bytes / 40) {
+    if room < LINE_NUMBERS * (bytes / EVENT_BYTES) {
         return 18;
     }
     0

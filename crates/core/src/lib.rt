@@ -6,6 +6,9 @@ pub mod split;
 // The calls: one event, headroom and O, a run of encoded events.
 pub mod lent;
 
+// The run of a journal's events on a fresh book.
+pub mod listing;
+
 // How many numbers a trade takes, and the securities.
 pub mod layout;
 

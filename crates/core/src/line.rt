@@ -7,7 +7,7 @@ ghost use lib.ListN.{length};
 ghost use lib.Seq.{sets};
 ghost use Rattle.money.specs.Limits.{cashLimit};
 ghost use Rattle.rules.specs.Limits.{sizeLimit};
-ghost use Rattle.rules.specs.Listing.{signOf};
+ghost use Rattle.rules.specs.Listing.{lineNumbers, signOf};
 use crate::nets;
 use rules::answer::Cover;
 use rules::book::Cash;
@@ -31,7 +31,7 @@ pub fn write_line(
     cash: Cash,
     guarantee: Guarantee,
 )
-    requires { ⌜ (at + 7 ≤ length (now lines))
+    requires { ⌜ (at + lineNumbers ≤ length (now lines))
         × (natAbs (cover .headroom) ≤ sizeLimit)
         × (guarantee .effective .0 + guarantee .arriving .0 ≤ cashLimit) ⌝ }
     ensures { λ _.

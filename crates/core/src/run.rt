@@ -3,9 +3,9 @@ ghost use mathlib.Core.Path.{_≡_};
 ghost use Prim.Native.Nat.{_+_, _*_, _/_, _≤_};
 ghost use lib.ListN.{length};
 ghost use lib.Seq.{sets};
-ghost use Rattle.rules.specs.Entry.{decoded};
+ghost use Rattle.rules.specs.Entry.{eventBytes, decoded};
 ghost use Rattle.rules.specs.Step.{step};
-ghost use Rattle.rules.specs.Listing.{lineOf, runDone};
+ghost use Rattle.rules.specs.Listing.{lineNumbers, lineOf, runDone};
 ghost use Rattle.core.specs.Flat.{FitsWhole, rowsOf, bookOf, tradesOf};
 ghost use Rattle.core.specs.Figures.{figuresAt};
 use crate::cover;
@@ -14,6 +14,8 @@ use crate::figures;
 use crate::figures::Figures;
 use crate::line;
 use desk::state::Desk;
+use rules::limits::EVENT_BYTES;
+use rules::limits::LINE_NUMBERS;
 
 // What an event of a run leaves: the desk, and O and V for the next.
 struct Turn {
@@ -37,7 +39,7 @@ fn run_event(
     requires { let trades = tradesOf (now table) in
         ⌜ (FitsWhole (now calendar) desk (now held) (now kinds) (now units) trades)
         × (figures ≡ figuresAt desk (now held) trades)
-        × (at + 7 ≤ length (now lines)) ⌝ }
+        × (at + lineNumbers ≤ length (now lines)) ⌝ }
     ensures { λ r.
         let book = bookOf desk (rowsOf (now (held .entry)) (now (kinds .entry)) (now (units .entry))) in
         let trades = tradesOf (now (table .entry)) in
@@ -89,7 +91,7 @@ pub fn run_events(
     lines: &mut [u64],
 ) -> Desk
     requires { ⌜ (FitsWhole (now calendar) desk (now held) (now kinds) (now units) (tradesOf (now table)))
-        × (7 * (length (now events) / 40) ≤ length (now lines)) ⌝ }
+        × (lineNumbers * (length (now events) / eventBytes) ≤ length (now lines)) ⌝ }
     ensures { λ r.
         let book = bookOf desk (rowsOf (now (held .entry)) (now (kinds .entry)) (now (units .entry))) in
         let trades = tradesOf (now (table .entry)) in
@@ -98,12 +100,12 @@ pub fn run_events(
         × (tradesOf (now (table .exit)) ≡ ended .table)
         × (now (lines .exit) ≡ ended .lines) ⌝ }
 {
-    let count = events.len() / 40;
+    let count = events.len() / EVENT_BYTES;
     let figures = figures::figures_of(calendar, desk, &*held, &*table);
     let mut turn = Turn { desk, figures };
     let mut k = 0;
     while k < count {
-        let bytes = &events[k * 40..k * 40 + 40];
+        let bytes = &events[k * EVENT_BYTES..k * EVENT_BYTES + EVENT_BYTES];
         turn = run_event(
             calendar,
             bytes,
@@ -114,7 +116,7 @@ pub fn run_events(
             table,
             turn.figures,
             lines,
-            k * 7,
+            k * LINE_NUMBERS,
         );
         k += 1;
     }

@@ -4,7 +4,7 @@ ghost use mathlib.Core.List.{[], _∷_};
 ghost use Prim.Native.Nat.{_+_, _≤_, _<_};
 ghost use lib.ListN.{length};
 ghost use Rattle.money.specs.Units.{sheets, ticks};
-ghost use Rattle.rules.specs.Entry.{numberAt, fieldsOf, restOf, termsOf, unless, onAccount, entryOf, decoded};
+ghost use Rattle.rules.specs.Entry.{eventBytes, numberAt, fieldsOf, restOf, termsOf, unless, onAccount, entryOf, decoded};
 use money::units::Fen;
 use money::units::Sheets;
 use money::units::Ticks;
@@ -12,6 +12,7 @@ use rules::event::Account;
 use rules::event::Entry;
 use rules::event::Event;
 use rules::event::Fields;
+use rules::limits::EVENT_BYTES;
 use rules::trade::Contract;
 use rules::trade::Terms;
 
@@ -44,7 +45,7 @@ fn number8(bytes: &[u8], at: usize) -> u64
 
 // The spare bytes are what the first 8 have beyond code and kind.
 fn fields_of(bytes: &[u8]) -> Fields
-    requires { ⌜ length (now bytes) ≡ 40 ⌝ }
+    requires { ⌜ length (now bytes) ≡ eventBytes ⌝ }
     ensures { λ r. ⌜ r ≡ fieldsOf (now (bytes .entry)) ⌝ }
 {
     Fields {
@@ -207,7 +208,7 @@ fn entry_of(fields: Fields) -> Entry
 pub fn decode(bytes: &[u8]) -> Entry
     ensures { λ r. ⌜ r ≡ decoded (now (bytes .entry)) ⌝ }
 {
-    if bytes.len() != 40 {
+    if bytes.len() != EVENT_BYTES {
         return Entry::Undecodable;
     }
     entry_of(fields_of(bytes))

@@ -50,5 +50,5 @@ pub extern "C" fn book_run_listing(calendar: &[u32], events: &[u8], lines: &mut 
         ⌜ (r ≡ numberOf cause)
         × (now (lines .exit) ≡ writtenBy cause (listingOf (now (calendar .entry)) (now (events .entry))) (now (lines .entry))) ⌝ }
 {
-    book::listing::run_listing(calendar, events, lines)
+    core::listing::run_listing(calendar, events, lines)
 }

@@ -71,7 +71,7 @@ fn write_run(calendar: &[u32], events: &[u8], text: &mut [u8]) -> Written
         × (now (text .exit) ≡ textAfter written (now (text .entry))) ⌝ }
 {
     let mut lines = [0; 10500];
-    book::listing::run_listing(calendar, events, &mut lines);
+    core::listing::run_listing(calendar, events, &mut lines);
     write_lines(text, &lines, events.len() / 40)
 }
 

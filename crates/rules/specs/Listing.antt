@@ -23,8 +23,11 @@ abbrev pub eventLimit : ℕ
 eventLimit = 1500
 
 -- "on a fresh book with capacity 1,024"
+abbrev pub journalCapacity : ℕ
+journalCapacity = 1024
+
 abbrev pub journalTable : List Trade
-journalTable = replicate 1024 noTrade
+journalTable = replicate journalCapacity noTrade
 
 -- the entries that bytes hold, 40 after 40
 unfoldable pub entriesOf : (count : ℕ) → List ℕ → List Entry

@@ -16,3 +16,15 @@ pub const APPLICATION_LIMIT: usize = 128;
 
 // "due not 1 to 365 days ahead"
 pub const AHEAD_LIMIT: u32 = 365;
+
+// "events of 40 bytes"
+pub const EVENT_BYTES: usize = 40;
+
+// "a 32-bit count (to 1,500)"
+pub const EVENT_LIMIT: usize = 1_500;
+
+// "on a fresh book with capacity 1,024"
+pub const JOURNAL_CAPACITY: usize = 1_024;
+
+// Numbers of a line: answer, headroom's sign and size, O, own, client and guarantee cash.
+pub const LINE_NUMBERS: usize = 7;

@@ -1,7 +1,7 @@
 -- A listing that is not refused, and the empty table that it starts on.
 -- For the proofs of listing.rt. Assumes nothing.
-use mathlib.Core.Path.{_≡_, refl, ap}
-use mathlib.Core.Bool.{not}
+use mathlib.Core.Path.{_≡_, refl}
+use mathlib.Core.Bool.{true, not}
 use mathlib.Core.List.{List}
 use mathlib.Core.Option.{none}
 use Prim.Native.Nat.{ℕ, zero, suc, _+_, _*_, _≤_, _<_}
@@ -15,12 +15,12 @@ use Rattle.money.proofs.Refusals.{failed}
 use Rattle.money.specs.Days.{Calendar}
 use Rattle.rules.specs.Trades.{noTrade}
 use Rattle.rules.specs.Book.{freshBook}
-use Rattle.rules.specs.Listing.{journalTable, listingOf, lengthCauses, listingCauses, writtenBy, RunOutcome, runDone, runOutcome}
+use Rattle.rules.specs.Limits.{applicationLimit}
+use Rattle.rules.specs.Fit.{fit}
+use Rattle.rules.specs.Listing.{journalCapacity, journalTable, listingOf, lengthCauses, listingCauses, writtenBy, runDone}
 use Rattle.rules.proofs.StaysFit.{others-clear, fresh-is-fit}
-use Rattle.core.specs.Flat.{width, tradeAt, tradesTo, capacity, tradesOf}
+use Rattle.core.specs.Flat.{width, heldLength, tradeAt, tradesTo, capacity, tradesOf, securityIn, securitiesTo, rowsOf, bookOf, deskOf}
 use Rattle.core.proofs.Refusing.{none-at-0}
-use Rattle.core.proofs.StepLaws.{not-unfit}
-use Rattle.core.proofs.RunLaws.{goes-on}
 
 -- ---- a listing that is not refused
 
@@ -33,7 +33,7 @@ module _ (words bytes room : ℕ) where
   unfolding listingCauses
   words-within e = ltb-false 1200 words (failed _ e 1 .0 refl)
 
-  lengths-none : firstOf (listingCauses words bytes room) ≡ none → firstOf (lengthCauses bytes room) ≡ none
+  pub lengths-none : firstOf (listingCauses words bytes room) ≡ none → firstOf (lengthCauses bytes room) ≡ none
   unfolding listingCauses
   lengths-none e = others-clear _ (lengthCauses bytes room) e
 
@@ -64,13 +64,16 @@ empty-table numbers count e =
 pub journal-starts-empty : tradesOf (zeros 4096) ≡ journalTable
 journal-starts-empty = empty-table 4096 1024 refl
 
--- ---- the run on a fresh book is the listing
+-- ---- a fresh book in rows of zeros
 
-pub fresh-listing : (calendar : Calendar) (bytes buffer : List ℕ) → firstOf (listingCauses (length calendar) (length bytes) (length buffer)) ≡ none
-    → runOutcome calendar freshBook journalTable bytes buffer .lines ≡ writtenBy none (listingOf calendar bytes) buffer
+pub fresh-in-rows : bookOf (deskOf freshBook) (rowsOf (zeros heldLength) (zeros applicationLimit) (zeros applicationLimit)) ≡ freshBook
+unfolding freshBook securitiesTo securityIn
+fresh-in-rows = refl
+
+pub fresh-fits : (calendar : Calendar) → fit calendar freshBook journalTable ≡ true
+fresh-fits calendar = fresh-is-fit calendar journalTable (omega (arith, length-replicate journalCapacity noTrade))
+
+-- the run on it is the listing
+pub fresh-listing : (calendar : Calendar) (bytes buffer : List ℕ) → runDone calendar freshBook journalTable bytes buffer .lines ≡ writtenBy none (listingOf calendar bytes) buffer
 unfolding listingOf runDone
-fresh-listing calendar bytes buffer e =
-    ap (λ (u : RunOutcome). u .lines)
-    (goes-on calendar freshBook journalTable bytes buffer
-    (not-unfit calendar freshBook journalTable (fresh-is-fit calendar journalTable (omega (arith, length-replicate 1024 noTrade))) (words-within _ _ _ e))
-    (lengths-none _ _ _ e))
+fresh-listing calendar bytes buffer = refl
