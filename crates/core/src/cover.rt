@@ -4,7 +4,6 @@ ghost use Prim.Native.Nat.{_≤_};
 ghost use Rattle.money.specs.Units.{sheets};
 ghost use Rattle.rules.specs.Limits.{sizeLimit};
 ghost use Rattle.rules.specs.Vault.{headroomOf};
-ghost use Rattle.rules.specs.Cover.{uncounted};
 use crate::figures::Figures;
 use crate::nets;
 use desk::headroom;
@@ -30,15 +29,5 @@ pub fn cover_from(size: u64, figures: Figures) -> Cover
         number: 0,
         headroom: headroom_from(size, figures.value, figures.outstanding),
         outstanding: Sheets(figures.outstanding),
-    }
-}
-
-pub fn refused() -> Cover
-    ensures { λ r. ⌜ r ≡ uncounted ⌝ }
-{
-    Cover {
-        number: 1,
-        headroom: 0,
-        outstanding: Sheets(0),
     }
 }

@@ -22,6 +22,7 @@ use crate::layout::HELD_LENGTH;
 use crate::run;
 use desk::done;
 use desk::done::Done;
+use desk::headroom;
 use desk::state;
 use desk::state::Desk;
 use rules::answer::Cover;
@@ -130,7 +131,7 @@ pub fn cover(
     let tested = fitness_in(calendar, desk, held, kinds, units, table);
     let fits = tested.fit;
     if !fits {
-        return cover::refused();
+        return headroom::uncounted();
     }
     let figures = figures::figures_of(calendar, desk, held, table);
     cover::cover_from(desk.size.0, figures)

@@ -1,4 +1,4 @@
-// What an event leaves beside the rows and the table. The core's answers are made here only.
+// What an event leaves beside the rows and the table. Answers are made here only.
 ghost use mathlib.Core.Path.{_≡_};
 ghost use Rattle.rules.specs.Book.{answer};
 use crate::state::Desk;
@@ -11,16 +11,22 @@ pub struct Done {
 }
 
 // An answer that carries its number alone.
+pub fn answer_of(number: u8) -> Answer
+    ensures { λ r. ⌜ r ≡ answer number ⌝ }
+{
+    Answer {
+        number,
+        matured: Sheets(0),
+        done: 0,
+        dropped: 0,
+    }
+}
+
 pub fn answered(number: u8, desk: Desk) -> Done
     ensures { λ r. ⌜ r ≡ record { answer = answer number; desk = desk } ⌝ }
 {
     Done {
-        answer: Answer {
-            number,
-            matured: Sheets(0),
-            done: 0,
-            dropped: 0,
-        },
+        answer: answer_of(number),
         desk,
     }
 }

@@ -4,6 +4,9 @@ ghost use Prim.Native.Nat.{min};
 ghost use lib.IntN.{pos};
 ghost use lib.Signed.{ltZ};
 ghost use Rattle.rules.specs.Vault.{headroomOf};
+ghost use Rattle.rules.specs.Cover.{uncounted};
+use money::units::Sheets;
+use rules::answer::Cover;
 
 pub fn smaller(a: u64, b: u64) -> u64
     ensures { λ r. ⌜ r ≡ min a b ⌝ }
@@ -30,4 +33,15 @@ pub fn above_headroom(size: u64, value: u64, outstanding: u64, count: u64) -> bo
         return true;
     }
     cover - outstanding < count
+}
+
+// What is answered of a book that is not fit.
+pub fn uncounted() -> Cover
+    ensures { λ r. ⌜ r ≡ uncounted ⌝ }
+{
+    Cover {
+        number: 1,
+        headroom: 0,
+        outstanding: Sheets(0),
+    }
 }
