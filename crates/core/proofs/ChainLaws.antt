@@ -17,7 +17,7 @@ use Rattle.rules.proofs.FoldLaws.{by-test}
 use Rattle.rules.proofs.TableFit.{differ-append}
 use Rattle.core.specs.Types.{Contract}
 use Rattle.core.specs.Flat.{tradeAt, tradesTo}
-use Rattle.core.specs.Chains.{Differs, Repeats, bucketOf, Reaches, Falls, Tells}
+use Rattle.core.specs.Chains.{Differs, Repeats, bucketOf, Reaches, Falls, Shows}
 use Rattle.core.proofs.FlatLaws.{one-more, split-trades}
 use Rattle.core.proofs.PlaceLaws.{on-table-append, off-none, off-one-more, differ-none, differ-not}
 
@@ -117,7 +117,7 @@ module _ (table next : List ℕ) (from : ℕ) (contract : Contract) where
       by (inl q) = inl q
       by (inr q) = on (reaches-on next (q .0) at place (rw e at (q .1)))
 
-  pub ahead-none : (link : ℕ) → link ≡ 0 → Ahead table next from contract link → Tells table next from contract Differs
+  pub ahead-none : (link : ℕ) → link ≡ 0 → Ahead table next from contract link → Shows table next from contract Differs
   ahead-none link e ahead steps place r = by (ahead steps place r)
     where
       by : (same (tradeAt table place .contract) contract ≡ false) ⊎ ((further : ℕ) × Reaches next further link place) → same (tradeAt table place .contract) contract ≡ false
@@ -157,12 +157,12 @@ module _ (table : List ℕ) (count buckets : ℕ) (heads next : List ℕ) (i : �
   pub inside : bucket < length heads
   inside = rw (linked .wide) (mod-lt (this .0) (linked .some))
 
-  pub repeated : Tells table next first this Repeats → differ (tradesTo table count) ≡ false
+  pub repeated : Shows table next first this Repeats → differ (tradesTo table count) ≡ false
   repeated told =
       ap differ (split-trades table count i more)
       ∙ differ-not (tradesTo table i) (tradeAt table i) (drop (suc i) (tradesTo table count)) (on-below this table i (told .0) (omega (arith, told .1, linked .low bucket)) (told .2))
 
-  new : Tells table next first this Differs → onTable this (tradesTo table i) ≡ false
+  new : Shows table next first this Differs → onTable this (tradesTo table i) ≡ false
   new told = off-below this table i (λ place l. by-test (λ b. b ≡ false) (same (tradeAt table place .contract) this) (λ e. sym e ∙ known place l e) (λ e. refl))
     where
       known : (place : ℕ) → place < i → same (tradeAt table place .contract) this ≡ true → same (tradeAt table place .contract) this ≡ false
@@ -170,7 +170,7 @@ module _ (table : List ℕ) (count buckets : ℕ) (heads next : List ℕ) (i : �
           let r = linked .reached place l in
           told (r .0) place (rw (same-bucket buckets (tradeAt table place .contract) this e) at (r .1))
 
-  pub next-linked : Tells table next first this Differs → Linked table count buckets (set heads bucket (i + 1)) (set next i first) (i + 1)
+  pub next-linked : Shows table next first this Differs → Linked table count buckets (set heads bucket (i + 1)) (set next i first) (i + 1)
   next-linked told = record {
     high = omega arith;
     some = linked .some;

@@ -28,7 +28,7 @@ use Rattle.rules.proofs.EveningFit.{all-arrived-fit}
 use Rattle.core.specs.Types.{Security, Book, Trade}
 use Rattle.desk.specs.declared.state.Desk.{Desk}
 use Rattle.desk.specs.declared.done.Done.{Done}
-use Rattle.core.specs.declared.evening.Evened.{Evened}
+use Rattle.core.specs.declared.evening.EveningScalars.{EveningScalars}
 use Rattle.core.specs.Redemption.{Redeemed, maturityOf}
 use Rattle.core.specs.Flat.{Rows, rowsOf, tradesTo, tradesOf, bookOf, eveningAt, appliedAt, closedBy, tableBy, Kept}
 use Rattle.core.proofs.FitFacts.{fit-in-use}
@@ -163,9 +163,9 @@ pub rows-cleared : (desk : Desk) (held : List ℕ) {kinds cleared-kinds units cl
     → bookOf desk (rowsOf held cleared-kinds cleared-units) ≡ book → bookOf desk (rowsOf held kinds units) ≡ book
 rows-cleared desk held k u e = rw (k, u) e
 
-pub close-done : (calendar : Calendar) (book : Book) (left table : List Trade) (matured : Sheets) (evened : Evened) (securities : List Security) (desk : Desk) (rows : Rows)
-    → matured ≡ sheets (maturedSheets book table) → eveningAt evened securities ≡ evening book left → bookOf desk rows ≡ closedBook calendar book left table
-    → appliedAt (record { answer = record { number = 0; matured = matured; done = evened .done; dropped = evened .dropped }; desk = desk }) rows ≡ closedBy none calendar book left table
+pub close-done : (calendar : Calendar) (book : Book) (left table : List Trade) (matured : Sheets) (ended : EveningScalars) (securities : List Security) (desk : Desk) (rows : Rows)
+    → matured ≡ sheets (maturedSheets book table) → eveningAt ended securities ≡ evening book left → bookOf desk rows ≡ closedBook calendar book left table
+    → appliedAt (record { answer = record { number = 0; matured = matured; done = ended .done; dropped = ended .dropped }; desk = desk }) rows ≡ closedBy none calendar book left table
 unfolding closeAnswer
-close-done calendar book left table matured evened securities desk rows m end next =
+close-done calendar book left table matured ended securities desk rows m end next =
     rw (m, sym end, sym next)

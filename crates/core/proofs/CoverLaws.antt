@@ -11,7 +11,7 @@ use Rattle.money.specs.Days.{Calendar}
 use Rattle.rules.specs.Vault.{value, outstandingOf, headroom}
 use Rattle.rules.specs.Fit.{fit}
 use Rattle.rules.specs.Step.{unfit}
-use Rattle.rules.specs.Cover.{counted, uncounted, coverOf}
+use Rattle.rules.specs.Cover.{coverCounted, coverRefused, coverOf}
 use Rattle.rules.proofs.FitParts.{fit-parts}
 use Rattle.core.specs.Types.{Book, Trade}
 
@@ -23,11 +23,11 @@ small-difference a b h k = by-order (ltb a b)
     by-order false = omega arith
 
 module _ (calendar : Calendar) (book : Book) (table : List Trade) where
-  pub unfit-cover : unfit calendar book table ≡ true → coverOf calendar book table ≡ uncounted
+  pub unfit-cover : unfit calendar book table ≡ true → coverOf calendar book table ≡ coverRefused
   unfolding coverOf
   unfit-cover e = rw e
 
-  pub fit-cover : unfit calendar book table ≡ false → coverOf calendar book table ≡ counted book table
+  pub fit-cover : unfit calendar book table ≡ false → coverOf calendar book table ≡ coverCounted book table
   unfolding coverOf
   fit-cover e = rw e
 

@@ -27,7 +27,7 @@ use Rattle.rules.specs.Early.{earlyCauses, earlyBook, earlyTable}
 use Rattle.rules.specs.Pay.{fails, afterPay}
 use Rattle.rules.specs.Close.{closeAnswer}
 use Rattle.rules.specs.Step.{eventCauses, entryCauses, causes, act, actOn, refuseOr, step, accepted}
-use Rattle.rules.specs.Cover.{counted}
+use Rattle.rules.specs.Cover.{coverCounted}
 use Rattle.rules.proofs.TradeLaws.{outstanding-append, outstanding-one, outstanding-takeOff, length-takeOff, take-over, take-begun}
 use Rattle.rules.proofs.Accepted.{all-clear}
 use Rattle.rules.proofs.Answers.{turned-down}
@@ -116,6 +116,6 @@ moved-after calendar book table entry fits before f applied table′ e t = rw (f
 
 -- the cover that O and V give
 pub counted-from : (book : Book) (table : List Trade) (figures : Figures) → figures ≡ figuresOf book table
-    → record { number = 0; headroom = headroomOf (book .size .0) (figures .value) (figures .outstanding); outstanding = sheets (figures .outstanding) } ≡ counted book table
+    → record { number = 0; headroom = headroomOf (book .size .0) (figures .value) (figures .outstanding); outstanding = sheets (figures .outstanding) } ≡ coverCounted book table
 unfolding headroom
 counted-from book table figures f = rw f

@@ -11,7 +11,7 @@ use Rattle.money.specs.Days.{Calendar}
 use Rattle.rules.specs.Book.{answer}
 use Rattle.rules.specs.Fit.{fit}
 use Rattle.rules.specs.Step.{Outcome, outcome, unfit, step}
-use Rattle.rules.specs.Cover.{uncounted, coverOf}
+use Rattle.rules.specs.Cover.{coverRefused, coverOf}
 use Rattle.rules.specs.Listing.{RunOutcome, runOutcome}
 use Rattle.rules.proofs.FoldLaws.{by-test, both, neither, every-holds, every-of}
 use Rattle.core.specs.Types.{Applied, Ran, Trade, Entry}
@@ -93,10 +93,10 @@ module _ (calendar : Calendar) (l : Lent) where
   unfolding stepIn
   by-step w entry = rw w refl
 
-  pub refused-cover : fitIn calendar l ≡ false → coverIn calendar l ≡ uncounted
+  pub refused-cover : fitIn calendar l ≡ false → coverIn calendar l ≡ coverRefused
   unfolding coverIn
   refused-cover h =
-      by-test (λ x. cond x (coverOf calendar (bookIn l) (tableIn l)) uncounted ≡ uncounted) (isWhole l) (λ w. unfit-cover calendar (bookIn l) (tableIn l) (unfit-where h w)) (λ w. refl)
+      by-test (λ x. cond x (coverOf calendar (bookIn l) (tableIn l)) coverRefused ≡ coverRefused) (isWhole l) (λ w. unfit-cover calendar (bookIn l) (tableIn l) (unfit-where h w)) (λ w. refl)
 
   pub by-cover : isWhole l ≡ true → coverIn calendar l ≡ coverOf calendar (bookIn l) (tableIn l)
   unfolding coverIn

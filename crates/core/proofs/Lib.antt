@@ -20,7 +20,7 @@ pub mod NetLaws
 pub mod PayLaws
 pub mod DayLaws
 pub mod Refusing
-pub mod GatherLaws
+pub mod SummaryLaws
 pub mod FitFacts
 pub mod Fitting
 pub mod ContractLaws
@@ -38,4 +38,4 @@ pub mod LineLaws
 pub mod RunLaws
 pub mod ListingLaws
 pub mod LentLaws
-pub mod ToldLaws
+pub mod WholeLaws

@@ -12,7 +12,7 @@ use lib.ListN.{set}
 use lib.Seq.{sets}
 use lib.Signed.{ltZ}
 use Rattle.rules.specs.Step.{Outcome}
-use Rattle.rules.specs.Cover.{counted}
+use Rattle.rules.specs.Cover.{coverCounted}
 use Rattle.rules.specs.Listing.{signOf, lineOf}
 use Rattle.core.specs.Types.{Trade, Applied, Cover}
 use Rattle.core.specs.Flat.{appliedOf}
@@ -43,7 +43,7 @@ seven-in-a-row l at a b c d e f g =
 -- ---- what a line tells
 
 -- its line, from what the code has of it
-pub line-told : (left : Outcome) (applied : Applied) (table : List Trade) {cover : Cover} → applied ≡ appliedOf left → table ≡ left .table → cover ≡ counted (applied .book) table
+pub line-told : (left : Outcome) (applied : Applied) (table : List Trade) {cover : Cover} → applied ≡ appliedOf left → table ≡ left .table → cover ≡ coverCounted (applied .book) table
     → (applied .answer .number ∷ signOf (cover .headroom) ∷ natAbs (cover .headroom) ∷ cover .outstanding .0
     ∷ applied .book .cash .own .0 ∷ applied .book .cash .client .0 ∷ (applied .book .vault .guarantee .effective .0 + applied .book .vault .guarantee .arriving .0) ∷ []) ≡ lineOf left
 unfolding lineOf

@@ -15,7 +15,7 @@ use Rattle.core.proofs.FlatLaws.{no-trades, one-more, length-trades, sa
 use Rattle.core.proofs.RedemptionLaws.{over-set}
 
 -- ---- of i trades of s passed, those with something left stand in front of t, and those not passed stand where they stood
-pub record Gathered (s : List ℕ) (count : ℕ) (t : List ℕ) (kept i : ℕ) : Type 0 where
+pub record Summary (s : List ℕ) (count : ℕ) (t : List ℕ) (kept i : ℕ) : Type 0 where
   pub low : kept ≤ i
   pub high : i ≤ count
   pub room : HasSlots s count
@@ -23,7 +23,7 @@ pub record Gathered (s : List ℕ) (count : ℕ) (t : List ℕ) (kept i : ℕ) :
   pub front : take kept (tradesOf t) ≡ remaining (tradesTo s i)
   pub rest : drop i (tradesOf t) ≡ drop i (tradesOf s)
 
-pub none-passed : (s : List ℕ) (count : ℕ) → HasSlots s count → Gathered s count s 0 0
+pub none-passed : (s : List ℕ) (count : ℕ) → HasSlots s count → Summary s count s 0 0
 unfolding remaining
 none-passed s count h = record { low = omega arith; high = omega arith; room = h; long = refl; front = rw (no-trades s); rest = refl }
 
@@ -42,14 +42,14 @@ remaining-one-some trade h = by (trade .sheets .0) h
     by zero h = absurd (h refl)
     by (suc n) h = refl
 
-module _ (s : List ℕ) (count : ℕ) (t : List ℕ) (kept i : ℕ) (g : Gathered s count t kept i) (l : i < count) where
+module _ (s : List ℕ) (count : ℕ) (t : List ℕ) (kept i : ℕ) (g : Summary s count t kept i) (l : i < count) where
   here : tradeAt t i ≡ tradeAt s i
   here = same-trade t s i (g .long) (omega (arith, g .room)) (g .rest)
 
   next : remaining (tradesTo s (i + 1)) ≡ remaining (tradesTo s i) ++ remaining (tradeAt t i ∷ [])
   next = rw (one-more s i, here) (remaining-append (tradesTo s i) (tradeAt s i ∷ []))
 
-  pub passed-by : tradeAt t i .sheets .0 ≡ 0 → Gathered s count t kept (i + 1)
+  pub passed-by : tradeAt t i .sheets .0 ≡ 0 → Summary s count t kept (i + 1)
   passed-by z =
       record {
         low = omega (arith, g .low);
@@ -60,7 +60,7 @@ module _ (s : List ℕ) (count : ℕ) (t : List ℕ) (kept i : ℕ) (g : Gathere
         rest = drop-one-more (tradesOf t) (tradesOf s) i (g .rest);
       }
 
-  pub moved-up : (u : List ℕ) → length u ≡ length t → tradesOf u ≡ set (tradesOf t) kept (tradeAt t i) → (tradeAt t i .sheets .0 ≡ 0 → ⊥) → Gathered s count u (kept + 1) (i + 1)
+  pub moved-up : (u : List ℕ) → length u ≡ length t → tradesOf u ≡ set (tradesOf t) kept (tradeAt t i) → (tradeAt t i .sheets .0 ≡ 0 → ⊥) → Summary s count u (kept + 1) (i + 1)
   moved-up u e m z =
       let inside : kept < length (tradesOf t) = omega (arith, length-trades t (capacity t), g .low, g .room, g .long) in
       record {
@@ -98,10 +98,10 @@ one-freed from i l h k =
 pub all-freed : (from to : ℕ) (l : List Trade) → freed from to l ≡ take from l ++ (replicate (to - from) noTrade ++ drop to l)
 all-freed from to l = append-assoc (take from l) (replicate (to - from) noTrade) (drop to l)
 
--- ---- gathered and then freed is packed
+-- ---- summary and then freed is packed
 
-pub gathered-freed : (count kept : ℕ) (gathered left l : List Trade) → kept ≤ length gathered → take kept gathered ≡ left → drop count gathered ≡ drop count l
-    → take kept gathered ++ (replicate (count - kept) noTrade ++ drop count gathered) ≡ packed count left l
-gathered-freed count kept gathered left l h front rest =
-    let e : kept ≡ length left = sym (length-take-le kept gathered h) ∙ ap length front in
+pub moved-up-freed : (count kept : ℕ) (summary left l : List Trade) → kept ≤ length summary → take kept summary ≡ left → drop count summary ≡ drop count l
+    → take kept summary ++ (replicate (count - kept) noTrade ++ drop count summary) ≡ packed count left l
+moved-up-freed count kept summary left l h front rest =
+    let e : kept ≡ length left = sym (length-take-le kept summary h) ∙ ap length front in
     rw (front, rest, e)

@@ -9,8 +9,8 @@ use lib.ListN.{getD}
 use Rattle.rules.specs.Trades.{same, differ}
 use Rattle.core.specs.Types.{Contract}
 use Rattle.core.specs.Flat.{tradeAt, tradesTo}
-pub use Rattle.core.specs.declared.chains.Told.{Told}
-pub use Rattle.core.specs.declared.chains.Told.the-variants.{Differs, Repeats, Nothing}
+pub use Rattle.core.specs.declared.chains.ChainResult.{ChainResult}
+pub use Rattle.core.specs.declared.chains.ChainResult.the-variants.{Differs, Repeats, TooLong}
 
 abbrev pub bucketOf : (buckets : ℕ) → Contract → ℕ
 bucketOf buckets contract = contract .0 % buckets
@@ -26,13 +26,13 @@ abbrev pub Falls : (next : List ℕ) → (below : ℕ) → Type 0
 Falls next below = (at : ℕ) → at < below → getD next at 0 ≤ at
 
 -- what a look along a chain tells of a contract
-abbrev pub Tells : (table next : List ℕ) → (link : ℕ) → Contract → Told → Type 0
-Tells table next link contract Differs = (steps place : ℕ) → Reaches next steps link place → same (tradeAt table place .contract) contract ≡ false
-Tells table next link contract Repeats = (place : ℕ) × (place < link) × (same (tradeAt table place .contract) contract ≡ true)
-Tells table next link contract Nothing = Unit {0}
+abbrev pub Shows : (table next : List ℕ) → (link : ℕ) → Contract → ChainResult → Type 0
+Shows table next link contract Differs = (steps place : ℕ) → Reaches next steps link place → same (tradeAt table place .contract) contract ≡ false
+Shows table next link contract Repeats = (place : ℕ) × (place < link) × (same (tradeAt table place .contract) contract ≡ true)
+Shows table next link contract TooLong = Unit {0}
 
 -- and all chains of the first trades
-abbrev pub TellsAll : (table : List ℕ) → (count : ℕ) → Told → Type 0
-TellsAll table count Differs = differ (tradesTo table count) ≡ true
-TellsAll table count Repeats = differ (tradesTo table count) ≡ false
-TellsAll table count Nothing = Unit {0}
+abbrev pub ShowsAll : (table : List ℕ) → (count : ℕ) → ChainResult → Type 0
+ShowsAll table count Differs = differ (tradesTo table count) ≡ true
+ShowsAll table count Repeats = differ (tradesTo table count) ≡ false
+ShowsAll table count TooLong = Unit {0}

@@ -1,4 +1,4 @@
--- O and V together, what an event tells of how it moves them, and what one walk gathers: for private contracts. It states no rule.
+-- O and V together, what an event tells of how it moves them, and what one walk tells: for private contracts. It states no rule.
 -- Assumes nothing.
 use Prim.Native.Nat.{ℕ, _+_, max}
 use mathlib.Core.Bool.{true, false, cond}
@@ -12,7 +12,7 @@ use Rattle.core.specs.Types.{Trade, Book, Event, Open, FundIn, FundOut, 
 use Rattle.core.specs.Flat.{FitsWhole, FitsHeld, vaultOf, securitiesOf}
 use Rattle.desk.specs.declared.state.Desk.{Desk}
 pub use Rattle.core.specs.declared.figures.Figures.{Figures}
-pub use Rattle.core.specs.declared.trades.Gathered.{Gathered}
+pub use Rattle.core.specs.declared.trades.Summary.{Summary}
 
 -- of a book over its table
 abbrev pub figuresOf : Book → List Trade → Figures
@@ -28,11 +28,11 @@ figuresAt desk held table = record { outstanding = outstandingAt desk table; val
 -- what the core may rely on where O comes with the book
 pub record CountedWhole (calendar : Calendar) (desk : Desk) (held kinds units : List ℕ) (table : List Trade) (number : ℕ) : Type 0 where
   pub book : FitsWhole calendar desk held kinds units table
-  pub counted : number ≡ outstandingAt desk table
+  pub sheets : number ≡ outstandingAt desk table
 
 pub record CountedHeld (calendar : Calendar) (desk : Desk) (held : List ℕ) (table : List Trade) (number : ℕ) : Type 0 where
   pub book : FitsHeld calendar desk held table
-  pub counted : number ≡ outstandingAt desk table
+  pub sheets : number ≡ outstandingAt desk table
 
 -- what is known of them after an event that is done
 abbrev pub Moved : Event → (before after : Figures) → Type 0
@@ -54,13 +54,13 @@ abbrev pub MovedBy : Entry → (number : ℕ) → (before after : Figures) → T
 MovedBy (Known event) number before after = ((number ≡ 0 → ⊥) → after ≡ before) × (number ≡ 0 → Moved event before after)
 MovedBy Undecodable number before after = after ≡ before
 
--- ---- what one walk over trades gathers
+-- ---- what one walk over trades tells
 
 unfoldable pub latestFirst : List Trade → ℕ
 latestFirst [] = 0
 latestFirst (trade ∷ trades) = max (trade .first) (latestFirst trades)
 
-abbrev pub gatheredOf : List Trade → Gathered
-gatheredOf trades =
+abbrev pub summaryOf : List Trade → Summary
+summaryOf trades =
     cond (allTrades tradeFit trades) (record { fit = true; outstanding = outstanding trades; latest = latestFirst trades })
     (record { fit = false; outstanding = 0; latest = 0 })

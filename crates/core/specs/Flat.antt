@@ -24,7 +24,7 @@ use Rattle.rules.specs.Fit.{securitiesFit, cashFit, withdrawalsFit, tradeFit, a
 use Rattle.core.specs.Types.{Security, Standing, Guarantee, Vault, Book, Applied, Contract, Trade}
 use Rattle.desk.specs.declared.state.Desk.{Desk}
 use Rattle.desk.specs.declared.done.Done.{Done}
-use Rattle.core.specs.declared.evening.Evened.{Evened}
+use Rattle.core.specs.declared.evening.EveningScalars.{EveningScalars}
 
 -- how many numbers a trade takes
 abbrev pub width : ℕ
@@ -128,8 +128,8 @@ deskOf book = record {
 abbrev pub appliedAt : Done → Rows → Applied
 appliedAt done rows = record { answer = done .answer; book = bookOf (done .desk) rows }
 
-abbrev pub eveningAt : Evened → List Security → Evening
-eveningAt evened securities = record { own = evened .own; vault = vaultOf (evened .guarantee) securities; done = evened .done; dropped = evened .dropped }
+abbrev pub eveningAt : EveningScalars → List Security → Evening
+eveningAt ended securities = record { own = ended .own; vault = vaultOf (ended .guarantee) securities; done = ended .done; dropped = ended .dropped }
 
 -- what the core may rely on: a calendar within its limit, rows of their lengths, and that they make the desk a fit book
 pub record FitsWhole (calendar : Calendar) (desk : Desk) (held kinds units : List ℕ) (table : List Trade) : Type 0 where

@@ -9,7 +9,7 @@ use Rattle.money.specs.Days.{Calendar}
 use Rattle.rules.specs.Folds.{every}
 use Rattle.rules.specs.Book.{answer}
 use Rattle.rules.specs.Step.{Outcome, outcome, unfit, step}
-use Rattle.rules.specs.Cover.{uncounted, coverOf}
+use Rattle.rules.specs.Cover.{coverRefused, coverOf}
 use Rattle.rules.specs.Listing.{RunOutcome, runOutcome}
 use Rattle.core.specs.Types.{Book, Trade, Entry, Cover}
 use Rattle.core.specs.Flat.{width, rowsOf, bookOf, tradesOf}
@@ -49,7 +49,7 @@ unfoldable pub stepIn : Calendar → Lent → Entry → Outcome
 stepIn calendar l entry = cond (isWhole l) (step calendar (bookIn l) (tableIn l) entry) (outcome (answer 1) (bookIn l) (tableIn l))
 
 unfoldable pub coverIn : Calendar → Lent → Cover
-coverIn calendar l = cond (isWhole l) (coverOf calendar (bookIn l) (tableIn l)) uncounted
+coverIn calendar l = cond (isWhole l) (coverOf calendar (bookIn l) (tableIn l)) coverRefused
 
 unfoldable pub runIn : Calendar → Lent → (bytes buffer : List ℕ) → RunOutcome
 runIn calendar l bytes buffer =

@@ -1,19 +1,19 @@
 // Whether contracts differ, by chains: each trade is linked to the last one before it whose contract falls into the same bucket, so that
-ghost use Rattle.rules.specs.Limits.{capacityLimit};
-ghost use Rattle.core.specs.Flat.{HasSlots};
-// a contract is compared with few others. A chain that gets long tells nothing, and the contracts are sorted instead.
+// a contract is compared with few others. A chain that gets long shows nothing, and the contracts are sorted instead.
 ghost use mathlib.Core.Path.{_≡_};
 ghost use Prim.Native.Nat.{_+_, _≤_, _<_};
 ghost use lib.ListN.{length, replicate};
-ghost use Rattle.core.specs.Chains.{bucketOf, Falls, Tells, TellsAll};
+ghost use Rattle.rules.specs.Limits.{capacityLimit};
+ghost use Rattle.core.specs.Flat.{HasSlots};
+ghost use Rattle.core.specs.Chains.{bucketOf, Falls, Shows, ShowsAll};
 use crate::flat;
 use rules::trade::Contract;
 
-// What is known of a contract, or of all of them: that it is not there before, that it is, or nothing.
-pub enum Told {
+// Of a contract, or of all of them: it does not stand there before, it does, or the chain was too long to tell.
+pub enum ChainResult {
     Differs,
     Repeats,
-    Nothing,
+    TooLong,
 }
 
 fn bucket_of(contract: Contract, buckets: usize) -> usize
@@ -24,24 +24,24 @@ fn bucket_of(contract: Contract, buckets: usize) -> usize
 }
 
 // A contract looked for along a chain, over 64 trades at most. A link is one more than a place, and 0 at the end.
-fn look_along(table: &[u64], next: &[u16], from: usize, contract: Contract) -> Told
+fn look_along(table: &[u64], next: &[u16], from: usize, contract: Contract) -> ChainResult
     requires { ⌜ (HasSlots (now table) from) × (from ≤ length (now next)) × (Falls (now next) from) ⌝ }
-    ensures { λ r. ⌜ Tells (now (table .entry)) (now (next .entry)) from contract r ⌝ }
+    ensures { λ r. ⌜ Shows (now (table .entry)) (now (next .entry)) from contract r ⌝ }
 {
     let mut link = from;
     let mut steps: usize = 0;
     while link != 0 {
         if steps >= 64 {
-            return Told::Nothing;
+            return ChainResult::TooLong;
         }
         let place = link - 1;
         if flat::same_contract(flat::contract_at(table, place), contract) {
-            return Told::Repeats;
+            return ChainResult::Repeats;
         }
         link = next[place] as usize;
         steps += 1;
     }
-    Told::Differs
+    ChainResult::Differs
 }
 
 // The trades linked one after the other, each looked for along the chain of its bucket.
@@ -51,14 +51,14 @@ pub fn linked_differ(
     buckets: usize,
     heads: &mut [u16],
     next: &mut [u16],
-) -> Told
+) -> ChainResult
     requires { ⌜ (HasSlots (now table) count)
         × (count ≤ capacityLimit)
         × (0 < buckets)
         × (buckets ≤ 32749)
         × (now heads ≡ replicate buckets 0)
         × (count ≤ length (now next)) ⌝ }
-    ensures { λ r. ⌜ TellsAll (now (table .entry)) count r ⌝ }
+    ensures { λ r. ⌜ ShowsAll (now (table .entry)) count r ⌝ }
 {
     let mut i = 0;
     while i < count {
@@ -66,13 +66,13 @@ pub fn linked_differ(
         let bucket = bucket_of(contract, buckets);
         let first = heads[bucket];
         match look_along(table, &*next, first as usize, contract) {
-            Told::Differs => {}
-            Told::Repeats => return Told::Repeats,
-            Told::Nothing => return Told::Nothing,
+            ChainResult::Differs => {}
+            ChainResult::Repeats => return ChainResult::Repeats,
+            ChainResult::TooLong => return ChainResult::TooLong,
         }
         next[i] = first;
         heads[bucket] = (i + 1) as u16;
         i += 1;
     }
-    Told::Differs
+    ChainResult::Differs
 }

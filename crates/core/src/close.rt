@@ -19,7 +19,7 @@ ghost use Rattle.core.specs.Types.{Trade};
 ghost use Rattle.core.specs.Flat.{FitsWhole, RowsFit, Rows, vaultOf, securitiesOf, rowsOf, bookOf, eveningAt, appliedAt, tradesOf, closedBy, tableBy, Kept, heldLength};
 use crate::days;
 use crate::evening;
-use crate::evening::Evened;
+use crate::evening::EveningScalars;
 use crate::nets;
 use crate::packing;
 use crate::redemption;
@@ -109,7 +109,7 @@ fn clear(kinds: &mut [u8], units: &mut [u64])
 }
 
 // The evening's end, with the sheets of the trades that part (a) leaves.
-fn evening_end(desk: Desk, held: &mut [u64], kinds: &[u8], units: &[u64], left: u64) -> Evened
+fn evening_end(desk: Desk, held: &mut [u64], kinds: &[u8], units: &[u64], left: u64) -> EveningScalars
     requires { ⌜ RowsFit desk (now held) (now kinds) (now units) ⌝ }
     ensures { λ r.
         let book = bookOf desk (rowsOf (now (held .entry)) (now (kinds .entry)) (now (units .entry))) in
@@ -118,7 +118,7 @@ fn evening_end(desk: Desk, held: &mut [u64], kinds: &[u8], units: &[u64], left: 
     let standing = desk.standing;
     let guarantee = desk.guarantee;
     evening::all_arrived(held, guarantee);
-    let begun = Evened {
+    let begun = EveningScalars {
         own: Fen(desk.cash.own.0),
         guarantee: evening::guarantee_arrived(guarantee),
         done: 0,
@@ -140,29 +140,29 @@ fn closed_desk(
     desk: Desk,
     held: &[u64],
     cleared: Nets,
-    evened: Evened,
+    ended: EveningScalars,
     left: u64,
     kept: usize,
 ) -> Desk
     requires { ⌜ (length (now held) ≡ heldLength)
-        × (securitiesFit (vaultOf (evened .guarantee) (securitiesOf (now held))) ≡ true)
-        × (evened .guarantee .frozen .0 ≤ evened .guarantee .effective .0)
-        × (evened .guarantee .effective .0 ≤ cashLimit) ⌝ }
+        × (securitiesFit (vaultOf (ended .guarantee) (securitiesOf (now held))) ≡ true)
+        × (ended .guarantee .frozen .0 ≤ ended .guarantee .effective .0)
+        × (ended .guarantee .effective .0 ≤ cashLimit) ⌝ }
     ensures { λ r.
         ⌜ ((calendar : Calendar) (rows : Rows) (trades table : List Trade) →
         let book = bookOf desk rows in
         cleared ≡ record { today = pos 0; cleared = clearedAtClose calendar book table }
-        → eveningAt evened (securitiesOf (now (held .entry))) ≡ eveningOf book trades
+        → eveningAt ended (securitiesOf (now (held .entry))) ≡ eveningOf book trades
         → left ≡ outstanding trades
         → kept ≡ length (remaining trades)
         → bookOf r (rowsOf (now (held .entry)) (noApplications .kinds) (noApplications .units)) ≡ closedBook calendar book trades table) ⌝ }
 {
     let standing = desk.standing;
     let short = standing.short;
-    let guarantee = evened.guarantee;
+    let guarantee = ended.guarantee;
     let is_short = headroom::is_short(desk.size.0, vault::value_of(held, guarantee), left);
     let cash = Cash {
-        own: Fen(evened.own.0),
+        own: Fen(ended.own.0),
         client: Fen(desk.cash.client.0),
     };
     let mut next = desk;
@@ -202,10 +202,10 @@ fn closed(
     redemption::redeem_due(table, count, days::day_number(day));
     let left = trades::outstanding_of(&*table, count);
     let kept = packing::pack(table, count);
-    let evened = evening_end(desk, held, &*kinds, &*units, left);
+    let ended = evening_end(desk, held, &*kinds, &*units, left);
     clear(kinds, units);
-    let next = closed_desk(desk, &*held, cleared, evened, left, kept);
-    done::of_close(matured, evened.done, evened.dropped, next)
+    let next = closed_desk(desk, &*held, cleared, ended, left, kept);
+    done::of_close(matured, ended.done, ended.dropped, next)
 }
 
 // All that can refuse it is decided on a plan, before anything is written.

@@ -128,7 +128,7 @@ fn judged(
 }
 
 // Own and guarantee cash as the evening goes on, and the applications done and dropped so far. The securities stand in their row.
-pub struct Evened {
+pub struct EveningScalars {
     pub own: Fen,
     pub guarantee: Guarantee,
     pub done: u32,
@@ -143,8 +143,8 @@ pub fn applications(
     units: &[u64],
     count: usize,
     held: &mut [u64],
-    begun: Evened,
-) -> Evened
+    begun: EveningScalars,
+) -> EveningScalars
     requires { ⌜ (length (now kinds) ≡ applicationLimit)
         × (length (now units) ≡ applicationLimit)
         × (length (now held) ≡ heldLength)
@@ -189,7 +189,7 @@ pub fn applications(
         }
         i += 1;
     }
-    Evened {
+    EveningScalars {
         own: Fen(own),
         guarantee,
         done,

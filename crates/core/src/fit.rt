@@ -11,13 +11,13 @@ ghost use Rattle.rules.specs.Trades.{differ};
 ghost use Rattle.rules.specs.Fit.{capacityFit, sizeFit, netsFit, withdrawalsFit, unopenedFit, openedFit, dayFit, fit};
 ghost use Rattle.core.specs.Types.{Trade};
 ghost use Rattle.core.specs.Flat.{RowsLong, rowsOf, bookOf, tradesTo, tradesOf, Kept};
-ghost use Rattle.core.specs.Figures.{outstandingAt, latestFirst, gatheredOf};
+ghost use Rattle.core.specs.Figures.{outstandingAt, latestFirst, summaryOf};
 use crate::days;
 use crate::flat;
 use crate::layout;
 use crate::nets;
 use crate::trades;
-use crate::trades::Gathered;
+use crate::trades::Summary;
 use crate::vault;
 use desk::standing;
 use desk::state::Desk;
@@ -131,7 +131,7 @@ fn others_fit(
     day_fit(calendar, standing, count, latest)
 }
 
-// The tests of a table with room for its trades, from what one walk over these gathered.
+// The tests of a table with room for its trades, from what one walk over these summary.
 fn is_fit(
     calendar: &[u32],
     desk: Desk,
@@ -139,11 +139,11 @@ fn is_fit(
     kinds: &[u8],
     units: &[u64],
     table: &[u64],
-    gathered: Gathered,
+    summary: Summary,
 ) -> bool
     requires { ⌜ (RowsLong (now calendar) (now held) (now kinds) (now units))
         × (capacityFit (desk .trades) (tradesOf (now table)) ≡ true)
-        × (gathered ≡ gatheredOf (tradesTo (now table) (desk .trades))) ⌝ }
+        × (summary ≡ summaryOf (tradesTo (now table) (desk .trades))) ⌝ }
     ensures { λ r.
         let book = bookOf desk (rowsOf (now (held .entry)) (now (kinds .entry)) (now (units .entry))) in
         let trades = tradesOf (now (table .entry)) in
@@ -157,14 +157,14 @@ fn is_fit(
     if !vault::cash_fit(cash, guarantee) {
         return false;
     }
-    let within = gathered.fit;
+    let within = summary.fit;
     if !within {
         return false;
     }
-    if !size_fit(desk.size.0, gathered.outstanding) {
+    if !size_fit(desk.size.0, summary.outstanding) {
         return false;
     }
-    others_fit(calendar, desk, kinds, units, table, gathered.latest)
+    others_fit(calendar, desk, kinds, units, table, summary.latest)
 }
 
 // Whether a book is fit, and O of one that is, since the test counts it.
@@ -194,9 +194,9 @@ pub fn fitness_of(
             outstanding: 0,
         };
     }
-    let gathered = trades::gather(table, count);
+    let summary = trades::summary_of(table, count);
     Fitness {
-        fit: is_fit(calendar, desk, held, kinds, units, table, gathered),
-        outstanding: gathered.outstanding,
+        fit: is_fit(calendar, desk, held, kinds, units, table, summary),
+        outstanding: summary.outstanding,
     }
 }

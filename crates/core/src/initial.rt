@@ -263,5 +263,5 @@ pub fn initial(
     flat::put_trade(table, place, begun_trade(calendar, desk, terms));
     let count = terms.sheets;
     let nets = nets::today_less(desk.nets, principal_of(count));
-    done::answered(0, state::with_trades(desk, nets, place + 1))
+    done::answered(0, state::with_nets_and_trades(desk, nets, place + 1))
 }

@@ -131,7 +131,7 @@ pub fn cover(
     let tested = fitness_in(calendar, desk, held, kinds, units, table);
     let fits = tested.fit;
     if !fits {
-        return headroom::uncounted();
+        return headroom::cover_refused();
     }
     let figures = figures::figures_of(calendar, desk, held, table);
     cover::cover_from(desk.size.0, figures)

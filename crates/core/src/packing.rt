@@ -8,7 +8,7 @@ ghost use Rattle.core.specs.Flat.{HasSlots, HasSlot, tradesTo, tradesOf}
 use crate::flat;
 
 // The trades with something left go to the front, in order.
-fn gather(table: &mut [u64], count: usize) -> usize
+fn move_up(table: &mut [u64], count: usize) -> usize
     requires { ⌜ HasSlots (now table) count ⌝ }
     ensures few { λ r. ⌜ r ≤ count ⌝ }
     ensures front { λ r. ⌜ take r (tradesOf (now (table .exit))) ≡ remaining (tradesTo (now (table .entry)) count) ⌝ }
@@ -56,7 +56,7 @@ pub fn pack(table: &mut [u64], count: usize) -> usize
         ⌜ (r ≡ length (remaining trades))
         × (tradesOf (now (table .exit)) ≡ packed count (remaining trades) (tradesOf (now (table .entry)))) ⌝ }
 {
-    let kept = gather(table, count);
+    let kept = move_up(table, count);
     free_from(table, kept, count);
     kept
 }

@@ -6,9 +6,9 @@ ghost use Rattle.rules.specs.Limits.{capacityLimit};
 ghost use Rattle.rules.specs.Trades.{outstanding, differ};
 ghost use Rattle.rules.specs.Fit.{tradeFit};
 ghost use Rattle.core.specs.Flat.{HasSlots, HasSlot, tradeAt, tradesTo, placeOf, contractNumbers, Kept};
-ghost use Rattle.core.specs.Figures.{gatheredOf};
+ghost use Rattle.core.specs.Figures.{summaryOf};
 use crate::chains;
-use crate::chains::Told;
+use crate::chains::ChainResult;
 use crate::flat;
 use money::limits::PRICE_LIMIT;
 use money::limits::TRADE_LIMIT;
@@ -100,9 +100,9 @@ fn chains_differ(table: &[u64], count: usize, buckets: usize, heads: &mut [u16])
 {
     let mut next: [u16; 4096] = [0; 4096];
     match chains::linked_differ(table, count, buckets, heads, &mut next) {
-        Told::Differs => true,
-        Told::Repeats => false,
-        Told::Nothing => sorted_differ(table, count),
+        ChainResult::Differs => true,
+        ChainResult::Repeats => false,
+        ChainResult::TooLong => sorted_differ(table, count),
     }
 }
 
@@ -162,22 +162,22 @@ fn later(a: u32, b: u32) -> u32
 }
 
 // What one walk tells: whether each trade is within its limits, and if so O and the latest first payment day.
-pub struct Gathered {
+pub struct Summary {
     pub fit: bool,
     pub outstanding: u64,
     pub latest: u32,
 }
 
-pub fn gather(table: &[u64], count: usize) -> Gathered
+pub fn summary_of(table: &[u64], count: usize) -> Summary
     requires { ⌜ (HasSlots (now table) count) × (count ≤ capacityLimit) ⌝ }
-    ensures { λ r. ⌜ r ≡ gatheredOf (tradesTo (now (table .entry)) count) ⌝ }
+    ensures { λ r. ⌜ r ≡ summaryOf (tradesTo (now (table .entry)) count) ⌝ }
 {
     let mut outstanding = 0;
     let mut latest = 0;
     let mut i = 0;
     while i < count {
         if !trade_fits(table, i) {
-            return Gathered {
+            return Summary {
                 fit: false,
                 outstanding: 0,
                 latest: 0,
@@ -187,7 +187,7 @@ pub fn gather(table: &[u64], count: usize) -> Gathered
         latest = later(latest, flat::first_at(table, i));
         i += 1;
     }
-    Gathered {
+    Summary {
         fit: true,
         outstanding,
         latest,

@@ -4,7 +4,7 @@ ghost use Prim.Native.Nat.{min};
 ghost use lib.IntN.{pos};
 ghost use lib.Signed.{ltZ};
 ghost use Rattle.rules.specs.Vault.{headroomOf};
-ghost use Rattle.rules.specs.Cover.{uncounted};
+ghost use Rattle.rules.specs.Cover.{coverRefused};
 use money::units::Sheets;
 use rules::answer::Cover;
 
@@ -36,8 +36,8 @@ pub fn above_headroom(size: u64, value: u64, outstanding: u64, count: u64) -> bo
 }
 
 // What is answered of a book that is not fit.
-pub fn uncounted() -> Cover
-    ensures { λ r. ⌜ r ≡ uncounted ⌝ }
+pub fn cover_refused() -> Cover
+    ensures { λ r. ⌜ r ≡ coverRefused ⌝ }
 {
     Cover {
         number: 1,

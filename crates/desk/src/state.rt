@@ -2,7 +2,7 @@
 ghost use mathlib.Core.Path.{_≡_};
 ghost use lib.Dec.{leb, ltb};
 ghost use Rattle.money.specs.Limits.{calendarLimit};
-ghost use Rattle.desk.specs.Desk.{withTrades};
+ghost use Rattle.desk.specs.Desk.{withNetsAndTrades};
 use money::limits::CALENDAR_LIMIT;
 use money::units::Sheets;
 use rules::book::Cash;
@@ -22,8 +22,8 @@ pub struct Desk {
 }
 
 // The desk after a trade has begun: other nets, and so many trades.
-pub fn with_trades(desk: Desk, nets: Nets, trades: usize) -> Desk
-    ensures { λ r. ⌜ r ≡ withTrades nets trades desk ⌝ }
+pub fn with_nets_and_trades(desk: Desk, nets: Nets, trades: usize) -> Desk
+    ensures { λ r. ⌜ r ≡ withNetsAndTrades nets trades desk ⌝ }
 {
     let mut next = desk;
     next.nets = nets;

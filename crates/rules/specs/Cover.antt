@@ -11,12 +11,12 @@ use Rattle.rules.specs.Trades.{Trade}
 use Rattle.rules.specs.Vault.{headroom, outstandingOf}
 use Rattle.rules.specs.Step.{unfit}
 
-abbrev pub counted : Book → List Trade → Cover
-counted book table = record { number = 0; headroom = headroom book table; outstanding = sheets (outstandingOf book table) }
+abbrev pub coverCounted : Book → List Trade → Cover
+coverCounted book table = record { number = 0; headroom = headroom book table; outstanding = sheets (outstandingOf book table) }
 
 -- "book not fit, or calendar above 1,200 words" is 1, beside results of 0
-abbrev pub uncounted : Cover
-uncounted = record { number = 1; headroom = pos 0; outstanding = sheets 0 }
+abbrev pub coverRefused : Cover
+coverRefused = record { number = 1; headroom = pos 0; outstanding = sheets 0 }
 
 unfoldable pub coverOf : Calendar → Book → List Trade → Cover
-coverOf calendar book table = cond (unfit calendar book table) uncounted (counted book table)
+coverOf calendar book table = cond (unfit calendar book table) coverRefused (coverCounted book table)

@@ -5,7 +5,7 @@ use borrow.Author.Needs.{needs}
 use lib.ListN.{length, getD, length-set}
 use Rattle.core.specs.Types.{Contract}
 use Rattle.core.specs.Flat.{tradeAt}
-use Rattle.core.specs.Chains.{bucketOf, Tells}
+use Rattle.core.specs.Chains.{bucketOf, Shows}
 use Rattle.core.proofs.ChainLaws.{Linked, none-linked, inside, repeated, next-linked}
 use Rattle.core.proofs.chains.linked_differ.Statement.{statement}
 use Rattle.core.proofs.chains.linked_differ.Tie as tie
@@ -29,14 +29,14 @@ module _ (c : tie.After-bucket-of Inv-loop μ-loop) where
 
 -- what the look told, of that contract and that chain
 told : (c : tie.After-look-along Inv-loop μ-loop) → (let f = c .before .before .before in let l = f .before .before .before .loop in let this = tradeAt (start f .args .table .now) (l .i) .contract in
-    Tells (start f .args .table .now) (l .next) (getD (l .heads) (bucketOf (start f .args .buckets) this) 0) this (c .look-along .result))
+    Shows (start f .args .table .now) (l .next) (getD (l .heads) (bucketOf (start f .args .buckets) this) 0) this (c .look-along .result))
 told c =
     let f = c .before .before .before in
     let table = start f .args .table .now in
     let l = f .before .before .before .loop in
     let this = tradeAt table (l .i) .contract in
-    subst (λ (contract : Contract). Tells table (l .next) (getD (l .heads) (bucketOf (start f .args .buckets) this) 0) contract (c .look-along .result)) (f .before .contract-at .ensures)
-    (subst (λ (bucket : ℕ). Tells table (l .next) (getD (l .heads) bucket 0) (f .before .contract-at .result) (c .look-along .result)) (fell f) (c .look-along .ensures))
+    subst (λ (contract : Contract). Shows table (l .next) (getD (l .heads) (bucketOf (start f .args .buckets) this) 0) contract (c .look-along .result)) (f .before .contract-at .ensures)
+    (subst (λ (bucket : ℕ). Shows table (l .next) (getD (l .heads) bucket 0) (f .before .contract-at .result) (c .look-along .result)) (fell f) (c .look-along .ensures))
 
 loop-holds : tie.Need-loop-holds Inv-loop μ-loop
 loop-holds c = let s = c .before .before .before in (none-linked _ _ _ _ _ (s .pre .2) (s .pre .3) (s .pre .4) (s .pre .5), search needs, search needs)

@@ -22,8 +22,8 @@ module _ (s : tie.Start) where
   left-of = maturedTrades book trades
 
 -- back from the end, a few steps at a time: a search looks so far and no further
-abbrev evened : tie.After-clear → tie.After-evening-end
-evened c = search needs
+abbrev ended : tie.After-clear → tie.After-evening-end
+ended c = search needs
 
 abbrev cleared : tie.After-of-close → tie.After-clear
 cleared c = search needs
@@ -92,7 +92,7 @@ of-close-requires : tie.Need-of-close-requires
 of-close-requires c κs = search needs
 
 same-length : tie.Need-same-length
-same-length c = evened (cleared c) .evening-end .kept .1 .0
+same-length c = ended (cleared c) .evening-end .kept .1 .0
 
 same-length-2 : tie.Need-same-length-2
 same-length-2 c = search needs
@@ -102,12 +102,12 @@ same-length-3 c = search needs
 
 same-length-4 : tie.Need-same-length-4
 same-length-4 c =
-    let end = evened (cleared c) in packed end .pack .kept .0 ∙ redeemed (counted end) .redeem-due .kept .0
+    let end = ended (cleared c) in packed end .pack .kept .0 ∙ redeemed (counted end) .redeem-due .kept .0
 
 returns : tie.Need-returns
 returns c =
     let clear = cleared c .clear in
-    let end = evened (cleared c) in
+    let end = ended (cleared c) in
     let pack = packed end .pack in
     let count = counted end in
     let due = redeemed count in

@@ -116,7 +116,7 @@ initial-requires c κs =
     let s : tie.Start = search needs in
     record {
       book = record { kinds = s .args .kinds .now; units = s .args .units .now; held-long = s .pre .book .held-long; few = s .pre .book .few; fits = s .pre .book .fits };
-      counted = s .pre .counted;
+      sheets = s .pre .sheets;
     }
 
 enum-known-event-9 : tie.Need-enum-known-event-9
@@ -173,7 +173,7 @@ unfolding eventCauses act
 returns-4 c =
     let at-event3 : tie.After-event3 = search needs in
     let s : tie.Start = search needs in
-    rw (at-event3 .event3 .given .1) (leaves-table _ (book s) (table s) (s .pre .book .fits) (s .pre .book .few) _ _ refl _ (c .set-size .ensures (rows s) (table s) (s .pre .counted)))
+    rw (at-event3 .event3 .given .1) (leaves-table _ (book s) (table s) (s .pre .book .fits) (s .pre .book .few) _ _ refl _ (c .set-size .ensures (rows s) (table s) (s .pre .sheets)))
 
 same-length-2 : tie.Need-same-length-2
 same-length-2 c = search needs

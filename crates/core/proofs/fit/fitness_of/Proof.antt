@@ -4,7 +4,7 @@ use native.Mathlib.Omega.{arith}
 use borrow.Author.Needs.{needs}
 use Rattle.rules.specs.Trades.{outstanding}
 use Rattle.rules.proofs.FitParts.{capacity-fits}
-use Rattle.core.proofs.GatherLaws.{gathered-where}
+use Rattle.core.proofs.SummaryLaws.{summary-where}
 use Rattle.core.proofs.FitFacts.{room-where-fit, fit-in-use, fit-keeps}
 use Rattle.core.proofs.Fitting.{fitting, upheld, by-flat-tests}
 use Rattle.core.proofs.fit.fitness_of.Statement.{statement}
@@ -16,8 +16,8 @@ capacity-fit-requires c κs = search needs
 returns : tie.Need-returns
 returns c = (by-flat-tests _ _ _ _ (search fitting depth 12), λ z. absurd (false≢true z))
 
-gather-requires : tie.Need-gather-requires
-gather-requires c κs =
+summary-of-requires : tie.Need-summary-of-requires
+summary-of-requires c κs =
     let fits = upheld (c .before .capacity-fit .ensures) (c .if1 .left) in
     let capacity = capacity-fits _ _ fits in
     (room-where-fit _ _ fits, omega (arith, capacity .within, capacity .room))
@@ -25,12 +25,12 @@ gather-requires c κs =
 is-fit-requires : tie.Need-is-fit-requires
 is-fit-requires c κs =
     let s : tie.Start = search needs in
-    (s .pre, upheld (c .before .before .capacity-fit .ensures) (c .before .if1 .left), c .gather .ensures)
+    (s .pre, upheld (c .before .before .capacity-fit .ensures) (c .before .if1 .left), c .summary-of .ensures)
 
 returns-2 : tie.Need-returns-2
 returns-2 c =
-    let gathered = gathered-where _ _ (c .before .gather .ensures) in
-    (c .is-fit .ensures, λ z. let fits = sym (c .is-fit .ensures) ∙ z in gathered .1 (fit-keeps _ _ _ fits .within) .0 ∙ ap outstanding (sym (fit-in-use _ _ _ fits)))
+    let summary = summary-where _ _ (c .before .summary-of .ensures) in
+    (c .is-fit .ensures, λ z. let fits = sym (c .is-fit .ensures) ∙ z in summary .1 (fit-keeps _ _ _ fits .within) .0 ∙ ap outstanding (sym (fit-in-use _ _ _ fits)))
 
 pub fitness-of-spec : {M : Type 1} → statement M
-fitness-of-spec = tie.close (tie.spec capacity-fit-requires returns gather-requires is-fit-requires returns-2)
+fitness-of-spec = tie.close (tie.spec capacity-fit-requires returns summary-of-requires is-fit-requires returns-2)

@@ -1,5 +1,5 @@
 use borrow.Author.Needs.{needs}
-use Rattle.core.proofs.GatherLaws.{gathered-where}
+use Rattle.core.proofs.SummaryLaws.{summary-where}
 use Rattle.core.proofs.FitFacts.{kept-where-fit}
 use Rattle.core.proofs.Fitting.{fitting, upheld, by-flat-tests}
 use Rattle.core.proofs.fit.is_fit.Statement.{statement}
@@ -32,7 +32,7 @@ returns-3 c =
     let s : tie.Start = search needs in
     let capacity = s .pre .1 in
     let row = at-securities-fit .securities-fit .ensures (s .args .desk .guarantee) in
-    let each = gathered-where _ _ (s .pre .2) .0 in
+    let each = summary-where _ _ (s .pre .2) .0 in
     by-flat-tests _ _ _ _ (search fitting depth 12)
 
 size-fit-requires : tie.Need-size-fit-requires
@@ -44,17 +44,17 @@ returns-4 c =
     let s : tie.Start = search needs in
     let capacity = s .pre .1 in
     let row = at-securities-fit .securities-fit .ensures (s .args .desk .guarantee) in
-    let gathered = gathered-where _ _ (s .pre .2) in
-    let each = upheld (gathered .0) (c .before .before .if3 .left) in
-    let size = rw (gathered .1 each .0) at (c .before .size-fit .ensures) in
+    let summary = summary-where _ _ (s .pre .2) in
+    let each = upheld (summary .0) (c .before .before .if3 .left) in
+    let size = rw (summary .1 each .0) at (c .before .size-fit .ensures) in
     by-flat-tests _ _ _ _ (search fitting depth 12)
 
 others-fit-requires : tie.Need-others-fit-requires
 others-fit-requires c κs =
     let s : tie.Start = search needs in
-    let gathered = gathered-where _ _ (s .pre .2) in
-    let each = upheld (gathered .0) (c .before .before .if3 .left) in
-    (s .pre .0 .few, s .pre .0 .kinds-long, s .pre .0 .units-long, kept-where-fit _ _ (s .pre .1) each, gathered .1 each .1)
+    let summary = summary-where _ _ (s .pre .2) in
+    let each = upheld (summary .0) (c .before .before .if3 .left) in
+    (s .pre .0 .few, s .pre .0 .kinds-long, s .pre .0 .units-long, kept-where-fit _ _ (s .pre .1) each, summary .1 each .1)
 
 abbrev start : tie.After-others-fit → tie.Start
 start c = search needs
@@ -66,9 +66,9 @@ returns-5 : tie.Need-returns-5
 returns-5 c =
     let capacity = start c .pre .1 in
     let row = rows-asked c .securities-fit .ensures (start c .args .desk .guarantee) in
-    let gathered = gathered-where _ _ (start c .pre .2) in
-    let each = upheld (gathered .0) (c .before .before .before .if3 .left) in
-    let size = rw (gathered .1 each .0) at (c .before .before .size-fit .ensures) in
+    let summary = summary-where _ _ (start c .pre .2) in
+    let each = upheld (summary .0) (c .before .before .before .if3 .left) in
+    let size = rw (summary .1 each .0) at (c .before .before .size-fit .ensures) in
     by-flat-tests _ _ _ _ (search fitting depth 12)
 
 pub is-fit-spec : {M : Type 1} → statement M

@@ -5,7 +5,7 @@ use Rattle.rules.specs.Days.{paymentDay}
 use Rattle.rules.specs.Fit.{allTrades}
 use Rattle.core.specs.Types.{On}
 use Rattle.core.proofs.Fitting.{fitting}
-use Rattle.core.proofs.GatherLaws.{latest-decides}
+use Rattle.core.proofs.SummaryLaws.{latest-decides}
 use Rattle.core.proofs.fit.opened_fit.Statement.{statement}
 use Rattle.core.proofs.fit.opened_fit.Tie as tie
 

@@ -61,13 +61,13 @@ today-less-requires c κs =
     let past1 : tie.Else1 = search needs in
     (fit-net _ _ _ (s .pre .book .fits), rw (c .principal-of .ensures) (omega (arith, begins past1 .few)))
 
-add-with-trades : tie.Need-add-with-trades
-add-with-trades c =
+add-with-nets-and-trades : tie.Need-add-with-nets-and-trades
+add-with-nets-and-trades c =
     let s : tie.Start = search needs in
     omega (arith, fit-keeps _ _ _ (s .pre .book .fits) .few)
 
-with-trades-requires : tie.Need-with-trades-requires
-with-trades-requires c κs = search needs
+with-nets-and-trades-requires : tie.Need-with-nets-and-trades-requires
+with-nets-and-trades-requires c κs = search needs
 
 answered-requires-2 : tie.Need-answered-requires-2
 answered-requires-2 c κs = search needs
@@ -86,7 +86,7 @@ returns-2 c kinds units =
     let a = start q .args in
     let rows = rowsOf (a .held .now) kinds units in
     let none-applies = clear q kinds units in (
-      carried-out _ _ rows _ _ none-applies (c .answered2 .ensures) (rw (c .before .with-trades .ensures, at-today-less .today-less .ensures, at-principal-of .principal-of .ensures)),
+      carried-out _ _ rows _ _ none-applies (c .answered2 .ensures) (rw (c .before .with-nets-and-trades .ensures, at-today-less .today-less .ensures, at-principal-of .principal-of .ensures)),
       at-put-trade .put-trade .ensures .0 ∙ rw (at-begun-trade .begun-trade .ensures rows, none-applies) refl,
     )
 
@@ -102,8 +102,8 @@ initial-spec =
     put-trade-requires
     principal-of-requires
     today-less-requires
-    add-with-trades
-    with-trades-requires
+    add-with-nets-and-trades
+    with-nets-and-trades-requires
     answered-requires-2
     same-length-2
     returns-2)

@@ -18,7 +18,7 @@ returns : tie.Need-returns
 unfolding headroom
 returns c kinds units =
     let s : tie.Start = search needs in
-    rw (s .pre .0 .counted, c .before .value-of .ensures) at (c .above-headroom .ensures)
+    rw (s .pre .0 .sheets, c .before .value-of .ensures) at (c .above-headroom .ensures)
 
 pub lacks-headroom-spec : {M : Type 1} → statement M
 lacks-headroom-spec = tie.close (tie.spec value-of-requires above-headroom-requires returns)

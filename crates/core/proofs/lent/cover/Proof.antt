@@ -13,13 +13,13 @@ use Rattle.core.proofs.lent.cover.Tie as tie
 fitness-in-requires : tie.Need-fitness-in-requires
 fitness-in-requires c κs = search needs
 
-uncounted-requires : tie.Need-uncounted-requires
-uncounted-requires c κs = search needs
+cover-refused-requires : tie.Need-cover-refused-requires
+cover-refused-requires c κs = search needs
 
 returns : tie.Need-returns
 returns c =
     let at-fitness-in : tie.After-fitness-in = search needs in
-    c .uncounted .ensures ∙ sym (refused-cover _ _ (refuted (at-fitness-in .fitness-in .ensures .0) (c .before .if1 .taken)))
+    c .cover-refused .ensures ∙ sym (refused-cover _ _ (refuted (at-fitness-in .fitness-in .ensures .0) (c .before .if1 .taken)))
 
 figures-of-requires : tie.Need-figures-of-requires
 figures-of-requires c κs =
@@ -47,7 +47,7 @@ cover-spec =
     tie.close
     (tie.spec
     fitness-in-requires
-    uncounted-requires
+    cover-refused-requires
     returns
     figures-of-requires
     cover-from-requires

@@ -7,7 +7,7 @@ use lib.Seq.{sets}
 use Rattle.rules.specs.Fit.{fit}
 use Rattle.rules.specs.Entry.{decoded}
 use Rattle.rules.specs.Step.{Outcome, step}
-use Rattle.rules.specs.Cover.{counted}
+use Rattle.rules.specs.Cover.{coverCounted}
 use Rattle.rules.proofs.FitParts.{fit-parts}
 use Rattle.core.specs.Figures.{Figures}
 use Rattle.core.specs.Flat.{Rows, rowsOf, bookOf, appliedAt, tradesOf, appliedOf}
@@ -51,7 +51,7 @@ decode-requires c κs = search needs
 entry-on-requires : tie.Need-entry-on-requires
 entry-on-requires c κs =
     let s : tie.Start = search needs in
-    record { book = s .pre .0; counted = ap (λ (f : Figures). f .outstanding) (s .pre .1) }
+    record { book = s .pre .0; sheets = ap (λ (f : Figures). f .outstanding) (s .pre .1) }
 
 figures-after-requires : tie.Need-figures-after-requires
 figures-after-requires c κs =
@@ -70,7 +70,7 @@ abbrev called-from : tie.After-figures-after → tie.After-entry-on
 called-from c = search needs
 
 -- the cover of what is left
-covered : (c : tie.After-cover-from) → (let called = called-from (c .before) in c .cover-from .result ≡ counted (bookOf (called .entry-on .result .desk) (rows called)) (tradesOf (called .entry-on .last .1 .1 .1 .1 .1 .0)))
+covered : (c : tie.After-cover-from) → (let called = called-from (c .before) in c .cover-from .result ≡ coverCounted (bookOf (called .entry-on .result .desk) (rows called)) (tradesOf (called .entry-on .last .1 .1 .1 .1 .1 .0)))
 covered c =
     let called = called-from (c .before) in
     c .cover-from .ensures ∙ counted-from (bookOf (called .entry-on .result .desk) (rows called)) _ _ (c .before .figures-after .ensures)

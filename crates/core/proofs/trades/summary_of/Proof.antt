@@ -12,9 +12,9 @@ use Rattle.core.specs.Flat.{tradeAt, tradesTo}
 use Rattle.core.specs.Figures.{latestFirst}
 use Rattle.core.proofs.FlatLaws.{all-none, all-more, all-fails, total-none, total-more}
 use Rattle.core.proofs.RedemptionLaws.{within-of}
-use Rattle.core.proofs.GatherLaws.{latest-none, latest-more, gathered-fit, gathered-unfit}
-use Rattle.core.proofs.trades.gather.Statement.{statement}
-use Rattle.core.proofs.trades.gather.Tie as tie
+use Rattle.core.proofs.SummaryLaws.{latest-none, latest-more, summary-fit, summary-unfit}
+use Rattle.core.proofs.trades.summary_of.Statement.{statement}
+use Rattle.core.proofs.trades.summary_of.Tie as tie
 
 abbrev Inv-loop : tie.InvT-loop
 Inv-loop table count outstanding₀ latest₀ i₀ outstanding latest i =
@@ -39,7 +39,7 @@ trade-fits-requires : tie.Need-trade-fits-requires Inv-loop μ-loop
 trade-fits-requires c κs = omega (arith, c .before .before .before .pre .0)
 
 returns : tie.Need-returns Inv-loop μ-loop
-returns c = sym (gathered-unfit _ (all-fails tradeFit _ _ _ (c .before .before .loop-test .taken) (sym (c .before .trade-fits .ensures) ∙ not-true _ (c .if1 .taken))))
+returns c = sym (summary-unfit _ (all-fails tradeFit _ _ _ (c .before .before .loop-test .taken) (sym (c .before .trade-fits .ensures) ∙ not-true _ (c .if1 .taken))))
 
 sheets-at-requires : tie.Need-sheets-at-requires Inv-loop μ-loop
 sheets-at-requires c κs =
@@ -84,10 +84,10 @@ unfolding outstanding
 returns-2 c =
     let inv = c .before .loop .inv in
     let e : c .before .loop .i ≡ c .before .before .before .args .count = omega arith in
-    rw (inv .2, inv .4) (rw e (sym (gathered-fit _ (rw e at (inv .1)))))
+    rw (inv .2, inv .4) (rw e (sym (summary-fit _ (rw e at (inv .1)))))
 
-pub gather-spec : {M : Type 1} → statement M
-gather-spec =
+pub summary-of-spec : {M : Type 1} → statement M
+summary-of-spec =
     tie.close
     (tie.spec
     Inv-loop

@@ -1,4 +1,4 @@
--- What one walk over the trades in use gathers, trade by trade, and that the latest first payment day answers for all.
+-- What one walk over the trades in use tells, trade by trade, and that the latest first payment day answers for all.
 -- For the proofs of trades.rt and fit.rt. Assumes nothing.
 use mathlib.Core.Path.{_≡_, refl, sym, _∙_}
 use mathlib.Core.Bool.{Bool, true, false, _&&_, false≢true}
@@ -11,7 +11,7 @@ use Rattle.rules.specs.Trades.{outstanding}
 use Rattle.rules.specs.Fit.{tradeFit, allTrades}
 use Rattle.core.specs.Types.{Trade}
 use Rattle.core.specs.Flat.{tradeAt, tradesTo}
-use Rattle.core.specs.Figures.{latestFirst, Gathered, gatheredOf}
+use Rattle.core.specs.Figures.{latestFirst, Summary, summaryOf}
 use Rattle.core.proofs.FlatLaws.{no-trades, one-more}
 
 -- ---- the latest first payment day
@@ -39,18 +39,18 @@ latest-decides (t ∷ trades) day = rw (sym (latest-decides trades day)) (go (le
     go true false e f = lt-leb _ day (omega (arith, leb-false (latestFirst trades) day f))
     go false c e f = lt-leb _ day (omega (arith, leb-false (t .first) day e))
 
--- ---- what is gathered, where each trade is within its limits and where one is not
+-- ---- what is summary, where each trade is within its limits and where one is not
 
-pub gathered-fit : (trades : List Trade) → allTrades tradeFit trades ≡ true → gatheredOf trades ≡ record { fit = true; outstanding = outstanding trades; latest = latestFirst trades }
-gathered-fit trades e = rw e
+pub summary-fit : (trades : List Trade) → allTrades tradeFit trades ≡ true → summaryOf trades ≡ record { fit = true; outstanding = outstanding trades; latest = latestFirst trades }
+summary-fit trades e = rw e
 
-pub gathered-unfit : (trades : List Trade) → allTrades tradeFit trades ≡ false → gatheredOf trades ≡ record { fit = false; outstanding = 0; latest = 0 }
-gathered-unfit trades e = rw e
+pub summary-unfit : (trades : List Trade) → allTrades tradeFit trades ≡ false → summaryOf trades ≡ record { fit = false; outstanding = 0; latest = 0 }
+summary-unfit trades e = rw e
 
 -- by the test in it
-pub gathered-where : (trades : List Trade) (r : Gathered) → r ≡ gatheredOf trades → (r .fit ≡ allTrades tradeFit trades) × (allTrades tradeFit trades ≡ true → (r .outstanding ≡ outstanding trades) × (r .latest ≡ latestFirst trades))
-gathered-where trades r e = go (allTrades tradeFit trades) refl
+pub summary-where : (trades : List Trade) (r : Summary) → r ≡ summaryOf trades → (r .fit ≡ allTrades tradeFit trades) × (allTrades tradeFit trades ≡ true → (r .outstanding ≡ outstanding trades) × (r .latest ≡ latestFirst trades))
+summary-where trades r e = go (allTrades tradeFit trades) refl
   where
     go : (b : Bool) → allTrades tradeFit trades ≡ b → (r .fit ≡ b) × (b ≡ true → (r .outstanding ≡ outstanding trades) × (r .latest ≡ latestFirst trades))
-    go true f = rw (e ∙ gathered-fit trades f) (refl, λ _. (refl, refl))
-    go false f = rw (e ∙ gathered-unfit trades f) (refl, λ z. absurd (false≢true z))
+    go true f = rw (e ∙ summary-fit trades f) (refl, λ _. (refl, refl))
+    go false f = rw (e ∙ summary-unfit trades f) (refl, λ z. absurd (false≢true z))

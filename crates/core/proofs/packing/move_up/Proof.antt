@@ -2,12 +2,12 @@ use Prim.Native.Nat.{_-_}
 use mathlib.Core.Path.{_≡_, sym, _∙_}
 use native.Mathlib.Omega.{arith}
 use borrow.Author.Needs.{needs}
-use Rattle.core.proofs.PackingLaws.{Gathered, none-passed, passed-by, moved-up}
-use Rattle.core.proofs.packing.gather.Statement.{statement}
-use Rattle.core.proofs.packing.gather.Tie as tie
+use Rattle.core.proofs.PackingLaws.{Summary, none-passed, passed-by, moved-up}
+use Rattle.core.proofs.packing.move_up.Statement.{statement}
+use Rattle.core.proofs.packing.move_up.Tie as tie
 
 abbrev Inv-loop : tie.InvT-loop
-Inv-loop table₀ count kept₀ i₀ table kept i = Gathered table₀ count table kept i
+Inv-loop table₀ count kept₀ i₀ table kept i = Summary table₀ count table kept i
 
 abbrev μ-loop : tie.MeasureT-loop
 μ-loop table₀ count kept₀ i₀ table kept i = count - i
@@ -57,8 +57,8 @@ returns c =
     let e : c .before .loop .i ≡ c .before .before .before .args .count = omega (arith, g .high, c .loop-test .left) in
     (omega (arith, g .low), (rw e at (g .front), rw e at (g .rest)))
 
-pub gather-spec : {M : Type 1} → statement M
-gather-spec =
+pub move-up-spec : {M : Type 1} → statement M
+move-up-spec =
     tie.close
     (tie.spec
     Inv-loop
