@@ -1,22 +1,20 @@
 // 12 Close: maturity, the nets, the evening's applications, the table and the short run.
 ghost use mathlib.Core.Path.{_≡_};
-ghost use mathlib.Core.Bool.{true};
-ghost use Prim.Native.Nat.{_≤_};
+ghost use Prim.Native.Nat.{ℕ};
 ghost use mathlib.Core.List.{List};
 ghost use mathlib.Core.Option.{none};
 ghost use lib.IntN.{pos};
 ghost use lib.ListN.{length};
-ghost use Rattle.money.specs.Limits.{cashLimit};
 ghost use Rattle.money.specs.Causes.{firstOf};
 ghost use Rattle.money.specs.Units.{sheets};
 ghost use Rattle.money.specs.Days.{Calendar};
 ghost use Rattle.rules.specs.Limits.{applicationLimit};
-ghost use Rattle.rules.specs.Fit.{securitiesFit};
+ghost use Rattle.rules.specs.Vault.{value};
 ghost use Rattle.rules.specs.Book.{noApplications};
 ghost use Rattle.rules.specs.Close.{mayClose, maturedTrades, maturedSheets, clearedAtClose, served, evening as eveningOf, shortMore, shortAtClose, closedStanding, closeCauses, closedBook, closedTable};
 ghost use Rattle.rules.specs.Trades.{outstanding, remaining};
 ghost use Rattle.core.specs.Types.{Trade};
-ghost use Rattle.core.specs.Flat.{FitsWhole, RowsFit, Rows, vaultOf, securitiesOf, rowsOf, bookOf, eveningAt, appliedAt, tradesOf, closedBy, tableBy, Kept, heldLength};
+ghost use Rattle.core.specs.Flat.{FitsWhole, RowsFit, Rows, vaultOf, securitiesOf, rowsOf, bookOf, eveningAt, appliedAt, tradesOf, closedBy, tableBy, Kept};
 use crate::days;
 use crate::evening;
 use crate::evening::EveningScalars;
@@ -109,18 +107,27 @@ fn clear(kinds: &mut [u8], units: &mut [u64])
 }
 
 // The evening's end, with the sheets of the trades that part (a) leaves.
-fn evening_end(desk: Desk, held: &mut [u64], kinds: &[u8], units: &[u64], left: u64) -> EveningScalars
+fn evening_end(
+    desk: Desk,
+    held: &mut [u64],
+    kinds: &[u8],
+    units: &[u64],
+    left: u64,
+) -> EveningScalars
     requires { ⌜ RowsFit desk (now held) (now kinds) (now units) ⌝ }
     ensures { λ r.
         let book = bookOf desk (rowsOf (now (held .entry)) (now (kinds .entry)) (now (units .entry))) in
-        ⌜ ((trades : List Trade) → left ≡ outstanding trades → eveningAt r (securitiesOf (now (held .exit))) ≡ eveningOf book trades) ⌝ }
+        ⌜ ((trades : List Trade) → left ≡ outstanding trades → eveningAt r (securitiesOf (now (held .exit))) ≡ eveningOf book trades)
+        × (r .value .0 ≡ value (vaultOf (r .guarantee) (securitiesOf (now (held .exit))))) ⌝ }
 {
     let standing = desk.standing;
     let guarantee = desk.guarantee;
     evening::all_arrived(held, guarantee);
+    let arrived = evening::guarantee_arrived(guarantee);
     let begun = EveningScalars {
         own: Fen(desk.cash.own.0),
-        guarantee: evening::guarantee_arrived(guarantee),
+        guarantee: arrived,
+        value: Sheets(vault::value_of(&*held, arrived)),
         done: 0,
         dropped: 0,
     };
@@ -136,31 +143,21 @@ fn evening_end(desk: Desk, held: &mut [u64], kinds: &[u8], units: &[u64], left: 
 }
 
 // The desk after the evening: `cleared` has the nets, `kept` the trades that stay.
-fn closed_desk(
-    desk: Desk,
-    held: &[u64],
-    cleared: Nets,
-    ended: EveningScalars,
-    left: u64,
-    kept: usize,
-) -> Desk
-    requires { ⌜ (length (now held) ≡ heldLength)
-        × (securitiesFit (vaultOf (ended .guarantee) (securitiesOf (now held))) ≡ true)
-        × (ended .guarantee .frozen .0 ≤ ended .guarantee .effective .0)
-        × (ended .guarantee .effective .0 ≤ cashLimit) ⌝ }
+fn closed_desk(desk: Desk, cleared: Nets, ended: EveningScalars, left: u64, kept: usize) -> Desk
     ensures { λ r.
-        ⌜ ((calendar : Calendar) (rows : Rows) (trades table : List Trade) →
+        ⌜ ((calendar : Calendar) (rows : Rows) (held : List ℕ) (trades table : List Trade) →
         let book = bookOf desk rows in
         cleared ≡ record { today = pos 0; cleared = clearedAtClose calendar book table }
-        → eveningAt ended (securitiesOf (now (held .entry))) ≡ eveningOf book trades
+        → eveningAt ended (securitiesOf held) ≡ eveningOf book trades
+        → ended .value .0 ≡ value (vaultOf (ended .guarantee) (securitiesOf held))
         → left ≡ outstanding trades
         → kept ≡ length (remaining trades)
-        → bookOf r (rowsOf (now (held .entry)) (noApplications .kinds) (noApplications .units)) ≡ closedBook calendar book trades table) ⌝ }
+        → bookOf r (rowsOf held (noApplications .kinds) (noApplications .units)) ≡ closedBook calendar book trades table) ⌝ }
 {
     let standing = desk.standing;
     let short = standing.short;
     let guarantee = ended.guarantee;
-    let is_short = headroom::is_short(desk.size.0, vault::value_of(held, guarantee), left);
+    let is_short = headroom::is_short(desk.size.0, ended.value.0, left);
     let cash = Cash {
         own: Fen(ended.own.0),
         client: Fen(desk.cash.client.0),
@@ -204,7 +201,7 @@ fn closed(
     let kept = packing::pack(table, count);
     let ended = evening_end(desk, held, &*kinds, &*units, left);
     clear(kinds, units);
-    let next = closed_desk(desk, &*held, cleared, ended, left, kept);
+    let next = closed_desk(desk, cleared, ended, left, kept);
     done::of_close(matured, ended.done, ended.dropped, next)
 }
 

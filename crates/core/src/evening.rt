@@ -14,6 +14,7 @@ ghost use Rattle.core.specs.Types.{Vault};
 ghost use Rattle.core.specs.Flat.{vaultOf, securitiesOf, eveningAt, heldLength};
 use crate::held;
 use money::units::Fen;
+use money::units::Sheets;
 use rules::book::Guarantee;
 use rules::book::Security;
 
@@ -127,10 +128,11 @@ fn judged(
     }
 }
 
-// Own and guarantee cash as the evening goes on, and the applications done and dropped so far. The securities stand in their row.
+// Own and guarantee cash and V as the evening goes on, and the applications done and dropped so far. The securities stand in their row.
 pub struct EveningScalars {
     pub own: Fen,
     pub guarantee: Guarantee,
+    pub value: Sheets,
     pub done: u32,
     pub dropped: u32,
 }
@@ -153,16 +155,18 @@ pub fn applications(
         × (begun .guarantee .frozen .0 ≤ begun .guarantee .effective .0)
         × (begun .guarantee .effective .0 ≤ cashLimit)
         × (begun .own .0 + begun .guarantee .effective .0 ≤ cashLimit)
+        × (begun .value .0 ≡ valueOf (vaultOf (begun .guarantee) (securitiesOf (now held))))
         × (begun .done ≡ 0)
         × (begun .dropped ≡ 0) ⌝ }
     ensures { λ r.
         let before = eveningAt begun (securitiesOf (now (held .entry))) in
-        ⌜ eveningAt r (securitiesOf (now (held .exit)))
-        ≡ applications served outstanding (record { kinds = now (kinds .entry); units = now (units .entry); count = count }) before ⌝ }
+        ⌜ (eveningAt r (securitiesOf (now (held .exit)))
+        ≡ applications served outstanding (record { kinds = now (kinds .entry); units = now (units .entry); count = count }) before)
+        × (r .value .0 ≡ valueOf (vaultOf (r .guarantee) (securitiesOf (now (held .exit))))) ⌝ }
 {
     let mut guarantee = begun.guarantee;
     let mut own = begun.own.0;
-    let mut value = crate::vault::value_of(&*held, guarantee);
+    let mut value = begun.value.0;
     let mut done = begun.done;
     let mut dropped = begun.dropped;
     let mut i = 0;
@@ -192,6 +196,7 @@ pub fn applications(
     EveningScalars {
         own: Fen(own),
         guarantee,
+        value: Sheets(value),
         done,
         dropped,
     }

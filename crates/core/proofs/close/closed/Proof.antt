@@ -56,7 +56,7 @@ module _ (c : tie.After-evening-end) where
   from-evening = from-count (counted c)
 
   evening-over : eveningAt (c .evening-end .result) (securitiesOf (c .evening-end .last .1 .0)) ≡ evening (book from-evening) (left-of from-evening)
-  evening-over = c .evening-end .ensures (left-of from-evening) (sheets-left (counted c))
+  evening-over = c .evening-end .ensures .0 (left-of from-evening) (sheets-left (counted c))
 
 day-number-requires : tie.Need-day-number-requires
 day-number-requires c κs = search needs
@@ -82,11 +82,7 @@ clear-requires c κs =
     let s = from-evening at-evening-end in (s .pre .0 .kinds-long, s .pre .0 .units-long)
 
 closed-desk-requires : tie.Need-closed-desk-requires
-closed-desk-requires c κs =
-    let end : tie.After-evening-end = search needs in
-    let s = from-evening end in
-    let sound = rw (sym (evening-over end)) at (evening-sound (book s) (s .pre .0 .securities) (s .pre .0 .cash) (left-of s)) in
-    (end .evening-end .kept .1 .0 ∙ s .pre .0 .held-long, sound .0, sound .1, sound .2)
+closed-desk-requires c κs = search needs
 
 of-close-requires : tie.Need-of-close-requires
 of-close-requires c κs = search needs
@@ -115,7 +111,7 @@ returns c =
     let desk = c .before .closed-desk in (
       (λ calendar matured nets.
           let kept = pack .ensures .0 ∙ ap (λ l. length (remaining l)) (trades-left count) in
-          let next = desk .ensures calendar _ (left-of s) (trades s) nets (evening-over end) (sheets-left count) kept in
+          let next = desk .ensures calendar _ _ (left-of s) (trades s) nets (evening-over end) (end .evening-end .ensures .1) (sheets-left count) kept in
           rw (c .of-close .ensures)
           (close-done calendar (book s) (left-of s) (trades s) (s .args .matured) (end .evening-end .result) (securitiesOf (end .evening-end .last .1 .0))
           (desk .result) (rowsOf (end .evening-end .last .1 .0) (clear .last .0) (clear .last .1 .0)) matured (evening-over end) (rows-cleared _ _ (clear .ensures .0) (clear .ensures .1) next))),

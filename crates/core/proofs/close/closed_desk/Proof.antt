@@ -4,9 +4,6 @@ use Rattle.rules.specs.Close.{isShortClose, closedBook}
 use Rattle.core.proofs.close.closed_desk.Statement.{statement}
 use Rattle.core.proofs.close.closed_desk.Tie as tie
 
-value-of-requires : tie.Need-value-of-requires
-value-of-requires c κs = search needs
-
 is-short-requires : tie.Need-is-short-requires
 is-short-requires c κs = search needs
 
@@ -20,15 +17,13 @@ returns : tie.Need-returns
 unfolding closedBook isShortClose
 returns c =
     let at-is-short : tie.After-is-short = search needs in
-    let at-value-of : tie.After-value-of = search needs in
-    λ calendar rows trades table nets end left kept.
-    rw (c .closed-standing .ensures, c .before .short-at-close .ensures, at-is-short .is-short .ensures, at-value-of .value-of .ensures, nets, sym end, left, kept)
+    λ calendar rows held trades table nets end valued left kept.
+    rw (c .closed-standing .ensures, c .before .short-at-close .ensures, at-is-short .is-short .ensures, valued, nets, sym end, left, kept)
 
 pub closed-desk-spec : {M : Type 1} → statement M
 closed-desk-spec =
     tie.close
     (tie.spec
-    value-of-requires
     is-short-requires
     short-at-close-requires
     closed-standing-requires

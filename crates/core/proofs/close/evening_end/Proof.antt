@@ -21,6 +21,16 @@ guarantee-arrived-requires c κs =
     let s : tie.Start = search needs in
     omega (arith, cash-fits _ _ (s .pre .cash) .sum)
 
+value-of-requires : tie.Need-value-of-requires
+unfolding allArrived
+value-of-requires c κs =
+    let at-all-arrived : tie.After-all-arrived = search needs in
+    let s : tie.Start = search needs in
+    let sound = sound-of (begun (book s)) (evening-begins (book s) (s .pre .securities) (s .pre .cash)) in
+    let at-guarantee-arrived : tie.After-guarantee-arrived = search needs in
+    rw (at-guarantee-arrived .guarantee-arrived .ensures, at-all-arrived .all-arrived .ensures)
+    (at-all-arrived .all-arrived .kept .0 ∙ s .pre .held-long, sound .0, sound .1, sound .2)
+
 is-served-requires : tie.Need-is-served-requires
 is-served-requires c κs = search needs
 
@@ -33,8 +43,11 @@ applications-requires c κs =
     let arrived = at-all-arrived .all-arrived in
     let kept = evening-begins (book s) (s .pre .securities) (s .pre .cash) in
     let sound = sound-of (begun (book s)) kept in
-    rw (at-guarantee-arrived .guarantee-arrived .ensures, arrived .ensures)
-    ((s .pre .kinds-long, s .pre .units-long, arrived .kept .0 ∙ s .pre .held-long, s .pre .withdrawals), (sound .0, sound .1, sound .2, kept .cash, refl, refl))
+    let at-value-of : tie.After-value-of = search needs in
+    let cash = at-guarantee-arrived .guarantee-arrived .ensures in (
+      (s .pre .kinds-long, s .pre .units-long, arrived .kept .0 ∙ s .pre .held-long, s .pre .withdrawals),
+      (rw (cash, arrived .ensures) (sound .0), rw cash (sound .1), rw cash (sound .2), rw cash (kept .cash), at-value-of .value-of .ensures, refl, refl),
+    )
 
 same-length : tie.Need-same-length
 same-length c = search needs
@@ -45,9 +58,8 @@ returns c =
     let at-is-served : tie.After-is-served = search needs in
     let at-guarantee-arrived : tie.After-guarantee-arrived = search needs in
     let at-all-arrived : tie.After-all-arrived = search needs in
-    λ trades left.
     let end : tie.After-applications = search needs in
-    rw (end .applications .ensures, at-is-served .is-served .ensures, at-guarantee-arrived .guarantee-arrived .ensures, at-all-arrived .all-arrived .ensures, left)
+    (λ trades left. rw (end .applications .ensures .0, at-is-served .is-served .ensures, at-guarantee-arrived .guarantee-arrived .ensures, at-all-arrived .all-arrived .ensures, left), end .applications .ensures .1)
 
 pub evening-end-spec : {M : Type 1} → statement M
 evening-end-spec =
@@ -55,6 +67,7 @@ evening-end-spec =
     (tie.spec
     all-arrived-requires
     guarantee-arrived-requires
+    value-of-requires
     is-served-requires
     applications-requires
     same-length

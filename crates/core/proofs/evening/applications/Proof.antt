@@ -56,11 +56,10 @@ abbrev μ-loop : tie.MeasureT-loop
 μ-loop served outstanding kinds units count held₀ guarantee₀ own₀ value₀ done₀ dropped₀ i₀ held guarantee own value done dropped i =
     count - i
 
-value-of-requires : tie.Need-value-of-requires Inv-loop μ-loop
-value-of-requires c κs = search needs
-
 loop-holds : tie.Need-loop-holds Inv-loop μ-loop
-loop-holds c = (omega arith, refl, sym (turn-none _ _), c .value-of .ensures)
+loop-holds c =
+    let s : tie.Start Inv-loop μ-loop = search needs in
+    (omega arith, refl, sym (turn-none _ _), s .pre .1 .4)
 
 -- the turn at hand: the application, and the evening before it
 module _ (c : tie.In-loop Inv-loop μ-loop) where
@@ -108,8 +107,8 @@ module _ (c : tie.In-loop Inv-loop μ-loop) where
         arith,
         ap (λ (e : Evening). e .done + e .dropped) (c .before .loop .inv .2),
         turns-count (s .args .served) (s .args .outstanding) w first i,
-        s .pre .1 .4,
         s .pre .1 .5,
+        s .pre .1 .6,
       )
 
   full : length (vault .securities) ≡ 32
@@ -283,9 +282,11 @@ unfolding applications
 returns c =
     let s : tie.Start Inv-loop μ-loop = search needs in
     let e : c .before .loop .i ≡ s .args .count = omega arith in
-    let first = eveningAt (s .args .begun) (securitiesOf (s .args .held .now)) in
-    c .before .loop .inv .2
-    ∙ ap (λ n. inTurn n (turn (s .args .served) (s .args .outstanding) (asked (s .args .kinds .now) (s .args .units .now) (s .args .count))) first) e
+    let first = eveningAt (s .args .begun) (securitiesOf (s .args .held .now)) in (
+      c .before .loop .inv .2
+          ∙ ap (λ n. inTurn n (turn (s .args .served) (s .args .outstanding) (asked (s .args .kinds .now) (s .args .units .now) (s .args .count))) first) e,
+      c .before .loop .inv .3,
+    )
 
 pub applications-spec : {M : Type 1} → statement M
 applications-spec =
@@ -293,7 +294,6 @@ applications-spec =
     (tie.spec
     Inv-loop
     μ-loop
-    value-of-requires
     loop-holds
     shared-slice-read-kind
     mul-amount
