@@ -12,6 +12,9 @@ use Rattle.core.specs.Types.{Trade, Book, Event, Open, FundIn, FundOut, 
 use Rattle.core.specs.Flat.{FitsWhole, FitsHeld, vaultOf, securitiesOf}
 use Rattle.desk.specs.declared.state.Desk.{Desk}
 pub use Rattle.core.specs.declared.figures.Figures.{Figures}
+pub use Rattle.core.specs.declared.figures.KnownFigures.{KnownFigures}
+pub use Rattle.core.specs.declared.figures.KnownValue.{KnownValue}
+pub use Rattle.core.specs.declared.figures.KnownValue.the-variants.{Counted, NotCounted}
 pub use Rattle.core.specs.declared.trades.Summary.{Summary}
 
 -- of a book over its table
@@ -25,14 +28,20 @@ outstandingAt desk table = outstanding (inUse (desk .trades) table)
 abbrev pub figuresAt : Desk → (held : List ℕ) → List Trade → Figures
 figuresAt desk held table = record { outstanding = outstandingAt desk table; value = value (vaultOf (desk .guarantee) (securitiesOf held)) }
 
--- what the core may rely on where O comes with the book
-pub record CountedWhole (calendar : Calendar) (desk : Desk) (held kinds units : List ℕ) (table : List Trade) (number : ℕ) : Type 0 where
-  pub book : FitsWhole calendar desk held kinds units table
-  pub sheets : number ≡ outstandingAt desk table
+abbrev pub IsValue : KnownValue → (value : ℕ) → Type 0
+IsValue (Counted number) value = number ≡ value
+IsValue NotCounted value = Unit {0}
 
-pub record CountedHeld (calendar : Calendar) (desk : Desk) (held : List ℕ) (table : List Trade) (number : ℕ) : Type 0 where
+-- what the core may rely on where O, and V if it is known, come with the book
+pub record CountedWhole (calendar : Calendar) (desk : Desk) (held kinds units : List ℕ) (table : List Trade) (known : KnownFigures) : Type 0 where
+  pub book : FitsWhole calendar desk held kinds units table
+  pub sheets : known .outstanding ≡ outstandingAt desk table
+  pub value : IsValue (known .value) (figuresAt desk held table .value)
+
+pub record CountedHeld (calendar : Calendar) (desk : Desk) (held : List ℕ) (table : List Trade) (known : KnownFigures) : Type 0 where
   pub book : FitsHeld calendar desk held table
-  pub sheets : number ≡ outstandingAt desk table
+  pub sheets : known .outstanding ≡ outstandingAt desk table
+  pub value : IsValue (known .value) (figuresAt desk held table .value)
 
 -- what is known of them after an event that is done
 abbrev pub Moved : Event → (before after : Figures) → Type 0

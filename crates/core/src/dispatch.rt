@@ -6,6 +6,7 @@ ghost use Rattle.core.specs.Flat.{rowsOf, bookOf, appliedAt, tradesOf, a
 ghost use Rattle.core.specs.Figures.{CountedWhole};
 use crate::close;
 use crate::early;
+use crate::figures::KnownFigures;
 use crate::freeze;
 use crate::funds;
 use crate::initial;
@@ -21,7 +22,7 @@ use desk::state::Desk;
 use rules::event::Entry;
 use rules::event::Event;
 
-// One event on a fit book, under a calendar of at most 1,200 words; O comes with it.
+// One event on a fit book, under a calendar of at most 1,200 words; O comes with it, and V where it is known.
 fn event_on(
     calendar: &[u32],
     desk: Desk,
@@ -29,10 +30,10 @@ fn event_on(
     kinds: &mut [u8],
     units: &mut [u64],
     table: &mut [u64],
-    outstanding: u64,
+    known: KnownFigures,
     event: Event,
 ) -> Done
-    requires { ⌜ CountedWhole (now calendar) desk (now held) (now kinds) (now units) (tradesOf (now table)) outstanding ⌝ }
+    requires { ⌜ CountedWhole (now calendar) desk (now held) (now kinds) (now units) (tradesOf (now table)) known ⌝ }
     ensures { λ r.
         let book = bookOf desk (rowsOf (now (held .entry)) (now (kinds .entry)) (now (units .entry))) in
         let trades = tradesOf (now (table .entry)) in
@@ -44,7 +45,7 @@ fn event_on(
         Event::Open => open::open(calendar, desk, table),
         Event::FundIn(account, amount) => funds::fund_in(desk, account, amount),
         Event::FundOut(account, amount) => funds::fund_out(desk, account, amount),
-        Event::Size(sheets) => size::set_size(desk, outstanding, sheets),
+        Event::Size(sheets) => size::set_size(desk, known.outstanding, sheets),
         Event::Rate(kind, rate) => rate::set_rate(desk, held, kind, rate),
         Event::Pledge(kind, amount) => pledge::pledge(desk, held, kind, amount),
         Event::Freeze(kind, amount) => freeze::freeze(desk, held, kind, amount),
@@ -56,14 +57,7 @@ fn event_on(
             kind,
             amount,
         ),
-        Event::Initial(terms) => initial::initial(
-            calendar,
-            desk,
-            &*held,
-            table,
-            outstanding,
-            terms,
-        ),
+        Event::Initial(terms) => initial::initial(calendar, desk, &*held, table, known, terms),
         Event::Early(contract, count, price) => early::early(
             calendar,
             desk,
@@ -85,10 +79,10 @@ pub fn entry_on(
     kinds: &mut [u8],
     units: &mut [u64],
     table: &mut [u64],
-    outstanding: u64,
+    known: KnownFigures,
     entry: Entry,
 ) -> Done
-    requires { ⌜ CountedWhole (now calendar) desk (now held) (now kinds) (now units) (tradesOf (now table)) outstanding ⌝ }
+    requires { ⌜ CountedWhole (now calendar) desk (now held) (now kinds) (now units) (tradesOf (now table)) known ⌝ }
     ensures { λ r.
         let book = bookOf desk (rowsOf (now (held .entry)) (now (kinds .entry)) (now (units .entry))) in
         let trades = tradesOf (now (table .entry)) in
@@ -97,16 +91,7 @@ pub fn entry_on(
         × (tradesOf (now (table .exit)) ≡ next .table) ⌝ }
 {
     match entry {
-        Entry::Known(event) => event_on(
-            calendar,
-            desk,
-            held,
-            kinds,
-            units,
-            table,
-            outstanding,
-            event,
-        ),
+        Entry::Known(event) => event_on(calendar, desk, held, kinds, units, table, known, event),
         Entry::Undecodable => done::answered(2, desk),
     }
 }

@@ -1,7 +1,7 @@
 // O and V of a book: counted over the table and the vault, or carried over an event that says how it moves them.
 ghost use mathlib.Core.Path.{_≡_};
 ghost use Rattle.rules.specs.Trades.{inUse, outstanding};
-ghost use Rattle.core.specs.Figures.{figuresAt, Moved, MovedBy};
+ghost use Rattle.core.specs.Figures.{CountedHeld, figuresAt, Moved, MovedBy};
 ghost use Rattle.core.specs.Flat.{FitsHeld, tradesOf};
 use crate::trades;
 use crate::vault;
@@ -14,6 +14,18 @@ pub struct Figures {
     pub value: u64,
 }
 
+// A run has V from the event before; a single call counts it where an event asks.
+pub enum KnownValue {
+    Counted(u64),
+    NotCounted,
+}
+
+// O, and what is known of V, as an event begins.
+pub struct KnownFigures {
+    pub outstanding: u64,
+    pub value: KnownValue,
+}
+
 // Counted, over the trades in use and all kinds.
 pub fn figures_of(calendar: &[u32], desk: Desk, held: &[u64], table: &[u64]) -> Figures
     requires { ⌜ FitsHeld (now calendar) desk (now held) (tradesOf (now table)) ⌝ }
@@ -23,6 +35,31 @@ pub fn figures_of(calendar: &[u32], desk: Desk, held: &[u64], table: &[u64]) -> 
     Figures {
         outstanding: trades::outstanding_of(table, desk.trades),
         value: vault::value_of(held, guarantee),
+    }
+}
+
+// Both, with V counted only where it is not known.
+pub fn figures_known(
+    calendar: &[u32],
+    desk: Desk,
+    held: &[u64],
+    table: &[u64],
+    known: KnownFigures,
+) -> Figures
+    requires { ⌜ CountedHeld (now calendar) desk (now held) (tradesOf (now table)) known ⌝ }
+    ensures { λ r. ⌜ r ≡ figuresAt desk (now (held .entry)) (tradesOf (now (table .entry))) ⌝ }
+{
+    let guarantee = desk.guarantee;
+    let value = known.value;
+    match value {
+        KnownValue::Counted(number) => Figures {
+            outstanding: known.outstanding,
+            value: number,
+        },
+        KnownValue::NotCounted => Figures {
+            outstanding: known.outstanding,
+            value: vault::value_of(held, guarantee),
+        },
     }
 }
 

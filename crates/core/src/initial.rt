@@ -16,10 +16,11 @@ ghost use Rattle.rules.specs.Initial.{badCount, badPrices, badDue, timeCauses, 
 ghost use Rattle.core.specs.Flat.{HasSlots, Rows, rowsOf, bookOf, appliedAt, tradesOf, appliedBy, tableBy};
 ghost use Rattle.core.specs.Figures.{CountedHeld};
 use crate::days;
+use crate::figures;
+use crate::figures::KnownFigures;
 use crate::flat;
 use crate::nets;
 use crate::trades;
-use crate::vault;
 use desk::done;
 use desk::done::Done;
 use desk::headroom;
@@ -100,17 +101,16 @@ fn lacks_headroom(
     desk: Desk,
     held: &[u64],
     table: &[u64],
-    outstanding: u64,
+    known: KnownFigures,
     count: u64,
 ) -> bool
-    requires { ⌜ (CountedHeld (now calendar) desk (now held) (tradesOf (now table)) outstanding) × (count ≤ tradeLimit) ⌝ }
+    requires { ⌜ (CountedHeld (now calendar) desk (now held) (tradesOf (now table)) known) × (count ≤ tradeLimit) ⌝ }
     ensures { λ r.
         ⌜ ((kinds units : List ℕ) →
         r ≡ ltZ (headroom (bookOf desk (rowsOf (now (held .entry)) kinds units)) (tradesOf (now (table .entry)))) (pos count)) ⌝ }
 {
-    let guarantee = desk.guarantee;
-    let value = vault::value_of(held, guarantee);
-    headroom::above_headroom(desk.size.0, value, outstanding, count)
+    let figures = figures::figures_known(calendar, desk, held, table, known);
+    headroom::above_headroom(desk.size.0, figures.value, figures.outstanding, count)
 }
 
 // The causes, group by group as the rules have them: when a trade may begin, its prices and its due day, the table's room, and
@@ -167,16 +167,16 @@ fn sheet_refusal(
     desk: Desk,
     held: &[u64],
     table: &[u64],
-    outstanding: u64,
+    known: KnownFigures,
     terms: Terms,
 ) -> u8
-    requires { ⌜ (CountedHeld (now calendar) desk (now held) (tradesOf (now table)) outstanding) × (terms .sheets .0 ≤ tradeLimit) ⌝ }
+    requires { ⌜ (CountedHeld (now calendar) desk (now held) (tradesOf (now table)) known) × (terms .sheets .0 ≤ tradeLimit) ⌝ }
     ensures { λ r.
         ⌜ ((kinds units : List ℕ) →
         let book = bookOf desk (rowsOf (now (held .entry)) kinds units) in
         r ≡ numberOf (firstOf (sheetCauses book (tradesOf (now (table .entry))) terms))) ⌝ }
 {
-    if lacks_headroom(calendar, desk, held, table, outstanding, terms.sheets.0) {
+    if lacks_headroom(calendar, desk, held, table, known, terms.sheets.0) {
         return 12;
     }
     let nets = desk.nets;
@@ -192,10 +192,10 @@ fn initial_refusal(
     desk: Desk,
     held: &[u64],
     table: &[u64],
-    outstanding: u64,
+    known: KnownFigures,
     terms: Terms,
 ) -> u8
-    requires { ⌜ CountedHeld (now calendar) desk (now held) (tradesOf (now table)) outstanding ⌝ }
+    requires { ⌜ CountedHeld (now calendar) desk (now held) (tradesOf (now table)) known ⌝ }
     ensures { λ r.
         let trades = tradesOf (now (table .entry)) in
         ⌜ ((kinds units : List ℕ) →
@@ -218,7 +218,7 @@ fn initial_refusal(
     if for_a_slot != 0 {
         return for_a_slot;
     }
-    sheet_refusal(calendar, desk, held, table, outstanding, terms)
+    sheet_refusal(calendar, desk, held, table, known, terms)
 }
 
 // The record of a trade that begins today.
@@ -243,10 +243,10 @@ pub fn initial(
     desk: Desk,
     held: &[u64],
     table: &mut [u64],
-    outstanding: u64,
+    known: KnownFigures,
     terms: Terms,
 ) -> Done
-    requires { ⌜ CountedHeld (now calendar) desk (now held) (tradesOf (now table)) outstanding ⌝ }
+    requires { ⌜ CountedHeld (now calendar) desk (now held) (tradesOf (now table)) known ⌝ }
     ensures { λ r.
         let trades = tradesOf (now (table .entry)) in
         ⌜ ((kinds units : List ℕ) →
@@ -255,7 +255,7 @@ pub fn initial(
         (appliedAt r (rowsOf (now (held .entry)) kinds units) ≡ appliedBy cause book (initialBook book terms))
         × (tradesOf (now (table .exit)) ≡ tableBy cause trades (initialTable (now (calendar .entry)) book trades terms))) ⌝ }
 {
-    let refusal = initial_refusal(calendar, desk, held, &*table, outstanding, terms);
+    let refusal = initial_refusal(calendar, desk, held, &*table, known, terms);
     if refusal != 0 {
         return done::answered(refusal, desk);
     }

@@ -14,6 +14,8 @@ ghost use Rattle.core.specs.Lent.{lent, bookIn, tableIn, isWhole, fitIn,
 use crate::cover;
 use crate::dispatch;
 use crate::figures;
+use crate::figures::KnownFigures;
+use crate::figures::KnownValue;
 use crate::fit;
 use crate::fit::Fitness;
 use crate::flat;
@@ -110,7 +112,10 @@ pub fn apply(
         kinds,
         units,
         table,
-        tested.outstanding,
+        KnownFigures {
+            outstanding: tested.outstanding,
+            value: KnownValue::NotCounted,
+        },
         entry,
     )
 }

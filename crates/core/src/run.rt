@@ -12,6 +12,8 @@ use crate::cover;
 use crate::dispatch;
 use crate::figures;
 use crate::figures::Figures;
+use crate::figures::KnownFigures;
+use crate::figures::KnownValue;
 use crate::line;
 use desk::state::Desk;
 use rules::limits::EVENT_BYTES;
@@ -57,7 +59,10 @@ fn run_event(
         kinds,
         units,
         table,
-        figures.outstanding,
+        KnownFigures {
+            outstanding: figures.outstanding,
+            value: KnownValue::Counted(figures.value),
+        },
         entry,
     );
     let answer = done.answer;

@@ -117,6 +117,7 @@ initial-requires c κs =
     record {
       book = record { kinds = s .args .kinds .now; units = s .args .units .now; held-long = s .pre .book .held-long; few = s .pre .book .few; fits = s .pre .book .fits };
       sheets = s .pre .sheets;
+      value = s .pre .value;
     }
 
 enum-known-event-9 : tie.Need-enum-known-event-9

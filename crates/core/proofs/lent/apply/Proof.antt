@@ -34,7 +34,7 @@ entry-on-requires : tie.Need-entry-on-requires
 entry-on-requires c κs =
     let passed : tie.Else1 = search needs in
     let found = fit-in _ _ (upheld (passed .before .fitness-in .ensures .0) (passed .if1 .left)) in
-    record { book = record { held-long = found .long .held; kinds-long = found .long .kinds; units-long = found .long .units; few = found .few; fits = found .fits }; sheets = passed .before .fitness-in .ensures .1 (not-false _ (passed .if1 .left)) }
+    record { book = record { held-long = found .long .held; kinds-long = found .long .kinds; units-long = found .long .units; few = found .few; fits = found .fits }; sheets = passed .before .fitness-in .ensures .1 (not-false _ (passed .if1 .left)); value = tt }
 
 same-length-5 : tie.Need-same-length-5
 same-length-5 c = search needs

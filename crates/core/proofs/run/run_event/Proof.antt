@@ -51,7 +51,7 @@ decode-requires c κs = search needs
 entry-on-requires : tie.Need-entry-on-requires
 entry-on-requires c κs =
     let s : tie.Start = search needs in
-    record { book = s .pre .0; sheets = ap (λ (f : Figures). f .outstanding) (s .pre .1) }
+    record { book = s .pre .0; sheets = ap (λ (f : Figures). f .outstanding) (s .pre .1); value = ap (λ (f : Figures). f .value) (s .pre .1) }
 
 figures-after-requires : tie.Need-figures-after-requires
 figures-after-requires c κs =
