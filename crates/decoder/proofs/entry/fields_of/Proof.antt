@@ -33,9 +33,10 @@ number4-requires-4 c κs = search needs
 
 returns : tie.Need-returns
 returns c =
-    let known = c .before .before .before .before .before .before .before .before .before .shared-slice-known .given in
-    let bytes = c .before .before .before .before .before .before .before .before .before .before .args .bytes .now in
-    cc (past-two bytes 6 (omega arith) (known 0 .fits) (known 1 .fits))
+    let start : tie.Start = search needs in
+    let codes : tie.After-shared-slice-known = search needs in
+    let known = codes .shared-slice-known .given in
+    cc (past-two (start .args .bytes .now) 6 (omega arith) (known 0 .fits) (known 1 .fits))
 
 pub fields-of-spec : {M : Type 1} → statement M
 fields-of-spec =

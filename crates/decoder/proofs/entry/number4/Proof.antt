@@ -58,7 +58,7 @@ add-result c = search needs
 
 returns : tie.Need-returns
 returns c =
-    let start = c .before .before .before .before .before .before .before .before .before in
+    let start : tie.Start = search needs in
     let bytes = start .args .bytes .now in
     omega (arith, first-four bytes (start .args .at) 0 (start .pre), no-bytes bytes (start .args .at + 4))
 
