@@ -92,7 +92,13 @@ printed =
     ++ line 16 0 80 100 6000000 2000000
 
 pub journal-prints : listingText journal ≡ printed
-unfolding freshBook run step causes eventCauses act firstOf fit every capacityFit securitiesFit allBelow cashFit allTrades sizeFit netsFit differ withdrawalsFit followed following paymentDay trades firstTrading atOrAfter nextAfter earliest sizeCauses sized fundInCauses fundedIn rateCauses rated openCauses openedBook openedTable statusAtOpen turnsTerminated pledgeCauses pledged payCauses afterPay closeCauses closedBook closedTable closeAnswer maturedTrades maturedSheets maturedAmount evening applications inTurn allArrived isShortClose total outstanding remaining value sumBelow kindValue headroom initialCauses initialBook initialTable onTable principal redemption income listingOf entriesOf lineOf linesOf decoded entryOf unless littleEndian sectionCauses journalCauses wordsOf calendarOf eventsOf decimal placesTo spaced signed lineFrom lineText linesText listingBy listingText refusedLine
+unfolding freshBook run step causes eventCauses act firstOf fit every capacityFit securitiesFit allBelow cashFit allTrades sizeFit netsFit differ
+    withdrawalsFit followed following paymentDay trades firstTrading atOrAfter nextAfter earliest sizeCauses sized fundInCauses fundedIn rateCauses
+    rated openCauses openedBook openedTable statusAtOpen turnsTerminated pledgeCauses pledged payCauses afterPay closeCauses closedBook closedTable
+    closeAnswer maturedTrades maturedSheets maturedAmount evening applications inTurn allArrived isShortClose total outstanding remaining value
+    sumBelow kindValue headroom initialCauses initialBook initialTable onTable principal redemption income listingOf entriesOf lineOf linesOf decoded
+    entryOf unless littleEndian sectionCauses journalCauses wordsOf calendarOf eventsOf decimal placesTo spaced signed lineFrom lineText linesText
+    listingBy listingText refusedLine
 journal-prints = refl
 
 -- "2 0 0 0 5000000 0 0" and, with a negative headroom, "3 0 -20 120 7 0 15", each with its line end

@@ -27,12 +27,16 @@ use Rattle.journal.specs.Listing.{Written, linesText, textCauses, answer
 
 -- ---- a line's numbers, by place
 
-pub line-read : (lines : List ℕ) (from : ℕ) → _≡_ {A = Line} (record { answer = getD lines from 0; negative = getD lines (from + 1) 0; size = getD lines (from + 2) 0; outstanding = getD lines (from + 3) 0; own = getD lines (from + 4) 0; client = getD lines (from + 5) 0; guarantee = getD lines (from + 6) 0 }) (lineFrom (drop from lines))
+pub line-read : (lines : List ℕ) (from : ℕ)
+    → _≡_ {A = Line} (record { answer = getD lines from 0; negative = getD lines (from + 1) 0; size = getD lines (from + 2) 0; outstanding = getD lines (from + 3) 0; own = getD lines (from + 4) 0; client = getD lines (from + 5) 0; guarantee = getD lines (from + 6) 0 })
+    (lineFrom (drop from lines))
 unfolding lineFrom
 line-read lines from = simp (getD-drop, add-zero)
 
 -- the same of the line's own part
-pub row-read : (numbers : List ℕ) (n : ℕ) → 7 ≤ n → _≡_ {A = Line} (record { answer = getD (take n numbers) 0 0; negative = getD (take n numbers) 1 0; size = getD (take n numbers) 2 0; outstanding = getD (take n numbers) 3 0; own = getD (take n numbers) 4 0; client = getD (take n numbers) 5 0; guarantee = getD (take n numbers) 6 0 }) (lineFrom numbers)
+pub row-read : (numbers : List ℕ) (n : ℕ) → 7 ≤ n
+    → _≡_ {A = Line} (record { answer = getD (take n numbers) 0 0; negative = getD (take n numbers) 1 0; size = getD (take n numbers) 2 0; outstanding = getD (take n numbers) 3 0; own = getD (take n numbers) 4 0; client = getD (take n numbers) 5 0; guarantee = getD (take n numbers) 6 0 })
+    (lineFrom numbers)
 unfolding lineFrom
 row-read numbers n long =
     let read : (i : ℕ) → i < 7 → getD (take n numbers) i 0 ≡ getD numbers i 0 = (λ i h. getD-take n numbers i 0 (omega arith)) in

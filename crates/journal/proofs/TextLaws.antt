@@ -168,7 +168,8 @@ signed-put text text′ at negative size end m h e p =
     byte-then (set text at 32) (decimal size) (at + 1) 45 (simp length-set (omega arith)) in
     rw minus (omega arith, p ∙ rw after at inner ∙ byte-then text (45 ∷ decimal size) at 32 (omega arith))
 
-pub length-line : (place : ℕ) (line : Line) → length (lineText place line) ≡ length (decimal place) + length (spaced (line .answer)) + length (signed (line .negative) (line .size)) + length (spaced (line .outstanding)) + length (spaced (line .own)) + length (spaced (line .client)) + length (spaced (line .guarantee)) + 1
+pub length-line : (place : ℕ) (line : Line)
+    → length (lineText place line) ≡ length (decimal place) + length (spaced (line .answer)) + length (signed (line .negative) (line .size)) + length (spaced (line .outstanding)) + length (spaced (line .own)) + length (spaced (line .client)) + length (spaced (line .guarantee)) + 1
 unfolding lineText
 length-line place line = simp length-append
 

@@ -131,7 +131,9 @@ module _ {M : Type 1} (𝓤 : URA M) (H : Heap 𝓤) (A : Atoms 𝓤) (W : Given
   to-section r u = (((κ, tt), (q, tt), tt, (r, (limit, (width, tt))), (u ∷ [], (vint w32 limit ∷ [], (vint w32 width ∷ [], tt)))), tt)
 
   goes-section : (r : Reader) (u : Val) → ent 𝓤 (⋆ 𝓤 H A (‵ (B (κ, tt) .own r (u ∷ [])) ∷ (‵ (flft κ q) ⊛ ‵ ftrue) ∷ [])) (Section′ 𝓤 H A mem run .pre (to-section r u))
-  goes-section r u = qed W (‵ (B (κ, tt) .own r (u ∷ [])) ∷ (‵ (flft κ q) ⊛ ‵ ftrue) ∷ []) ∵ nothing ! $ owned ! u32 (Is u32) (uint-makes 𝓤 H A W w32) width _ (refl, width-fits) $ fjoin ! $ owned ! u32 (Is u32) (uint-makes 𝓤 H A W w32) limit _ (refl, limit-fits) $ fjoin ! $ move ! (1 ∷ 0 ∷ []) $ fjoin ! $ move ! (1 ∷ 0 ∷ []) $ join ! $ frame ! $ done !
+  goes-section r u =
+      qed W (‵ (B (κ, tt) .own r (u ∷ [])) ∷ (‵ (flft κ q) ⊛ ‵ ftrue) ∷ []) ∵
+      nothing ! $ owned ! u32 (Is u32) (uint-makes 𝓤 H A W w32) width _ (refl, width-fits) $ fjoin ! $ owned ! u32 (Is u32) (uint-makes 𝓤 H A W w32) limit _ (refl, limit-fits) $ fjoin ! $ move ! (1 ∷ 0 ∷ []) $ fjoin ! $ move ! (1 ∷ 0 ∷ []) $ join ! $ frame ! $ done !
 
   section-said : (r : Reader) (t : Section) → ent 𝓤 (ensured 𝓤 H A section.ended (section.clauses 𝓤 H A mem run) (κ, tt) (r, (limit, (width, tt))) tt t) (fact 𝓤 (IsSectionAt limit width (r .at) (now (r .journal)) t))
   section-said r t = exE 𝓤 _ (λ ws. snd∗ 𝓤 (sem 𝓤 H A (lasts section.ended (κ, tt) (r, (limit, (width, tt))) ws)) (fact 𝓤 (IsSectionAt limit width (r .at) (now (r .journal)) t)))
@@ -140,7 +142,8 @@ module _ {M : Type 1} (𝓤 : URA M) (H : Heap 𝓤) (A : Atoms 𝓤) (W : Given
   exits t u e =
       qed W (‵ (S.the-row .own t (u ∷ [])) ∷ (‵ (flft κ q) ⊛ ‵ ftrue) ∷ ‵ Own ∷ []) ∵
       suffices ! _ (ends-at 𝓤 H A whole.ended stayed (whole.clauses 𝓤 H A mem run) W (((κ, tt), (q, tt), tt, (s, (n, (limit, (width, tt)))), at), tt) u t (tt, (tt, (tt, (tt, tt)))) (tt, (tt, (tt, (tt, tt))))) $ says ! e $
-      move ! (1 ∷ []) $ frame ! $ nothing ! $ owned ! u32 (Is u32) (uint-makes 𝓤 H A W w32) width _ (refl, width-fits) $ fjoin ! $ owned ! u32 (Is u32) (uint-makes 𝓤 H A W w32) limit _ (refl, limit-fits) $ fjoin ! $ owned ! usize (Is usize) (uint-makes 𝓤 H A W w64) n _ (refl, n-fits) $ fjoin ! $ move ! (2 ∷ 0 ∷ []) $ fjoin ! $ frame ! $ done !
+      move ! (1 ∷ []) $ frame ! $ nothing ! $ owned ! u32 (Is u32) (uint-makes 𝓤 H A W w32) width _ (refl, width-fits) $ fjoin ! $
+      owned ! u32 (Is u32) (uint-makes 𝓤 H A W w32) limit _ (refl, limit-fits) $ fjoin ! $ owned ! usize (Is usize) (uint-makes 𝓤 H A W w64) n _ (refl, n-fits) $ fjoin ! $ move ! (2 ∷ 0 ∷ []) $ fjoin ! $ frame ! $ done !
 
   module _ (C : Calls 𝓤 H) (Λ : Loops 𝓤 H) (fm : FmC 𝓤 H (W .laws) C) (known-new : Triple 𝓤 (C #journal·new) (New 𝓤 H A mem run)) (known-moved : Triple 𝓤 (C #journal·moved) (Moved 𝓤 H A mem run)) (known-section : Triple 𝓤 (C #journal·section) (Section′ 𝓤 H A mem run)) where
     walk : Is (ShrSlice (named 0) κ u8) s (v ∷ []) → ent 𝓤 (onEntry 𝓤 H A whole.signature (κ, tt) (q, tt) (s, (n, (limit, (width, tt)))) at) (WpFn 𝓤 H C Λ code.function (v ∷ vint w64 n ∷ vint w32 limit ∷ vint w32 width ∷ []) Post)
@@ -175,13 +178,19 @@ module _ {M : Type 1} (𝓤 : URA M) (H : Heap 𝓤) (A : Atoms 𝓤) (W : Given
 module _ {M : Type 1} (𝓤 : URA M) (H : Heap 𝓤) (A : Atoms 𝓤) (W : Given 𝓤 H A) (mem : Memory → SProp 𝓤) (run : Routine → Fun 𝓤) where
   section-from-walks : (C : Calls 𝓤 H) (Λ : Loops 𝓤 H) → FmC 𝓤 H (W .laws) C → Triple 𝓤 (C #journal·new) (New 𝓤 H A mem run) → Triple 𝓤 (C #journal·moved) (Moved 𝓤 H A mem run) → Triple 𝓤 (C #journal·section) (Section′ 𝓤 H A mem run)
       → Walks 𝓤 H A whole.ended stayed (WpFn 𝓤 H C Λ code.function) (whole.clauses 𝓤 H A mem run)
-  section-from-walks C Λ fm known-new known-moved known-section = walked 𝓤 H A whole.ended stayed (whole.clauses 𝓤 H A mem run) (WpFn 𝓤 H C Λ code.function) (λ κs. (slice-vals, (uint-vals w64, (uint-vals w32, (uint-vals w32, tt))))) (λ κs. (shr-slice-tells (named 0) (κs .0) u8, (uint-tells w64, (uint-tells w32, (uint-tells w32, tt)))))
+  section-from-walks C Λ fm known-new known-moved known-section =
+      walked 𝓤 H A whole.ended stayed (whole.clauses 𝓤 H A mem run) (WpFn 𝓤 H C Λ code.function)
+      (λ κs. (slice-vals, (uint-vals w64, (uint-vals w32, (uint-vals w32, tt)))))
+      (λ κs. (shr-slice-tells (named 0) (κs .0) u8, (uint-tells w64, (uint-tells w32, (uint-tells w32, tt)))))
       (λ κs qs bounds a g are. via 𝓤 _ (fst∗ 𝓤 _ (emp 𝓤)) (walk 𝓤 H A W mem run (κs .0) (qs .0) (a .0) (a .1 .0) (a .1 .1 .0) (a .1 .1 .1 .0) (are .1 .0 .1) (are .1 .1 .0 .1) (are .1 .1 .1 .0 .1) C Λ fm known-new known-moved known-section (are .0)))
 
 section-from-meets : {M : Type 1} (𝓤 : URA M) (H : Heap 𝓤) (A : Atoms 𝓤) (W : Given 𝓤 H A) (mem : Memory → SProp 𝓤) (run : Routine → Fun 𝓤) (𝓣 : Tables 𝓤 H)
     → Triple 𝓤 (𝓣 .C #journal·new) (New 𝓤 H A mem run) → Triple 𝓤 (𝓣 .C #journal·moved) (Moved 𝓤 H A mem run) → Triple 𝓤 (𝓣 .C #journal·section) (Section′ 𝓤 H A mem run)
     → Meets 𝓤 H A whole.signature (WpFn 𝓤 H (𝓣 .C) (𝓣 .Λ) code.function) (whole.spec 𝓤 H A mem run)
-section-from-meets 𝓤 H A W mem run 𝓣 known-new known-moved known-section = walk-meets 𝓤 H A whole.ended stayed W (goes-none-slice 𝓤 H A W 1 (0 ∷ []) tt (plain (λ _. u8)) yes, (goes-none 𝓤 H A W 1 (λ _. usize) yes (λ κs x f. refl), (goes-none 𝓤 H A W 1 (λ _. u32) yes (λ κs x f. refl), (goes-none 𝓤 H A W 1 (λ _. u32) yes (λ κs x f. refl), tt)))) (whole.clauses 𝓤 H A mem run) (WpFn 𝓤 H (𝓣 .C) (𝓣 .Λ) code.function) (WpFn-mono 𝓤 H (W .laws) 𝓣 code.function)
+section-from-meets 𝓤 H A W mem run 𝓣 known-new known-moved known-section =
+    walk-meets 𝓤 H A whole.ended stayed W
+    (goes-none-slice 𝓤 H A W 1 (0 ∷ []) tt (plain (λ _. u8)) yes, (goes-none 𝓤 H A W 1 (λ _. usize) yes (λ κs x f. refl), (goes-none 𝓤 H A W 1 (λ _. u32) yes (λ κs x f. refl), (goes-none 𝓤 H A W 1 (λ _. u32) yes (λ κs x f. refl), tt))))
+    (whole.clauses 𝓤 H A mem run) (WpFn 𝓤 H (𝓣 .C) (𝓣 .Λ) code.function) (WpFn-mono 𝓤 H (W .laws) 𝓣 code.function)
     (section-from-walks 𝓤 H A W mem run (𝓣 .C) (𝓣 .Λ) (fmOf 𝓤 H (W .laws) 𝓣) known-new known-moved known-section)
 
 pub section-from-spec : {M : Type 1} → stated.statement M
