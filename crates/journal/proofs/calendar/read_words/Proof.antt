@@ -41,8 +41,9 @@ loop-less c = search needs
 
 loop-again : tie.Need-loop-again Inv-loop μ-loop
 loop-again c =
+    let start : tie.Start Inv-loop μ-loop = search needs in
     let here = c .before .before in
-    let a = here .before .before .before .args in
+    let a = start .args in
     (omega arith, simp length-set (here .loop .inv .1), rw (here .loop .inv .2) (next-word (a .journal .now) (a .words .now) (a .at) (here .loop .k) (c .number4 .result) (c .number4 .ensures) (omega arith)))
 
 same-length : tie.Need-same-length Inv-loop μ-loop
@@ -50,7 +51,8 @@ same-length c = c .before .loop .inv .1
 
 returns : tie.Need-returns Inv-loop μ-loop
 returns c =
-    let all : c .before .loop .k ≡ c .before .before .before .before .args .count = omega arith in
+    let start : tie.Start Inv-loop μ-loop = search needs in
+    let all : c .before .loop .k ≡ start .args .count = omega arith in
     c .before .loop .inv .2 ∙ rw all refl
 
 pub read-words-spec : {M : Type 1} → statement M

@@ -40,12 +40,16 @@ loop-less c = search needs
 
 loop-again : tie.Need-loop-again Inv-loop μ-loop
 loop-again c =
-    let here = c .before .before .before in
-    let next = length-next (here .before .before .args .lines .now) (here .loop .k) (c .before .line-at .result) (c .before .line-at .ensures) in
+    let start : tie.Start Inv-loop μ-loop = search needs in
+    let here : tie.At-loop Inv-loop μ-loop = search needs in
+    let next = length-next (start .args .lines .now) (here .loop .k) (c .before .line-at .result) (c .before .line-at .ensures) in
     (omega arith, omega (arith, next, c .line-length .ensures), omega (arith, c .line-length .ensures))
 
 returns : tie.Need-returns Inv-loop μ-loop
-returns c = let all : c .before .loop .k ≡ c .before .before .before .args .count = omega arith in rw all at (c .before .loop .inv .1)
+returns c =
+    let start : tie.Start Inv-loop μ-loop = search needs in
+    let all : c .before .loop .k ≡ start .args .count = omega arith in
+    rw all at (c .before .loop .inv .1)
 
 pub lines-length-spec : {M : Type 1} → statement M
 lines-length-spec =

@@ -16,11 +16,19 @@ Inv-loop text₀ lines count at₀ k₀ text at k = (k ≤ count) × (length tex
 abbrev μ-loop : tie.MeasureT-loop
 μ-loop text₀ lines count at₀ k₀ text at k = count - k
 
+-- a line that was read: the turn, and the arguments
+abbrev read-turn : tie.After-line-at Inv-loop μ-loop → tie.At-loop Inv-loop μ-loop
+read-turn c = search needs
+
+abbrev read-start : tie.After-line-at Inv-loop μ-loop → tie.Start Inv-loop μ-loop
+read-start c = search needs
+
 -- the text has room for the next line
-line-room : (c : tie.After-line-at Inv-loop μ-loop) → (let here = c .before .before .before in let a = here .before .before .before .args in 0 + length (linesText (here .loop .k) (a .lines .now)) + length (lineText (here .loop .k + 1) (c .line-at .result)) ≤ length (a .text .now))
+line-room : (c : tie.After-line-at Inv-loop μ-loop)
+    → (let here = read-turn c in let a = read-start c .args in 0 + length (linesText (here .loop .k) (a .lines .now)) + length (lineText (here .loop .k + 1) (c .line-at .result)) ≤ length (a .text .now))
 line-room c =
-    let here = c .before .before .before in
-    let start = here .before .before .before in
+    let here = read-turn c in
+    let start = read-start c in
     omega (
       arith,
       length-next (start .args .lines .now) (here .loop .k) (c .line-at .result) (c .line-at .ensures),
@@ -41,7 +49,7 @@ line-at-requires : tie.Need-line-at-requires Inv-loop μ-loop
 line-at-requires c κs = search needs
 
 put-line-requires : tie.Need-put-line-requires Inv-loop μ-loop
-put-line-requires c κs = room (lineText (c .before .before .before .loop .k + 1) (c .line-at .result)) (c .before .before .before .loop .inv .2) (line-room c)
+put-line-requires c κs = let here = read-turn c in room (lineText (here .loop .k + 1) (c .line-at .result)) (here .loop .inv .2) (line-room c)
 
 add-k : tie.Need-add-k Inv-loop μ-loop
 add-k c = search needs
@@ -53,15 +61,18 @@ loop-again : tie.Need-loop-again Inv-loop μ-loop
 loop-again c =
     let called = c .before .before in
     let read = called .before in
-    let here = read .before .before .before in
-    let next = next-lines (here .before .before .before .args .lines .now) (here .loop .k) (read .line-at .result) (read .line-at .ensures) in
+    let here = read-turn read in
+    let next = next-lines (read-start read .args .lines .now) (here .loop .k) (read .line-at .result) (read .line-at .ensures) in
     (omega (arith, read .before .before .loop-test .taken), called .put-line .kept .0 ∙ here .loop .inv .1, rw next (then (line-room read) (here .loop .inv .2) (record { ends = called .put-line .ensures .0; puts = called .put-line .ensures .1 })))
 
 same-length : tie.Need-same-length Inv-loop μ-loop
 same-length c = c .before .loop .inv .1
 
 returns : tie.Need-returns Inv-loop μ-loop
-returns c = let all : c .before .loop .k ≡ c .before .before .before .before .args .count = omega arith in rw all at (c .before .loop .inv .2 .puts)
+returns c =
+    let start : tie.Start Inv-loop μ-loop = search needs in
+    let all : c .before .loop .k ≡ start .args .count = omega arith in
+    rw all at (c .before .loop .inv .2 .puts)
 
 pub put-lines-spec : {M : Type 1} → statement M
 put-lines-spec =

@@ -17,7 +17,11 @@ same-length : tie.Need-same-length
 same-length c = search needs
 
 returns-2 : tie.Need-returns-2
-returns-2 c = in-front _ _ _ _ (omega (arith, c .before .before .before .before .if1 .left, c .before .before .before .before .before .lines-length .ensures)) (c .before .before .before .before .before .lines-length .ensures) (c .before .before .put-lines .ensures)
+returns-2 c =
+    let room : tie.Else1 = search needs in
+    let counted : tie.After-lines-length = search needs in
+    let put : tie.After-put-lines = search needs in
+    in-front _ _ _ _ (omega (arith, room .if1 .left, counted .lines-length .ensures)) (counted .lines-length .ensures) (put .put-lines .ensures)
 
 pub write-lines-spec : {M : Type 1} → statement M
 write-lines-spec =

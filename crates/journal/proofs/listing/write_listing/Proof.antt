@@ -11,11 +11,17 @@ use borrow.Author.Needs.{needs}
 use Rattle.journal.proofs.listing.write_listing.Statement.{statement}
 use Rattle.journal.proofs.listing.write_listing.Tie as tie
 
-is-journal : (c : tie.After-words) → Journal (c .before .before .before .before .before .args .journal .now) (c .words .given .0 .0) (c .words .given .0 .1 .0)
+abbrev words-start : tie.After-words → tie.Start
+words-start c = search needs
+
+abbrev words-before : tie.After-read-words → tie.After-words
+words-before c = search needs
+
+is-journal : (c : tie.After-words) → Journal (words-start c .args .journal .now) (c .words .given .0 .0) (c .words .given .0 .1 .0)
 is-journal c = journal _ _ _ (sym (c .before .before .sections-of .ensures .0) ∙ c .words .given .1)
 
-calendar-read : (c : tie.After-read-words) → take (c .before .before .before .words .given .0 .0) (c .read-words .last .1 .1 .1 .0) ≡ calendarOf (c .before .before .before .before .before .before .before .before .args .journal .now)
-calendar-read c = words-taken _ _ _ (is-journal (c .before .before .before)) _ _ (c .read-words .ensures)
+calendar-read : (c : tie.After-read-words) → take (words-before c .words .given .0 .0) (c .read-words .last .1 .1 .1 .0) ≡ calendarOf (words-start (words-before c) .args .journal .now)
+calendar-read c = words-taken _ _ _ (is-journal (words-before c)) _ _ (c .read-words .ensures)
 
 sections-of-requires : tie.Need-sections-of-requires
 sections-of-requires c κs = search needs
@@ -33,7 +39,10 @@ same-length : tie.Need-same-length
 same-length c = search needs
 
 returns : tie.Need-returns
-returns c = rw (refused-text _ (no-journal _ (sym (c .before .before .before .before .before .before .sections-of .ensures .0) ∙ c .before .before .before .before .enum-told .given .1) .first)) at (c .before .before .write-refused .ensures)
+returns c =
+    let found : tie.After-sections-of = search needs in
+    let refused : tie.After-enum-told = search needs in
+    rw (refused-text _ (no-journal _ (sym (found .sections-of .ensures .0) ∙ refused .enum-told .given .1) .first)) at (c .before .before .write-refused .ensures)
 
 slice-aggregate-read-words : tie.Need-slice-aggregate-read-words
 slice-aggregate-read-words c = search needs
@@ -42,33 +51,50 @@ read-words-requires : tie.Need-read-words-requires
 read-words-requires c κs = let j = is-journal (c .before .before) in (omega (arith, j .full), j .words-high)
 
 mul-start : tie.Need-mul-start
-mul-start c = omega (arith, is-journal (c .before .before .before .before) .words-high)
+mul-start c =
+    let words : tie.After-words = search needs in
+    omega (arith, is-journal words .words-high)
 
 add-start : tie.Need-add-start
-add-start c = omega (arith, is-journal (c .before .before .before .before) .words-high)
+add-start c =
+    let words : tie.After-words = search needs in
+    omega (arith, is-journal words .words-high)
 
 add-start-2 : tie.Need-add-start-2
-add-start-2 c = omega (arith, is-journal (c .before .before .before .before) .words-high)
+add-start-2 c =
+    let words : tie.After-words = search needs in
+    omega (arith, is-journal words .words-high)
 
 array-share-prefix-calendar : tie.Need-array-share-prefix-calendar
-array-share-prefix-calendar c = omega (arith, is-journal (c .before .before .before .before) .words-high, c .before .read-words .kept .1 .1 .1 .0)
+array-share-prefix-calendar c =
+    let words : tie.After-words = search needs in
+    let read : tie.After-read-words = search needs in
+    omega (arith, is-journal words .words-high, read .read-words .kept .1 .1 .1 .0)
 
 slice-aggregate-write-run : tie.Need-slice-aggregate-write-run
-slice-aggregate-write-run c = sym (length-take-le _ _ (omega (arith, is-journal (c .before .before .before .before .before) .words-high, c .before .before .read-words .kept .1 .1 .1 .0)))
+slice-aggregate-write-run c =
+    let words : tie.After-words = search needs in
+    let read : tie.After-read-words = search needs in
+    sym (length-take-le _ _ (omega (arith, is-journal words .words-high, read .read-words .kept .1 .1 .1 .0)))
 
 sub-write-run : tie.Need-sub-write-run
-sub-write-run c = omega (arith, is-journal (c .before .before .before .before .before) .full)
+sub-write-run c =
+    let words : tie.After-words = search needs in
+    omega (arith, is-journal words .full)
 
 part-write-run-start : tie.Need-part-write-run-start
-part-write-run-start c = omega (arith, is-journal (c .before .before .before .before .before) .full)
+part-write-run-start c =
+    let words : tie.After-words = search needs in
+    omega (arith, is-journal words .full)
 
 part-write-run-end : tie.Need-part-write-run-end
 part-write-run-end c = search needs
 
 write-run-requires : tie.Need-write-run-requires
 write-run-requires c κs =
-    let j = is-journal (c .before .before .before .before .before .before .before) in
-    rw (calendar-read (c .before .before .before .before), events-taken _ _ _ j)
+    let read : tie.After-read-words = search needs in
+    let j = is-journal (words-before read) in
+    rw (calendar-read read, events-taken _ _ _ j)
     (length-calendar _ _ _ j, omega (arith, length-events _ _ _ j), omega (arith, length-events _ _ _ j, j .events-high))
 
 same-length-2 : tie.Need-same-length-2
@@ -76,8 +102,9 @@ same-length-2 c = search needs
 
 returns-2 : tie.Need-returns-2
 returns-2 c =
-    let j = is-journal (c .before .before .before .before .before .before .before .before .before .before) in
-    rw (calendar-read (c .before .before .before .before .before .before .before), events-taken _ _ _ j, journal-text _ _ _ j) at (c .before .before .write-run .ensures)
+    let read : tie.After-read-words = search needs in
+    let j = is-journal (words-before read) in
+    rw (calendar-read read, events-taken _ _ _ j, journal-text _ _ _ j) at (c .before .before .write-run .ensures)
 
 pub write-listing-spec : {M : Type 1} → statement M
 write-listing-spec =

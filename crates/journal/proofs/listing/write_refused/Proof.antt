@@ -20,7 +20,10 @@ same-length c = search needs
 
 returns-2 : tie.Need-returns-2
 unfolding refusedLine
-returns-2 c = in-front refusedLine _ _ _ (c .before .before .before .before .before .if1 .left) (c .before .before .put .ensures .0) (c .before .before .put .ensures .1)
+returns-2 c =
+    let room : tie.Else1 = search needs in
+    let put : tie.After-put = search needs in
+    in-front refusedLine _ _ _ (room .if1 .left) (put .put .ensures .0) (put .put .ensures .1)
 
 pub write-refused-spec : {M : Type 1} → statement M
 write-refused-spec =

@@ -29,7 +29,7 @@ add-result c = search needs
 
 returns : tie.Need-returns
 returns c =
-    let start = c .before .before .before .before .before in
+    let start : tie.Start = search needs in
     (omega (arith, two-bytes (start .args .bytes .now) (start .args .at) (start .args .at + 1) refl (start .pre)), search needs)
 
 pub number2-spec : {M : Type 1} → statement M

@@ -21,7 +21,7 @@ add-result c = search needs
 
 returns : tie.Need-returns
 returns c =
-    let start = c .before .before .before in
+    let start : tie.Start = search needs in
     omega (arith, two-and-two (start .args .bytes .now) (start .args .at) (start .pre))
 
 pub number4-spec : {M : Type 1} → statement M

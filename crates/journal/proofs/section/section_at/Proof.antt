@@ -25,7 +25,7 @@ cast-taken c = search needs
 
 mul-taken : tie.Need-mul-taken
 mul-taken c =
-    let start = c .before .before .before .before .before in
+    let start : tie.Start = search needs in
     let most = mul-le-mul {n₁ = c .before .number4 .result} {m₁ = start .args .width} {n₂ = 4294967295} {m₂ = 4294967295} (omega (arith, c .if3 .left, start .fits .limit .fits)) (omega (arith, start .fits .width .fits)) in
     record { fits = omega (arith, most) }
 

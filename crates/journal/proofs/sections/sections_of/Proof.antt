@@ -6,10 +6,16 @@ use Rattle.journal.proofs.SectionLaws.{Read, read, calendar-cut, events
 use Rattle.journal.proofs.sections.sections_of.Statement.{statement}
 use Rattle.journal.proofs.sections.sections_of.Tie as tie
 
-abbrev calendar-read : (c : tie.After-words) → Read 1200 4 0 (c .before .before .before .before .args .journal .now) (c .words .given .0 .0)
+abbrev words-start : tie.After-words → tie.Start
+words-start c = search needs
+
+abbrev words-before : tie.After-events → tie.After-words
+words-before c = search needs
+
+abbrev calendar-read : (c : tie.After-words) → Read 1200 4 0 (words-start c .args .journal .now) (c .words .given .0 .0)
 calendar-read c = read _ _ _ _ _ (sym (c .before .before .section-from .ensures .0) ∙ c .words .given .1)
 
-abbrev events-read : (c : tie.After-events) → Read 1500 40 (4 + c .before .before .before .before .words .given .0 .0 * 4) (c .before .before .before .before .before .before .before .before .args .journal .now) (c .events .given .0 .0)
+abbrev events-read : (c : tie.After-events) → Read 1500 40 (4 + words-before c .words .given .0 .0 * 4) (words-start (words-before c) .args .journal .now) (c .events .given .0 .0)
 events-read c = read _ _ _ _ _ (sym (c .before .before .section-from2 .ensures .0) ∙ c .events .given .1)
 
 section-from-requires : tie.Need-section-from-requires
@@ -40,22 +46,39 @@ enum-told-2 : tie.Need-enum-told-2
 enum-told-2 c = search needs
 
 returns-2 : tie.Need-returns-2
-returns-2 c = both-told _ (events-cut _ _ (calendar-read (c .before .before .before .before)) (sym (c .before .before .section-from2 .ensures .0) ∙ c .enum-told2 .given .1))
+returns-2 c =
+    let words : tie.After-words = search needs in
+    both-told _ (events-cut _ _ (calendar-read words) (sym (c .before .before .section-from2 .ensures .0) ∙ c .enum-told2 .given .1))
 
 add-if1 : tie.Need-add-if1
-add-if1 c = omega (arith, calendar-read (c .before .before .before .before .before) .high, events-read (c .before) .high)
+add-if1 c =
+    let words : tie.After-words = search needs in
+    let events : tie.After-events = search needs in
+    omega (arith, calendar-read words .high, events-read events .high)
 
 mul-if1 : tie.Need-mul-if1
-mul-if1 c = omega (arith, calendar-read (c .before .before .before .before .before) .high, events-read (c .before) .high)
+mul-if1 c =
+    let words : tie.After-words = search needs in
+    let events : tie.After-events = search needs in
+    omega (arith, calendar-read words .high, events-read events .high)
 
 add-if1-2 : tie.Need-add-if1-2
-add-if1-2 c = omega (arith, calendar-read (c .before .before .before .before .before) .high, events-read (c .before) .high)
+add-if1-2 c =
+    let words : tie.After-words = search needs in
+    let events : tie.After-events = search needs in
+    omega (arith, calendar-read words .high, events-read events .high)
 
 returns-3 : tie.Need-returns-3
-returns-3 c = both-told _ (left-over _ _ (calendar-read (c .before .before .before .before .before .before)) _ (events-read (c .before .before)) (c .if1 .taken))
+returns-3 c =
+    let words : tie.After-words = search needs in
+    let events : tie.After-events = search needs in
+    both-told _ (left-over _ _ (calendar-read words) _ (events-read events) (c .if1 .taken))
 
 returns-4 : tie.Need-returns-4
-returns-4 c = both-told _ (ended _ _ (calendar-read (c .before .before .before .before .before .before)) _ (events-read (c .before .before)) (c .if1 .left))
+returns-4 c =
+    let words : tie.After-words = search needs in
+    let events : tie.After-events = search needs in
+    both-told _ (ended _ _ (calendar-read words) _ (events-read events) (c .if1 .left))
 
 pub sections-of-spec : {M : Type 1} → statement M
 sections-of-spec =

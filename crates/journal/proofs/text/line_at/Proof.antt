@@ -43,7 +43,8 @@ shared-slice-read-t22 c = search needs
 
 returns : tie.Need-returns
 returns c =
-    let from = c .before .before .before .before .before .before .before .before .args .from in
+    let start : tie.Start = search needs in
+    let from = start .args .from in
     row-read _ (from + 7 - from) (omega arith)
 
 pub line-at-spec : {M : Type 1} → statement M

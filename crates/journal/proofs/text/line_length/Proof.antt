@@ -48,7 +48,8 @@ add-result-4 c = search needs
 
 returns : tie.Need-returns
 returns c =
-    let a = c .before .before .before .before .before .before .before .args in
+    let start : tie.Start = search needs in
+    let a = start .args in
     let line = a .line in
     let whole = length-line (a .place) line in
     let answer = length-spaced (line .answer) in

@@ -6,8 +6,11 @@ use borrow.Author.Needs.{needs}
 use Rattle.journal.proofs.text.put_number.Statement.{statement}
 use Rattle.journal.proofs.text.put_number.Tie as tie
 
-spells : (c : tie.After-decimal) → take (c .decimal .result) (c .decimal .last .1 .0) ≡ decimal (c .before .before .before .args .number)
-spells c = c .decimal .ensures .1 .1 ∙ spelled _ _ (c .decimal .ensures .1 .0) (c .before .before .before .fits .number .fits)
+abbrev told-start : tie.After-decimal → tie.Start
+told-start c = search needs
+
+spells : (c : tie.After-decimal) → take (c .decimal .result) (c .decimal .last .1 .0) ≡ decimal (told-start c .args .number)
+spells c = c .decimal .ensures .1 .1 ∙ spelled _ _ (c .decimal .ensures .1 .0) (told-start c .fits .number .fits)
 
 decimal-requires : tie.Need-decimal-requires
 decimal-requires c κs = search needs
@@ -19,13 +22,17 @@ slice-aggregate-put : tie.Need-slice-aggregate-put
 slice-aggregate-put c = search needs
 
 put-requires : tie.Need-put-requires
-put-requires c κs = rw (spells (c .before .before)) (c .before .before .before .before .before .pre)
+put-requires c κs =
+    let start : tie.Start = search needs in
+    rw (spells (c .before .before)) (start .pre)
 
 same-length : tie.Need-same-length
 same-length c = search needs
 
 returns : tie.Need-returns
-returns c = rw (spells (c .before .before .before .before .before)) at (c .before .before .put .ensures)
+returns c =
+    let told : tie.After-decimal = search needs in
+    rw (spells told) at (c .before .before .put .ensures)
 
 pub put-number-spec : {M : Type 1} → statement M
 put-number-spec =

@@ -18,13 +18,18 @@ minus-room c =
     omega arith
 
 put-spaced-requires : tie.Need-put-spaced-requires
-put-spaced-requires c κs = rw (signed-plain _ _ (c .before .if1 .taken)) at (c .before .before .before .pre)
+put-spaced-requires c κs =
+    let start : tie.Start = search needs in
+    rw (signed-plain _ _ (c .before .if1 .taken)) at (start .pre)
 
 same-length : tie.Need-same-length
 same-length c = search needs
 
 returns : tie.Need-returns
-returns c = rw (signed-plain _ _ (c .before .before .before .before .if1 .taken)) (c .before .before .put-spaced .ensures)
+returns c =
+    let plain : tie.Then1 = search needs in
+    let put : tie.After-put-spaced = search needs in
+    rw (signed-plain _ _ (plain .if1 .taken)) (put .put-spaced .ensures)
 
 slice-write-text : tie.Need-slice-write-text
 slice-write-text c = omega (arith, minus-room c)
@@ -36,7 +41,9 @@ slice-write-text-2 : tie.Need-slice-write-text-2
 slice-write-text-2 c = simp length-set (omega (arith, minus-room c))
 
 add-put-number : tie.Need-add-put-number
-add-put-number c = omega (arith, minus-room (c .before), c .before .before .before .good)
+add-put-number c =
+    let start : tie.Start = search needs in
+    omega (arith, minus-room (c .before), start .good)
 
 put-number-requires : tie.Need-put-number-requires
 put-number-requires c κs = simp length-set (omega (arith, minus-room (c .before)))
@@ -45,7 +52,12 @@ same-length-2 : tie.Need-same-length-2
 same-length-2 c = c .before .before .put-number .kept .0 ∙ simp length-set
 
 returns-2 : tie.Need-returns-2
-returns-2 c = let a = c .before .before .before .before .before .before .args in signed-put (a .text .now) _ (a .at) (a .negative) (a .size) _ (c .before .before .before .before .if1 .left) (c .before .before .before .before .before .before .pre) (c .before .before .put-number .ensures .0) (c .before .before .put-number .ensures .1)
+returns-2 c =
+    let start : tie.Start = search needs in
+    let minus : tie.Else1 = search needs in
+    let put : tie.After-put-number = search needs in
+    let a = start .args in
+    signed-put (a .text .now) _ (a .at) (a .negative) (a .size) _ (minus .if1 .left) (start .pre) (put .put-number .ensures .0) (put .put-number .ensures .1)
 
 pub put-signed-spec : {M : Type 1} → statement M
 put-signed-spec =

@@ -19,7 +19,11 @@ same-length : tie.Need-same-length
 same-length c = c .before .before .put-number .kept .0 ∙ simp length-set
 
 returns : tie.Need-returns
-returns c = let a = c .before .before .before .before .before .args in spaced-put (a .text .now) _ (a .at) (a .number) _ (c .before .before .before .before .before .pre) (c .before .before .put-number .ensures .0) (c .before .before .put-number .ensures .1)
+returns c =
+    let start : tie.Start = search needs in
+    let put : tie.After-put-number = search needs in
+    let a = start .args in
+    spaced-put (a .text .now) _ (a .at) (a .number) _ (start .pre) (put .put-number .ensures .0) (put .put-number .ensures .1)
 
 pub put-spaced-spec : {M : Type 1} → statement M
 put-spaced-spec =
