@@ -54,7 +54,13 @@ sameNumbers numbers at lines = allBelow (length lines) (λ k. eqb (getD numbers 
 
 -- the listing of a journal in three parts ends with these lines; who opens this opens every rule, so that it computes
 unfoldable pub endsWith : Calendar → (start earlier events lines : List ℕ) → Bool
-unfolding freshBook step causes eventCauses act firstOf fit every capacityFit securitiesFit allBelow cashFit allTrades sizeFit netsFit differ withdrawalsFit followed following paymentDay trades firstTrading atOrAfter nextAfter earliest sizeCauses sized fundInCauses fundedIn fundOutCauses fundedOut rateCauses rated openCauses openedBook openedTable statusAtOpen turnsTerminated pledgeCauses pledged payCauses afterPay closeCauses closedBook closedTable closeAnswer maturedTrades maturedSheets maturedAmount evening applications inTurn allArrived isShortClose total outstanding remaining value sumBelow kindValue headroom initialCauses initialBook initialTable onTable principal redemption income freezeCauses frozen withdrawCauses withdrawn applied earlyCauses earlyBook earlyTable tradeOf takeOff takenOut covered mayGo run decoded entryOf unless littleEndian entriesOf lineOf linesOf listingOf digitsFrom bytesOf sameNumbers
+unfolding freshBook step causes eventCauses act firstOf fit every capacityFit securitiesFit allBelow cashFit allTrades sizeFit netsFit differ
+    withdrawalsFit followed following paymentDay trades firstTrading atOrAfter nextAfter earliest sizeCauses sized fundInCauses fundedIn fundOutCauses
+    fundedOut rateCauses rated openCauses openedBook openedTable statusAtOpen turnsTerminated pledgeCauses pledged payCauses afterPay closeCauses
+    closedBook closedTable closeAnswer maturedTrades maturedSheets maturedAmount evening applications inTurn allArrived isShortClose total outstanding
+    remaining value sumBelow kindValue headroom initialCauses initialBook initialTable onTable principal redemption income freezeCauses frozen
+    withdrawCauses withdrawn applied earlyCauses earlyBook earlyTable tradeOf takeOff takenOut covered mayGo run decoded entryOf unless littleEndian
+    entriesOf lineOf linesOf listingOf digitsFrom bytesOf sameNumbers
 endsWith calendar start earlier events lines =
     sameNumbers
     (listingOf calendar (bytesOf ((start ++ earlier) ++ events)))

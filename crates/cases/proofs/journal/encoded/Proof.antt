@@ -37,12 +37,14 @@ write-numbers-requires-3 c κs = search needs
 
 returns : tie.Need-returns
 returns c =
-    let s = c .before .before .before .before .before .before .before .before .before .before .before .before .args in
+    let from : tie.Start = search needs in
+    let written : tie.After-write-numbers = search needs in
+    let written-2 : tie.After-write-numbers2 = search needs in
+    let s = from .args in
     let two : length (s .start .now ++ s .earlier .now) ≡ length (s .start .now) + length (s .earlier .now) = length-append (s .start .now) (s .earlier .now) in
     let three : length ((s .start .now ++ s .earlier .now) ++ s .events .now) ≡ length (s .start .now) + length (s .earlier .now) + length (s .events .now) =
     length-append (s .start .now ++ s .earlier .now) (s .events .now) ∙ ap (λ n. n + length (s .events .now)) two in
-    let first = c .before .before .before .before .before .before .before .write-numbers .ensures in
-    let second = joined _ (s .start .now) (s .earlier .now) _ refl first (c .before .before .before .before .write-numbers2 .ensures) in
+    let second = joined _ (s .start .now) (s .earlier .now) _ refl (written .write-numbers .ensures) (written-2 .write-numbers2 .ensures) in
     let third = joined _ (s .start .now ++ s .earlier .now) (s .events .now) _ (ap (λ n. n * 8) two) second (c .before .write-numbers3 .ensures) in
     in-front _ _ _ three (omega arith) third
 

@@ -38,7 +38,7 @@ run-listing-requires : tie.Need-run-listing-requires
 run-listing-requires c κs = search needs
 
 abbrev start : tie.After-run-listing → tie.Start
-start c = c .before .before .before .before .before .before .before .before .before
+start c = search needs
 
 abbrev count : tie.After-run-listing → ℕ
 count c = length (start c .args .start .now) + length (start c .args .earlier .now) + length (start c .args .events .now)
@@ -72,7 +72,7 @@ same-numbers-requires c κs = omega (arith, slice-aggregate-same-numbers c)
 
 expect-requires-2 : tie.Need-expect-requires-2
 expect-requires-2 c κs =
-    let ran = c .before .before .before .before in
+    let ran : tie.After-run-listing = search needs in
     let s = start ran .args in
     rw (c .same-numbers .ensures, lines-in-front _ _ _ _ (count ran) _ (length-bytes ran) (start ran .pre .2) (clear ran) (ran .run-listing .ensures .1), ran .before .before .before .encoded .ensures)
     (ending (s .calendar .now) (s .start .now) (s .earlier .now) (s .events .now) (s .lines .now) ∙ start ran .pre .4)

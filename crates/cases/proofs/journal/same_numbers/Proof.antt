@@ -47,7 +47,9 @@ loop-less : tie.Need-loop-less Inv-loop μ-loop
 loop-less c = search needs
 
 loop-again : tie.Need-loop-again Inv-loop μ-loop
-loop-again c = (search needs, one-agrees _ _ (c .before .before .before .before .loop .inv .1) (eq-eqb _ _ (c .if1 .left)))
+loop-again c =
+    let turn : tie.At-loop Inv-loop μ-loop = search needs in
+    (search needs, one-agrees _ _ (turn .loop .inv .1) (eq-eqb _ _ (c .if1 .left)))
 
 returns-2 : tie.Need-returns-2 Inv-loop μ-loop
 unfolding sameNumbers
