@@ -18,7 +18,9 @@ abbrev words-before : tie.After-read-words → tie.After-words
 words-before c = search needs
 
 is-journal : (c : tie.After-words) → Journal (words-start c .args .journal .now) (c .words .given .0 .0) (c .words .given .0 .1 .0)
-is-journal c = journal _ _ _ (sym (c .before .before .sections-of .ensures .0) ∙ c .words .given .1)
+is-journal c =
+    let found : tie.After-sections-of = search needs in
+    journal _ _ _ (sym (found .sections-of .ensures .0) ∙ c .words .given .1)
 
 calendar-read : (c : tie.After-read-words) → take (words-before c .words .given .0 .0) (c .read-words .last .1 .1 .1 .0) ≡ calendarOf (words-start (words-before c) .args .journal .now)
 calendar-read c = words-taken _ _ _ (is-journal (words-before c)) _ _ (c .read-words .ensures)
@@ -42,13 +44,17 @@ returns : tie.Need-returns
 returns c =
     let found : tie.After-sections-of = search needs in
     let refused : tie.After-enum-told = search needs in
-    rw (refused-text _ (no-journal _ (sym (found .sections-of .ensures .0) ∙ refused .enum-told .given .1) .first)) at (c .before .before .write-refused .ensures)
+    let written : tie.After-write-refused = search needs in
+    rw (refused-text _ (no-journal _ (sym (found .sections-of .ensures .0) ∙ refused .enum-told .given .1) .first)) at (written .write-refused .ensures)
 
 slice-aggregate-read-words : tie.Need-slice-aggregate-read-words
 slice-aggregate-read-words c = search needs
 
 read-words-requires : tie.Need-read-words-requires
-read-words-requires c κs = let j = is-journal (c .before .before) in (omega (arith, j .full), j .words-high)
+read-words-requires c κs =
+    let words : tie.After-words = search needs in
+    let j = is-journal words in
+    (omega (arith, j .full), j .words-high)
 
 mul-start : tie.Need-mul-start
 mul-start c =
@@ -103,8 +109,9 @@ same-length-2 c = search needs
 returns-2 : tie.Need-returns-2
 returns-2 c =
     let read : tie.After-read-words = search needs in
+    let ran : tie.After-write-run = search needs in
     let j = is-journal (words-before read) in
-    rw (calendar-read read, events-taken _ _ _ j, journal-text _ _ _ j) at (c .before .before .write-run .ensures)
+    rw (calendar-read read, events-taken _ _ _ j, journal-text _ _ _ j) at (ran .write-run .ensures)
 
 pub write-listing-spec : {M : Type 1} → statement M
 write-listing-spec =

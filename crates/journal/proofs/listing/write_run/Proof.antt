@@ -44,7 +44,8 @@ same-length c = search needs
 returns : tie.Need-returns
 returns c =
     let ran : tie.After-run-listing = search needs in
-    rw (told ran) at (c .before .before .write-lines .ensures)
+    let written : tie.After-write-lines = search needs in
+    rw (told ran) at (written .write-lines .ensures)
 
 pub write-run-spec : {M : Type 1} → statement M
 write-run-spec =

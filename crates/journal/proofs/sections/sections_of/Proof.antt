@@ -13,10 +13,14 @@ abbrev words-before : tie.After-events → tie.After-words
 words-before c = search needs
 
 abbrev calendar-read : (c : tie.After-words) → Read 1200 4 0 (words-start c .args .journal .now) (c .words .given .0 .0)
-calendar-read c = read _ _ _ _ _ (sym (c .before .before .section-from .ensures .0) ∙ c .words .given .1)
+calendar-read c =
+    let found : tie.After-section-from = search needs in
+    read _ _ _ _ _ (sym (found .section-from .ensures .0) ∙ c .words .given .1)
 
 abbrev events-read : (c : tie.After-events) → Read 1500 40 (4 + words-before c .words .given .0 .0 * 4) (words-start (words-before c) .args .journal .now) (c .events .given .0 .0)
-events-read c = read _ _ _ _ _ (sym (c .before .before .section-from2 .ensures .0) ∙ c .events .given .1)
+events-read c =
+    let found : tie.After-section-from2 = search needs in
+    read _ _ _ _ _ (sym (found .section-from2 .ensures .0) ∙ c .events .given .1)
 
 section-from-requires : tie.Need-section-from-requires
 section-from-requires c κs = search needs
@@ -28,13 +32,19 @@ enum-told : tie.Need-enum-told
 enum-told c = search needs
 
 returns : tie.Need-returns
-returns c = both-told _ (calendar-cut _ (sym (c .before .before .section-from .ensures .0) ∙ c .enum-told .given .1))
+returns c =
+    let found : tie.After-section-from = search needs in
+    both-told _ (calendar-cut _ (sym (found .section-from .ensures .0) ∙ c .enum-told .given .1))
 
 mul-at : tie.Need-mul-at
-mul-at c = omega (arith, calendar-read (c .before) .high)
+mul-at c =
+    let words : tie.After-words = search needs in
+    omega (arith, calendar-read words .high)
 
 add-at : tie.Need-add-at
-add-at c = omega (arith, calendar-read (c .before) .high)
+add-at c =
+    let words : tie.After-words = search needs in
+    omega (arith, calendar-read words .high)
 
 section-from-requires-2 : tie.Need-section-from-requires-2
 section-from-requires-2 c κs = search needs
@@ -48,7 +58,8 @@ enum-told-2 c = search needs
 returns-2 : tie.Need-returns-2
 returns-2 c =
     let words : tie.After-words = search needs in
-    both-told _ (events-cut _ _ (calendar-read words) (sym (c .before .before .section-from2 .ensures .0) ∙ c .enum-told2 .given .1))
+    let found : tie.After-section-from2 = search needs in
+    both-told _ (events-cut _ _ (calendar-read words) (sym (found .section-from2 .ensures .0) ∙ c .enum-told2 .given .1))
 
 add-if1 : tie.Need-add-if1
 add-if1 c =

@@ -24,7 +24,8 @@ slice-aggregate-put c = search needs
 put-requires : tie.Need-put-requires
 put-requires c κs =
     let start : tie.Start = search needs in
-    rw (spells (c .before .before)) (start .pre)
+    let told : tie.After-decimal = search needs in
+    rw (spells told) (start .pre)
 
 same-length : tie.Need-same-length
 same-length c = search needs
@@ -32,7 +33,8 @@ same-length c = search needs
 returns : tie.Need-returns
 returns c =
     let told : tie.After-decimal = search needs in
-    rw (spells told) at (c .before .before .put .ensures)
+    let put : tie.After-put = search needs in
+    rw (spells told) at (put .put .ensures)
 
 pub put-number-spec : {M : Type 1} → statement M
 put-number-spec =
