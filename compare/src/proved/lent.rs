@@ -8,46 +8,46 @@ use model::journal::Line;
 use model::limits::APPLICATIONS;
 use model::money::CASH_KIND;
 
-use super::book::{guarantee, marks, Answer, Cash, Cover, Guarantee, Marks, Nets, Trade};
+use super::book::{codes, guarantee, Answer, Cash, Codes, Cover, Guarantee, Nets, Trade};
 use super::{lines_of, Fen, Sheets};
 
-/// What is small of a book.
+/// A book's scalars: what is no row of numbers.
 #[repr(C)]
 #[derive(Clone, Copy, Debug, PartialEq, Eq)]
-struct Slate {
+struct RawScalars {
     nets: Nets,
     cash: Cash,
     guarantee: Guarantee,
     size: Sheets,
-    marks: Marks,
+    codes: Codes,
     applications: usize,
     trades: usize,
 }
 
 #[repr(C)]
-struct Left {
+struct RawDone {
     answer: Answer,
-    slate: Slate,
+    raw: RawScalars,
 }
 
 #[repr(C)]
-struct RunLeft {
+struct RawEnded {
     number: u8,
-    slate: Slate,
+    raw: RawScalars,
 }
 
 /// A book, made from the model's and held against it again after a call.
 #[derive(Clone, Copy, Debug, PartialEq, Eq)]
 pub struct Rows {
-    slate: Slate,
+    raw: RawScalars,
     held: [u64; CASH_KIND * 4],
     kinds: [u8; APPLICATIONS],
     units: [u64; APPLICATIONS],
 }
 
 impl Rows {
-    pub fn marks(&mut self) -> &mut Marks {
-        &mut self.slate.marks
+    pub fn codes(&mut self) -> &mut Codes {
+        &mut self.raw.codes
     }
 }
 
@@ -55,7 +55,7 @@ extern "C" {
     fn lent_apply(
         calendar: *const u32,
         words: usize,
-        slate: Slate,
+        raw: RawScalars,
         held: *mut u64,
         held_length: usize,
         kinds: *mut u8,
@@ -66,11 +66,11 @@ extern "C" {
         numbers: usize,
         event: *const u8,
         bytes: usize,
-    ) -> Left;
+    ) -> RawDone;
     fn lent_cover(
         calendar: *const u32,
         words: usize,
-        slate: Slate,
+        raw: RawScalars,
         held: *const u64,
         held_length: usize,
         kinds: *const u8,
@@ -83,7 +83,7 @@ extern "C" {
     fn lent_run(
         calendar: *const u32,
         words: usize,
-        slate: Slate,
+        raw: RawScalars,
         held: *mut u64,
         held_length: usize,
         kinds: *mut u8,
@@ -96,7 +96,7 @@ extern "C" {
         bytes: usize,
         lines: *mut u64,
         room: usize,
-    ) -> RunLeft;
+    ) -> RawEnded;
 }
 
 /// How many numbers of each row and of the table are lent.
@@ -145,12 +145,12 @@ pub fn apply_cut(
     event: &[u8; EVENT_BYTES],
 ) -> answer::Answer {
     lengths.assert_there(table);
-    let Rows { slate, held, kinds, units } = rows;
-    let left = unsafe {
+    let Rows { raw, held, kinds, units } = rows;
+    let done = unsafe {
         lent_apply(
             calendar.as_ptr(),
             calendar.len(),
-            *slate,
+            *raw,
             held.as_mut_ptr(),
             lengths.held,
             kinds.as_mut_ptr(),
@@ -163,8 +163,8 @@ pub fn apply_cut(
             event.len(),
         )
     };
-    *slate = left.slate;
-    left.answer.into()
+    *raw = done.raw;
+    done.answer.into()
 }
 
 /// Headroom and O of a book over its table, beside the number.
@@ -175,12 +175,12 @@ pub fn cover(calendar: &[u32], rows: &Rows, table: &[Trade]) -> (u32, i64, u64) 
 /// The same of rows and a table of which only so much is lent.
 pub fn cover_cut(calendar: &[u32], rows: &Rows, table: &[Trade], lengths: Lengths) -> (u32, i64, u64) {
     lengths.assert_there(table);
-    let Rows { slate, held, kinds, units } = rows;
+    let Rows { raw, held, kinds, units } = rows;
     let cover = unsafe {
         lent_cover(
             calendar.as_ptr(),
             calendar.len(),
-            *slate,
+            *raw,
             held.as_ptr(),
             lengths.held,
             kinds.as_ptr(),
@@ -215,12 +215,12 @@ pub fn run_into_cut(
     lines: &mut [u64],
 ) -> u8 {
     lengths.assert_there(table);
-    let Rows { slate, held, kinds, units } = rows;
-    let left = unsafe {
+    let Rows { raw, held, kinds, units } = rows;
+    let ended = unsafe {
         lent_run(
             calendar.as_ptr(),
             calendar.len(),
-            *slate,
+            *raw,
             held.as_mut_ptr(),
             lengths.held,
             kinds.as_mut_ptr(),
@@ -235,8 +235,8 @@ pub fn run_into_cut(
             lines.len(),
         )
     };
-    *slate = left.slate;
-    left.number
+    *raw = ended.raw;
+    ended.number
 }
 
 /// A run of encoded events on a book and its table, event by event, or its refusal.
@@ -252,12 +252,12 @@ impl From<&Book> for Rows {
             row.copy_from_slice(&[effective, arriving, frozen, book.rates[kind]]);
         }
         Rows {
-            slate: Slate {
+            raw: RawScalars {
                 nets: Nets { today: book.todays_net, cleared: book.cleared_net },
                 cash: Cash { own: Fen(book.own), client: Fen(book.client) },
                 guarantee: guarantee(book),
                 size: Sheets(book.size),
-                marks: marks(book),
+                codes: codes(book),
                 applications: book.applications,
                 trades: book.trades,
             },

@@ -1,7 +1,7 @@
 //! Lent lengths that no call takes: everything is left as it was, the buffer too.
 
-use crate::sides::{both_run, fill_spare_slots, Sides};
-use compare::proved::lent::{self, Lengths, Rows};
+use crate::sides::{both_run, fill_spare_slots, Lent};
+use compare::proved::lent::{self, Lengths};
 use compare::proved::{book, LINE_NUMBERS};
 use compare::{BAD_LENGTHS, UNWRITTEN};
 use model::answer::Answer;
@@ -15,18 +15,11 @@ fn ledger() -> Ledger {
     ledger
 }
 
-/// The rows and the table of a ledger.
-fn lent_of(ledger: &Ledger) -> (Rows, Vec<book::Trade>) {
-    let Sides { rows, lent_table, .. } = Sides::of(ledger);
-    (rows, lent_table)
-}
-
 /// What a run of these bytes leaves, its number and a buffer of so many numbers.
-fn run(ledger: &Ledger, events: &[u8], room: usize) -> ((Rows, Vec<book::Trade>), u8, Vec<u64>) {
-    let (mut rows, mut table) = lent_of(ledger);
-    let mut lines = vec![UNWRITTEN; room];
-    let number = lent::run_into(&ledger.calendar, &mut rows, &mut table, events, &mut lines);
-    ((rows, table), number, lines)
+fn run(ledger: &Ledger, events: &[u8], room: usize) -> (Lent, u8, Vec<u64>) {
+    let (mut left, mut lines) = (Lent::of(ledger), vec![UNWRITTEN; room]);
+    let number = lent::run_into(&ledger.calendar, &mut left.rows, &mut left.table, events, &mut lines);
+    (left, number, lines)
 }
 
 /// An event that the book accepts.
@@ -39,7 +32,7 @@ fn funds(bytes: usize) -> Vec<u8> {
 
 fn assert_refused(ledger: &Ledger, (bytes, room): (usize, usize), number: u8) {
     let left = run(ledger, &funds(bytes), room);
-    assert!(left == (lent_of(ledger), number, vec![UNWRITTEN; room]), "{bytes} bytes, room {room}");
+    assert!(left == (Lent::of(ledger), number, vec![UNWRITTEN; room]), "{bytes} bytes, room {room}");
 }
 
 #[test]
@@ -71,7 +64,7 @@ fn what_lies_past_the_lines_is_as_it_was() {
         assert!(left == (exact.clone(), 0, wanted), "{spare} numbers to spare");
     }
     assert!(both_run(&mut ledger, &events).is_ok());
-    assert!(exact == lent_of(&ledger));
+    assert!(exact == Lent::of(&ledger));
 }
 
 /// Rows of securities or of applications, or a table, that end too soon.
@@ -93,9 +86,9 @@ fn cuts(table: &[book::Trade]) -> [Lengths; 8] {
 #[test]
 fn rows_that_are_not_whole_are_answered_1_and_left() {
     let ledger = ledger();
-    let (calendar, sides) = (&ledger.calendar, Sides::of(&ledger));
-    let Sides { mut rows, lent_table: mut table, .. } = sides.clone();
-    for cut in cuts(&sides.table) {
+    let (calendar, before) = (&ledger.calendar, Lent::of(&ledger));
+    let Lent { mut rows, mut table } = before.clone();
+    for cut in cuts(&before.table) {
         let answer = lent::apply_cut(calendar, &mut rows, &mut table, cut, &FUND_IN.encode());
         assert_eq!(answer, Answer { number: 1, ..Answer::default() });
         assert_eq!(lent::cover_cut(calendar, &rows, &table, cut), (1, 0, 0));
@@ -104,7 +97,7 @@ fn rows_that_are_not_whole_are_answered_1_and_left() {
             assert_eq!(lent::run_into_cut(calendar, &mut rows, &mut table, cut, &events, &mut lines), 1);
             assert!(lines.iter().all(|&number| number == UNWRITTEN), "{bytes} bytes, room {room}");
         }
-        assert!((rows, &table) == (sides.rows, &sides.lent_table));
+        assert!((rows, &table) == (before.rows, &before.table));
     }
     assert_eq!(lent::apply(calendar, &mut rows, &mut table, &FUND_IN.encode()), Answer::DONE);
 }

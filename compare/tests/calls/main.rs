@@ -1,13 +1,13 @@
-//! Calls on a book and its lent table against the model, the book as a page and
-//! as lent rows. Single ones: the answer with its figures, the whole book and the
-//! whole table after every event, and then headroom and O. Runs: every line, and
-//! the book and the table at the end. Slots past the trades in use hold strays.
+//! Calls on a book in lent rows and its lent table against the model. Single ones:
+//! the answer with its figures, the whole book and the whole table after every
+//! event, and then headroom and O. Runs: every line, and the book and the table at
+//! the end. Slots past the trades in use hold strays.
 
 mod lengths;
 mod limits;
+mod malformed;
 mod sides;
 mod unfit;
-mod untold;
 
 use model::cases::ledger::Ledger;
 use model::generator::corpus;

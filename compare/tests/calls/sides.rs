@@ -1,7 +1,7 @@
-//! A ledger of the model and the proved sides of it, which have to answer and to
+//! A ledger of the model and the proved side of it, which have to answer and to
 //! leave the same.
 
-use compare::proved::book::{self, Page};
+use compare::proved::book;
 use compare::proved::lent::{self, Rows};
 use model::answer::Answer;
 use model::book::Trade;
@@ -10,60 +10,40 @@ use model::event::EVENT_BYTES;
 use model::journal::Line;
 use model::step;
 
-/// A book as a page and as lent rows, each with a table of its own.
+/// A book as lent rows, with its table.
 #[derive(Clone, Debug, PartialEq, Eq)]
-pub struct Sides {
-    pub page: Page,
-    pub table: Vec<book::Trade>,
+pub struct Lent {
     pub rows: Rows,
-    pub lent_table: Vec<book::Trade>,
+    pub table: Vec<book::Trade>,
 }
 
-impl Sides {
-    pub fn of(ledger: &Ledger) -> Sides {
-        let table = book::table(&ledger.table);
-        Sides { page: (&ledger.book).into(), rows: (&ledger.book).into(), lent_table: table.clone(), table }
+impl Lent {
+    pub fn of(ledger: &Ledger) -> Lent {
+        Lent { rows: (&ledger.book).into(), table: book::table(&ledger.table) }
     }
 
-    fn apply(&mut self, calendar: &[u32], event: &[u8; EVENT_BYTES]) -> [Answer; 2] {
-        let Sides { page, table, rows, lent_table } = self;
-        [book::apply(calendar, page, table, event), lent::apply(calendar, rows, lent_table, event)]
+    fn apply(&mut self, calendar: &[u32], event: &[u8; EVENT_BYTES]) -> Answer {
+        lent::apply(calendar, &mut self.rows, &mut self.table, event)
     }
 
-    /// The rows by a run, and the page event by event.
-    fn run(&mut self, calendar: &[u32], events: &[[u8; EVENT_BYTES]]) -> Result<Vec<Line>, u8> {
-        let Sides { page, table, rows, lent_table } = self;
-        for event in events {
-            book::apply(calendar, page, table, event);
-        }
-        lent::run(calendar, rows, lent_table, events.as_flattened())
-    }
-
-    fn cover(&self, calendar: &[u32]) -> [(u32, i64, u64); 2] {
-        let Sides { page, table, rows, lent_table } = self;
-        [book::cover(calendar, page, table), lent::cover(calendar, rows, lent_table)]
-    }
-
-    /// Sees that both sides are as the ledger is.
+    /// Sees that it is as the ledger is.
     fn assert_like(&self, ledger: &Ledger) {
-        assert_eq!((self.page, self.rows), (Page::from(&ledger.book), Rows::from(&ledger.book)));
-        for table in [&self.table, &self.lent_table] {
-            assert_eq!(table.len(), ledger.table.len());
-            for (place, (slot, trade)) in table.iter().zip(&ledger.table).enumerate() {
-                assert_eq!(*slot, book::Trade::from(trade), "slot {place}");
-            }
+        assert_eq!(self.rows, Rows::from(&ledger.book));
+        assert_eq!(self.table.len(), ledger.table.len());
+        for (place, (slot, trade)) in self.table.iter().zip(&ledger.table).enumerate() {
+            assert_eq!(*slot, book::Trade::from(trade), "slot {place}");
         }
     }
 }
 
-/// One event on all sides.
+/// One event on both sides.
 pub fn both(ledger: &mut Ledger, event: &[u8; EVENT_BYTES]) -> Answer {
-    let mut sides = Sides::of(ledger);
-    let got = sides.apply(&ledger.calendar, event);
+    let mut lent = Lent::of(ledger);
+    let got = lent.apply(&ledger.calendar, event);
     let wanted = ledger.does_bytes(event);
-    assert_eq!(got, [wanted; 2]);
-    sides.assert_like(ledger);
-    assert_eq!(sides.cover(&ledger.calendar), [counted(ledger); 2]);
+    assert_eq!(got, wanted);
+    lent.assert_like(ledger);
+    assert_eq!(lent::cover(&ledger.calendar, &lent.rows, &lent.table), counted(ledger));
     wanted
 }
 
@@ -76,13 +56,17 @@ fn counted(Ledger { calendar, book, table }: &Ledger) -> (u32, i64, u64) {
     }
 }
 
-/// A run on all sides.
+/// A run on both sides; the same events one at a time have to leave the same.
 pub fn both_run(ledger: &mut Ledger, events: &[[u8; EVENT_BYTES]]) -> Result<Vec<Line>, u8> {
-    let mut sides = Sides::of(ledger);
-    let got = sides.run(&ledger.calendar, events);
+    let (mut run, mut single) = (Lent::of(ledger), Lent::of(ledger));
+    let got = lent::run(&ledger.calendar, &mut run.rows, &mut run.table, events.as_flattened());
+    for event in events {
+        single.apply(&ledger.calendar, event);
+    }
     let wanted = lines(ledger, events);
     assert_eq!(got, wanted);
-    sides.assert_like(ledger);
+    run.assert_like(ledger);
+    single.assert_like(ledger);
     wanted
 }
 

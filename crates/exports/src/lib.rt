@@ -1,16 +1,16 @@
 // The proved calls under C names, for Rust and C: each gives what the call that it names gives, with the same promise. A book
-// crosses as its page, or as its slate with lent rows.
+// crosses as its scalars with lent rows.
 
 // Days and money.
 pub mod money_calls;
 
-// The book, and a book in plain numbers.
+// The run of a journal's events on a fresh book.
 pub mod book_calls;
-pub mod page;
 
-// A book in lent numbers, changed in place.
+// A book in lent numbers, changed in place; its scalars, and the codes among them.
+pub mod codes;
 pub mod lent_calls;
-pub mod slate;
+pub mod raw;
 
 // The journal.
 pub mod journal_calls;

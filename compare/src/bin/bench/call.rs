@@ -4,7 +4,7 @@
 use std::hint::black_box;
 use std::ops::Range;
 
-use compare::proved::{self, book::Page, lent::Rows};
+use compare::proved::{self, lent::Rows};
 use model::answer::Answer;
 use model::book::{Book, Trade};
 use model::event::{Account, Event, EVENT_BYTES};
@@ -29,8 +29,6 @@ pub struct Shape {
     pub slots: usize,
     /// Contracts in rising order: easier to sort than drawn ones.
     rising: bool,
-    /// The proved side's book as a page, copied in and out, and not changed in place.
-    paged: bool,
 }
 
 /// All single calls, those of one event together.
@@ -39,19 +37,18 @@ pub fn shapes() -> impl Iterator<Item = Shape> {
         let tight = [16, 256, 1_024, CAPACITY].map(|trades| Shape::tight(kind, trades));
         let roomy = [16, 256].map(|trades| Shape { slots: CAPACITY, ..Shape::tight(kind, trades) });
         let rising = [Shape { rising: true, ..Shape::tight(kind, CAPACITY) }];
-        let paged = tight.map(|shape| Shape { paged: true, ..shape });
-        tight.into_iter().chain(roomy).chain(rising).chain(paged)
+        tight.into_iter().chain(roomy).chain(rising)
     })
 }
 
 impl Shape {
     /// A table with one slot to spare, where one may be so large.
     fn tight(kind: Kind, trades: usize) -> Shape {
-        Shape { kind, trades, slots: CAPACITY.min(trades + 1), rising: false, paged: false }
+        Shape { kind, trades, slots: CAPACITY.min(trades + 1), rising: false }
     }
 
     fn is_tight(&self) -> bool {
-        self.slots <= self.trades + 1 && !self.rising && !self.paged
+        self.slots <= self.trades + 1 && !self.rising
     }
 
     /// Whether the two differ in their trades alone.
@@ -67,7 +64,6 @@ impl Shape {
         };
         let more = match self {
             Shape { rising: true, .. } => "-rising".to_string(),
-            Shape { paged: true, .. } => "-paged".to_string(),
             _ if self.is_tight() => String::new(),
             _ => format!("-of-{}", self.slots),
         };
@@ -110,28 +106,11 @@ impl Shape {
     }
 }
 
-/// The proved side's book: changed in place, or as a page.
-#[derive(Clone, Copy, Debug, PartialEq)]
-pub enum Proved {
-    InPlace(Rows),
-    Paged(Page),
-}
-
-impl Proved {
-    fn of(book: &Book, shape: Shape) -> Proved {
-        if shape.paged {
-            Proved::Paged(book.into())
-        } else {
-            Proved::InPlace(book.into())
-        }
-    }
-}
-
 /// One event on one book, on both sides.
 pub struct Call {
     calendar: Vec<u32>,
     event: [u8; EVENT_BYTES],
-    pub proved: Desk<Proved, proved::book::Trade>,
+    pub proved: Desk<Rows, proved::book::Trade>,
     pub model: Desk<Book, Trade>,
 }
 
@@ -147,13 +126,13 @@ impl Call {
         let mut call = Call {
             calendar,
             event: shape.event().encode(),
-            proved: Desk::new(Proved::of(&book, shape), proved::book::table(&table), shape),
+            proved: Desk::new(Rows::from(&book), proved::book::table(&table), shape),
             model: Desk::new(book, table, shape),
         };
         let answer = call.model_answer();
         assert_eq!(answer.number, 0);
         assert_eq!(call.proved_answer(), answer);
-        assert_eq!(call.proved.book, Proved::of(&call.model.book, shape));
+        assert_eq!(call.proved.book, Rows::from(&call.model.book));
         assert_eq!(call.proved.table, proved::book::table(&call.model.table));
         call.proved.note_changes();
         call.model.note_changes();
@@ -162,10 +141,7 @@ impl Call {
 
     pub fn proved_answer(&mut self) -> Answer {
         let Desk { book, table, .. } = &mut self.proved;
-        match book {
-            Proved::InPlace(rows) => proved::lent::apply(&self.calendar, rows, table, &self.event),
-            Proved::Paged(page) => proved::book::apply(&self.calendar, page, table, &self.event),
-        }
+        proved::lent::apply(&self.calendar, book, table, &self.event)
     }
 
     pub fn model_answer(&mut self) -> Answer {

@@ -2,29 +2,29 @@ use mathlib.Core.Path.{refl, sym, _∙_}
 use mathlib.Core.Bool.{false≢true}
 use borrow.Author.Needs.{needs}
 use Rattle.core.proofs.Fitting.{refuted, upheld}
-use Rattle.exports.proofs.SlateLaws.{desk-back}
+use Rattle.exports.proofs.RawLaws.{desk-back}
 use Rattle.exports.proofs.lent_calls.lent_run.Statement.{statement}
 use Rattle.exports.proofs.lent_calls.lent_run.Tie as tie
 
-is-told-requires : tie.Need-is-told-requires
-is-told-requires c κs = search needs
+is-well-formed-requires : tie.Need-is-well-formed-requires
+is-well-formed-requires c κs = search needs
 
 refused-run-requires : tie.Need-refused-run-requires
 refused-run-requires c κs = search needs
 
 returns : tie.Need-returns
 returns c =
-    let untold = refuted (c .before .before .is-told .ensures) (c .before .if1 .taken) in
-    (λ z. absurd (false≢true (sym untold ∙ z)), λ z. rw (c .refused-run .ensures) (refl, refl, refl))
+    let malformed = refuted (c .before .before .is-well-formed .ensures) (c .before .if1 .taken) in
+    (λ z. absurd (false≢true (sym malformed ∙ z)), λ z. rw (c .refused-run .ensures) (refl, refl, refl))
 
-desk-on-requires : tie.Need-desk-on-requires
-desk-on-requires c κs = search needs
+scalars-from-requires : tie.Need-scalars-from-requires
+scalars-from-requires c κs = search needs
 
 run-requires : tie.Need-run-requires
 run-requires c κs = search needs
 
-left-by-run-requires : tie.Need-left-by-run-requires
-left-by-run-requires c κs = search needs
+of-ended-requires : tie.Need-of-ended-requires
+of-ended-requires c κs = search needs
 
 same-length : tie.Need-same-length
 same-length c = search needs
@@ -44,24 +44,24 @@ same-length-5 c = search needs
 returns-2 : tie.Need-returns-2
 returns-2 c =
     let at-run : tie.After-run = search needs in
-    let at-desk-on : tie.After-desk-on = search needs in
+    let at-scalars-from : tie.After-scalars-from = search needs in
     let ran = at-run .run in
     let tested : tie.Else1 = search needs in
-    let told = upheld (tested .before .is-told .ensures) (tested .if1 .left) in (
-      λ z. rw (c .left-by-run .ensures, desk-back (ran .result .desk), ← (at-desk-on .desk-on .ensures)) (ran .ensures .0, refl, ran .ensures .1),
-      λ z. absurd (false≢true (sym z ∙ told)),
+    let formed = upheld (tested .before .is-well-formed .ensures) (tested .if1 .left) in (
+      λ z. rw (c .of-ended .ensures, desk-back (ran .result .desk), ← (at-scalars-from .scalars-from .ensures)) (ran .ensures .0, refl, ran .ensures .1),
+      λ z. absurd (false≢true (sym z ∙ formed)),
     )
 
 pub lent-run-spec : {M : Type 1} → statement M
 lent-run-spec =
     tie.close
     (tie.spec
-    is-told-requires
+    is-well-formed-requires
     refused-run-requires
     returns
-    desk-on-requires
+    scalars-from-requires
     run-requires
-    left-by-run-requires
+    of-ended-requires
     same-length
     same-length-2
     same-length-3

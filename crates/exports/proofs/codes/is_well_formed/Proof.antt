@@ -1,0 +1,56 @@
+use borrow.Author.Needs.{needs}
+use mathlib.Core.Path.{refl}
+use borrow.Author.Tests.{le-leb, lt-leb}
+use Rattle.core.proofs.SumLaws.{test-fails, test-holds}
+use Rattle.core.proofs.Fitting.{last-test}
+use Rattle.exports.specs.Codes.{isWellFormed}
+use Rattle.exports.proofs.codes.is_well_formed.Statement.{statement}
+use Rattle.exports.proofs.codes.is_well_formed.Tie as tie
+
+returns : tie.Need-returns
+unfolding isWellFormed
+returns c = test-fails _ _ (lt-leb _ _ (c .if1 .taken))
+
+returns-2 : tie.Need-returns-2
+unfolding isWellFormed
+returns-2 c = test-holds _ _ _ (le-leb _ _ (c .before .before .if1 .left)) (test-fails _ _ (lt-leb _ _ (c .if2 .taken)))
+
+returns-3 : tie.Need-returns-3
+unfolding isWellFormed
+returns-3 c =
+    let past1 : tie.Else1 = search needs in
+    test-holds _ _ _ (le-leb _ _ (past1 .if1 .left))
+    (test-holds _ _ _ (le-leb _ _ (c .before .before .if2 .left)) (test-fails _ _ (lt-leb _ _ (c .if3 .taken))))
+
+returns-4 : tie.Need-returns-4
+unfolding isWellFormed
+returns-4 c =
+    let past1 : tie.Else1 = search needs in
+    let past2 : tie.Else2 = search needs in
+    test-holds _ _ _ (le-leb _ _ (past1 .if1 .left))
+    (test-holds _ _ _ (le-leb _ _ (past2 .if2 .left))
+    (test-holds _ _ _ (le-leb _ _ (c .before .before .if3 .left)) (test-fails _ _ (lt-leb _ _ (c .if4 .taken)))))
+
+returns-5 : tie.Need-returns-5
+unfolding isWellFormed
+returns-5 c =
+    let past1 : tie.Else1 = search needs in
+    let past2 : tie.Else2 = search needs in
+    test-holds _ _ _ (le-leb _ _ (past1 .if1 .left))
+    (test-holds _ _ _ (le-leb _ _ (past2 .if2 .left))
+    (test-holds _ _ _ (le-leb _ _ (c .before .before .before .if3 .left))
+    (test-holds _ _ _ (le-leb _ _ (c .before .if4 .left)) (last-test _ _ (rw (c .if5 .taken) refl)))))
+
+returns-6 : tie.Need-returns-6
+unfolding isWellFormed
+returns-6 c =
+    let past1 : tie.Else1 = search needs in
+    let past2 : tie.Else2 = search needs in
+    let past3 : tie.Else3 = search needs in
+    test-holds _ _ _ (le-leb _ _ (past1 .if1 .left))
+    (test-holds _ _ _ (le-leb _ _ (past2 .if2 .left))
+    (test-holds _ _ _ (le-leb _ _ (past3 .if3 .left))
+    (test-holds _ _ _ (le-leb _ _ (c .before .before .if4 .left)) (last-test _ _ (rw (c .before .if5 .left) refl)))))
+
+pub is-well-formed-spec : {M : Type 1} → statement M
+is-well-formed-spec = tie.close (tie.spec returns returns-2 returns-3 returns-4 returns-5 returns-6)
