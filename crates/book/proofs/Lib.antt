@@ -7,10 +7,4 @@ pub mod WalkFront
 pub mod WalkArray
 pub mod WalkCopies
 pub mod WalkLoop
-pub mod WalkBook
 pub mod WalkApply
-pub mod WalkApplyRoom
-pub mod WalkApplyChoice
-pub mod WalkCover
-pub mod WalkCoverRoom
-pub mod WalkCoverChoice

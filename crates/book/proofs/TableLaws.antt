@@ -108,7 +108,7 @@ written-all row trades =
 
 -- ---- a table that is too long
 
-pub long-unfit : (calendar : Calendar) (book : Book) (table : List Trade) → 4096 < length table → unfit calendar book table ≡ true
+long-unfit : (calendar : Calendar) (book : Book) (table : List Trade) → 4096 < length table → unfit calendar book table ≡ true
 unfolding fit every capacityFit
 long-unfit calendar book table h = rw (lt-leb (length table) 4096 h) refl
 

@@ -5,4 +5,3 @@ pub use Rattle.rules.specs.declared.trade.Trade.{Trade}
 pub use Rattle.rules.specs.declared.event.Entry.{Entry}
 pub use Rattle.rules.specs.declared.answer.Applied.{Applied}
 pub use Rattle.rules.specs.declared.answer.Ran.{Ran}
-pub use Rattle.rules.specs.declared.answer.Cover.{Cover}

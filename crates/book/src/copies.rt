@@ -7,16 +7,8 @@ use core::lent;
 use rules::limits::CAPACITY_LIMIT;
 use rules::trade::Trade;
 
-// Room for as many trades as the name says.
-pub fn zeros_128() -> [u64; 128 * WIDTH] {
-    [0; 128 * WIDTH]
-}
-
-pub fn zeros_1024() -> [u64; 1_024 * WIDTH] {
-    [0; 1_024 * WIDTH]
-}
-
-pub fn zeros_4096() -> [u64; CAPACITY_LIMIT * WIDTH] {
+// Room for as many trades as a table may have slots.
+pub fn zeros() -> [u64; CAPACITY_LIMIT * WIDTH] {
     [0; CAPACITY_LIMIT * WIDTH]
 }
 

@@ -1,9 +1,9 @@
 // The book: the calls on one firm's book and its lent table of trades, the layer above the core's numbers.
 
-// One event, a run of events, headroom and O.
+// One entry.
 pub mod table;
 
-// Trades copied to numbers and back, the core on a book by value, and refusals.
+// Trades copied to numbers and back, the core on a book by value, and the refusal.
 mod copies;
 mod numbers;
 mod refused;

@@ -3,12 +3,10 @@ ghost use mathlib.Core.Path.{_≡_};
 ghost use Prim.Native.Nat.{_%_};
 ghost use lib.ListN.{length};
 ghost use Rattle.rules.specs.Step.{step};
-ghost use Rattle.rules.specs.Cover.{coverOf};
 ghost use Rattle.core.specs.Flat.{width, tradesOf, appliedOf};
 use core::lent;
 use core::split;
 use rules::answer::Applied;
-use rules::answer::Cover;
 use rules::book::Book;
 use rules::event::Entry;
 
@@ -41,17 +39,4 @@ pub fn apply_flat(calendar: &[u32], book: Book, table: &mut [u64], entry: Entry)
         answer,
         book: split::book_of(after, &held, kinds, units),
     }
-}
-
-pub fn cover_flat(calendar: &[u32], book: Book, table: &[u64]) -> Cover
-    requires { ⌜ length (now table) % width ≡ 0 ⌝ }
-    ensures { λ r. ⌜ r ≡ coverOf (now (calendar .entry)) book (tradesOf (now (table .entry))) ⌝ }
-{
-    let vault = book.vault;
-    let withdrawals = book.withdrawals;
-    let desk = split::desk_of(book);
-    let held = split::held_of(vault);
-    let kinds = split::kinds_of(withdrawals);
-    let units = split::units_of(withdrawals);
-    lent::cover(calendar, desk, &held, &kinds, &units, table)
 }

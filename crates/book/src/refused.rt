@@ -1,11 +1,9 @@
-// What the calls answer where the table is too long: a number alone, and the book as it was.
+// What is answered where the table is too long: a number alone, and the book as it was.
 ghost use mathlib.Core.Path.{_≡_};
 ghost use Rattle.rules.specs.Book.{answer};
-ghost use Rattle.rules.specs.Cover.{uncounted};
 use money::units::Sheets;
 use rules::answer::Answer;
 use rules::answer::Applied;
-use rules::answer::Cover;
 use rules::book::Book;
 
 pub fn entry(number: u8, book: Book) -> Applied
@@ -19,15 +17,5 @@ pub fn entry(number: u8, book: Book) -> Applied
             dropped: 0,
         },
         book,
-    }
-}
-
-pub fn cover() -> Cover
-    ensures { λ r. ⌜ r ≡ uncounted ⌝ }
-{
-    Cover {
-        number: 1,
-        headroom: 0,
-        outstanding: Sheets(0),
     }
 }

@@ -1,19 +1,18 @@
-// The calls on a book and its lent table: the trades are copied to the core's numbers, the core acts on these, and its trades are
+// One entry on a book and its lent table: the trades are copied to the core's numbers, the core acts on these, and its trades are
 // copied back. An entry looks at the slots in use and at the next one, so no more than those are copied. A table of more than 4,096 slots
-// is answered 1 before anything is copied: no book on it is fit. A run of encoded events is `core::lent::run`.
+// is answered 1 before anything is copied: no book on it is fit. A run of encoded events is `core::lent::run`, headroom and O are
+// `core::lent::cover`.
 ghost use mathlib.Core.Path.{_≡_};
 ghost use Prim.Native.Nat.{_+_, _≤_, min};
 ghost use lib.ListN.{length};
 ghost use Rattle.rules.specs.Limits.{capacityLimit};
 ghost use Rattle.rules.specs.Step.{step};
-ghost use Rattle.rules.specs.Cover.{coverOf};
 ghost use Rattle.core.specs.Flat.{HasSlots, tradesTo, appliedOf};
 use crate::copies;
 use crate::numbers;
 use crate::refused;
 use core::layout::WIDTH;
 use rules::answer::Applied;
-use rules::answer::Cover;
 use rules::book::Book;
 use rules::event::Entry;
 use rules::limits::CAPACITY_LIMIT;
@@ -59,65 +58,16 @@ fn apply_by(
     applied
 }
 
-// With numbers of its own. To clear them is most of the work where few trades are in use, so there are three sizes.
-fn apply_128(calendar: &[u32], book: Book, table: &mut [Trade], entry: Entry) -> Applied
-    requires { ⌜ length (now table) ≤ 128 ⌝ }
-    ensures { λ r.
-        let next = step (now (calendar .entry)) book (now (table .entry)) entry in
-        ⌜ (r ≡ appliedOf next)
-        × (now (table .exit) ≡ next .table) ⌝ }
-{
-    let mut flat = copies::zeros_128();
-    apply_by(calendar, book, table, &mut flat, entry)
-}
-
-fn apply_1024(calendar: &[u32], book: Book, table: &mut [Trade], entry: Entry) -> Applied
-    requires { ⌜ length (now table) ≤ 1024 ⌝ }
-    ensures { λ r.
-        let next = step (now (calendar .entry)) book (now (table .entry)) entry in
-        ⌜ (r ≡ appliedOf next)
-        × (now (table .exit) ≡ next .table) ⌝ }
-{
-    let mut flat = copies::zeros_1024();
-    apply_by(calendar, book, table, &mut flat, entry)
-}
-
-fn apply_4096(calendar: &[u32], book: Book, table: &mut [Trade], entry: Entry) -> Applied
+// With numbers of its own, of the one size that every table fits.
+fn apply_in_numbers(calendar: &[u32], book: Book, table: &mut [Trade], entry: Entry) -> Applied
     requires { ⌜ length (now table) ≤ capacityLimit ⌝ }
     ensures { λ r.
         let next = step (now (calendar .entry)) book (now (table .entry)) entry in
         ⌜ (r ≡ appliedOf next)
         × (now (table .exit) ≡ next .table) ⌝ }
 {
-    let mut flat = copies::zeros_4096();
+    let mut flat = copies::zeros();
     apply_by(calendar, book, table, &mut flat, entry)
-}
-
-// One entry with as few numbers as will do.
-fn apply_more(calendar: &[u32], book: Book, table: &mut [Trade], entry: Entry) -> Applied
-    requires { ⌜ length (now table) ≤ capacityLimit ⌝ }
-    ensures { λ r.
-        let next = step (now (calendar .entry)) book (now (table .entry)) entry in
-        ⌜ (r ≡ appliedOf next)
-        × (now (table .exit) ≡ next .table) ⌝ }
-{
-    if table.len() <= 1_024 {
-        return apply_1024(calendar, book, table, entry);
-    }
-    apply_4096(calendar, book, table, entry)
-}
-
-fn apply_front(calendar: &[u32], book: Book, table: &mut [Trade], entry: Entry) -> Applied
-    requires { ⌜ length (now table) ≤ capacityLimit ⌝ }
-    ensures { λ r.
-        let next = step (now (calendar .entry)) book (now (table .entry)) entry in
-        ⌜ (r ≡ appliedOf next)
-        × (now (table .exit) ≡ next .table) ⌝ }
-{
-    if table.len() <= 128 {
-        return apply_128(calendar, book, table, entry);
-    }
-    apply_more(calendar, book, table, entry)
 }
 
 // Those in use and the next one: no entry looks at more.
@@ -142,81 +92,5 @@ pub fn apply(calendar: &[u32], book: Book, table: &mut [Trade], entry: Entry) ->
         return refused::entry(1, book);
     }
     let used = slots_used(book, slots);
-    apply_front(calendar, book, &mut table[..used], entry)
-}
-
-// The core on the first `count` trades of a longer row of numbers.
-fn cover_first(calendar: &[u32], book: Book, flat: &[u64], count: usize) -> Cover
-    requires { ⌜ HasSlots (now flat) count ⌝ }
-    ensures { λ r. ⌜ r ≡ coverOf (now (calendar .entry)) book (tradesTo (now (flat .entry)) count) ⌝ }
-{
-    let end = count * WIDTH;
-    numbers::cover_flat(calendar, book, &flat[..end])
-}
-
-// By way of lent numbers, whose old content does not matter.
-fn cover_by(calendar: &[u32], book: Book, table: &[Trade], flat: &mut [u64]) -> Cover
-    requires { ⌜ HasSlots (now flat) (length (now table)) ⌝ }
-    ensures { λ r. ⌜ r ≡ coverOf (now (calendar .entry)) book (now (table .entry)) ⌝ }
-{
-    let n = table.len();
-    copies::copy_in(table, flat);
-    cover_first(calendar, book, &*flat, n)
-}
-
-// With numbers of its own, of three sizes as for an entry.
-fn cover_128(calendar: &[u32], book: Book, table: &[Trade]) -> Cover
-    requires { ⌜ length (now table) ≤ 128 ⌝ }
-    ensures { λ r. ⌜ r ≡ coverOf (now (calendar .entry)) book (now (table .entry)) ⌝ }
-{
-    let mut flat = copies::zeros_128();
-    cover_by(calendar, book, table, &mut flat)
-}
-
-fn cover_1024(calendar: &[u32], book: Book, table: &[Trade]) -> Cover
-    requires { ⌜ length (now table) ≤ 1024 ⌝ }
-    ensures { λ r. ⌜ r ≡ coverOf (now (calendar .entry)) book (now (table .entry)) ⌝ }
-{
-    let mut flat = copies::zeros_1024();
-    cover_by(calendar, book, table, &mut flat)
-}
-
-fn cover_4096(calendar: &[u32], book: Book, table: &[Trade]) -> Cover
-    requires { ⌜ length (now table) ≤ capacityLimit ⌝ }
-    ensures { λ r. ⌜ r ≡ coverOf (now (calendar .entry)) book (now (table .entry)) ⌝ }
-{
-    let mut flat = copies::zeros_4096();
-    cover_by(calendar, book, table, &mut flat)
-}
-
-fn cover_more(calendar: &[u32], book: Book, table: &[Trade]) -> Cover
-    requires { ⌜ length (now table) ≤ capacityLimit ⌝ }
-    ensures { λ r. ⌜ r ≡ coverOf (now (calendar .entry)) book (now (table .entry)) ⌝ }
-{
-    if table.len() <= 1_024 {
-        return cover_1024(calendar, book, table);
-    }
-    cover_4096(calendar, book, table)
-}
-
-fn cover_front(calendar: &[u32], book: Book, table: &[Trade]) -> Cover
-    requires { ⌜ length (now table) ≤ capacityLimit ⌝ }
-    ensures { λ r. ⌜ r ≡ coverOf (now (calendar .entry)) book (now (table .entry)) ⌝ }
-{
-    if table.len() <= 128 {
-        return cover_128(calendar, book, table);
-    }
-    cover_more(calendar, book, table)
-}
-
-// Headroom and O of any book over any table.
-pub fn cover(calendar: &[u32], book: Book, table: &[Trade]) -> Cover
-    ensures { λ r. ⌜ r ≡ coverOf (now (calendar .entry)) book (now (table .entry)) ⌝ }
-{
-    let slots = table.len();
-    if slots > CAPACITY_LIMIT {
-        return refused::cover();
-    }
-    let used = slots_used(book, slots);
-    cover_front(calendar, book, &table[..used])
+    apply_in_numbers(calendar, book, &mut table[..used], entry)
 }
