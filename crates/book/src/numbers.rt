@@ -20,13 +20,13 @@ pub fn apply_flat(calendar: &[u32], book: Book, table: &mut [u64], entry: Entry)
 {
     let vault = book.vault;
     let withdrawals = book.withdrawals;
-    let desk = split::desk_of(book);
+    let scalars = split::scalars_of(book);
     let mut held = split::held_of(vault);
     let mut kinds = split::kinds_of(withdrawals);
     let mut units = split::units_of(withdrawals);
     let done = lent::apply(
         calendar,
-        desk,
+        scalars,
         &mut held,
         &mut kinds,
         &mut units,
@@ -34,7 +34,7 @@ pub fn apply_flat(calendar: &[u32], book: Book, table: &mut [u64], entry: Entry)
         entry,
     );
     let answer = done.answer;
-    let after = done.desk;
+    let after = done.scalars;
     Applied {
         answer,
         book: split::book_of(after, &held, kinds, units),

@@ -1,21 +1,15 @@
 // What is answered where the table is too long: a number alone, and the book as it was.
 ghost use mathlib.Core.Path.{_≡_};
 ghost use Rattle.rules.specs.Book.{answer};
-use money::units::Sheets;
-use rules::answer::Answer;
 use rules::answer::Applied;
 use rules::book::Book;
+use scalars::done;
 
 pub fn entry(number: u8, book: Book) -> Applied
     ensures { λ r. ⌜ r ≡ record { answer = answer number; book = book } ⌝ }
 {
     Applied {
-        answer: Answer {
-            number,
-            matured: Sheets(0),
-            done: 0,
-            dropped: 0,
-        },
+        answer: done::answer_of(number),
         book,
     }
 }

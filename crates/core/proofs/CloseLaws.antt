@@ -26,8 +26,8 @@ use Rattle.rules.proofs.FitParts.{securities-fit, cash-fits}
 use Rattle.rules.proofs.TableFit.{matured-lessens, fewer-fit}
 use Rattle.rules.proofs.EveningFit.{all-arrived-fit}
 use Rattle.core.specs.Types.{Security, Book, Trade}
-use Rattle.desk.specs.declared.state.Desk.{Desk}
-use Rattle.desk.specs.declared.done.Done.{Done}
+use Rattle.scalars.specs.declared.state.Scalars.{Scalars}
+use Rattle.scalars.specs.declared.done.Done.{Done}
 use Rattle.core.specs.declared.evening.EveningScalars.{EveningScalars}
 use Rattle.core.specs.Redemption.{Redeemed, maturityOf}
 use Rattle.core.specs.Flat.{Rows, rowsOf, tradesTo, tradesOf, bookOf, eveningAt, appliedAt, closedBy, tableBy, Kept}
@@ -150,22 +150,22 @@ module _ (book : Book) (s : securitiesFit (book .vault) ≡ true) (c : cashFit (
 
 -- ---- what Close gives back, refused and done
 
-module _ (calendar : Calendar) (desk : Desk) (rows : Rows) (left table : List Trade) where
+module _ (calendar : Calendar) (scalars : Scalars) (rows : Rows) (left table : List Trade) where
   abbrev outcome : Option ℕ
-  outcome = firstOf (closeCauses calendar (bookOf desk rows) table)
+  outcome = firstOf (closeCauses calendar (bookOf scalars rows) table)
 
-  pub close-refused : (n : ℕ) (r : Done) → outcome ≡ some n → r ≡ record { answer = answer n; desk = desk }
-      → (appliedAt r rows ≡ closedBy outcome calendar (bookOf desk rows) left table) × (table ≡ tableBy outcome table (closedTable (bookOf desk rows) left table))
+  pub close-refused : (n : ℕ) (r : Done) → outcome ≡ some n → r ≡ record { answer = answer n; scalars = scalars }
+      → (appliedAt r rows ≡ closedBy outcome calendar (bookOf scalars rows) left table) × (table ≡ tableBy outcome table (closedTable (bookOf scalars rows) left table))
   close-refused n r e same = rw (e, same) (refl, refl)
 
 -- the applications as they were cleared
-pub rows-cleared : (desk : Desk) (held : List ℕ) {kinds cleared-kinds units cleared-units : List ℕ} {book : Book} → kinds ≡ cleared-kinds → units ≡ cleared-units
-    → bookOf desk (rowsOf held cleared-kinds cleared-units) ≡ book → bookOf desk (rowsOf held kinds units) ≡ book
-rows-cleared desk held k u e = rw (k, u) e
+pub rows-cleared : (scalars : Scalars) (held : List ℕ) {kinds cleared-kinds units cleared-units : List ℕ} {book : Book} → kinds ≡ cleared-kinds → units ≡ cleared-units
+    → bookOf scalars (rowsOf held cleared-kinds cleared-units) ≡ book → bookOf scalars (rowsOf held kinds units) ≡ book
+rows-cleared scalars held k u e = rw (k, u) e
 
-pub close-done : (calendar : Calendar) (book : Book) (left table : List Trade) (matured : Sheets) (ended : EveningScalars) (securities : List Security) (desk : Desk) (rows : Rows)
-    → matured ≡ sheets (maturedSheets book table) → eveningAt ended securities ≡ evening book left → bookOf desk rows ≡ closedBook calendar book left table
-    → appliedAt (record { answer = record { number = 0; matured = matured; done = ended .done; dropped = ended .dropped }; desk = desk }) rows ≡ closedBy none calendar book left table
+pub close-done : (calendar : Calendar) (book : Book) (left table : List Trade) (matured : Sheets) (ended : EveningScalars) (securities : List Security) (scalars : Scalars) (rows : Rows)
+    → matured ≡ sheets (maturedSheets book table) → eveningAt ended securities ≡ evening book left → bookOf scalars rows ≡ closedBook calendar book left table
+    → appliedAt (record { answer = record { number = 0; matured = matured; done = ended .done; dropped = ended .dropped }; scalars = scalars }) rows ≡ closedBy none calendar book left table
 unfolding closeAnswer
-close-done calendar book left table matured ended securities desk rows m end next =
+close-done calendar book left table matured ended securities scalars rows m end next =
     rw (m, sym end, sym next)

@@ -19,7 +19,7 @@ use Rattle.rules.specs.Limits.{applicationLimit}
 use Rattle.rules.specs.Fit.{fit}
 use Rattle.rules.specs.Listing.{journalCapacity, journalTable, listingOf, lengthCauses, listingCauses, writtenBy, runDone}
 use Rattle.rules.proofs.StaysFit.{others-clear, fresh-is-fit}
-use Rattle.core.specs.Flat.{width, heldLength, tradeAt, tradesTo, capacity, tradesOf, securityIn, securitiesTo, rowsOf, bookOf, deskOf}
+use Rattle.core.specs.Flat.{width, heldLength, tradeAt, tradesTo, capacity, tradesOf, securityIn, securitiesTo, rowsOf, bookOf, scalarsOf}
 use Rattle.core.proofs.Refusing.{none-at-0}
 
 -- ---- a listing that is not refused
@@ -66,7 +66,7 @@ journal-starts-empty = empty-table 4096 1024 refl
 
 -- ---- a fresh book in rows of zeros
 
-pub fresh-in-rows : bookOf (deskOf freshBook) (rowsOf (zeros heldLength) (zeros applicationLimit) (zeros applicationLimit)) ≡ freshBook
+pub fresh-in-rows : bookOf (scalarsOf freshBook) (rowsOf (zeros heldLength) (zeros applicationLimit) (zeros applicationLimit)) ≡ freshBook
 unfolding freshBook securitiesTo securityIn
 fresh-in-rows = refl
 

@@ -12,11 +12,11 @@ use Rattle.rules.specs.Book.{answer}
 use Rattle.rules.specs.Step.{eventCauses}
 use Rattle.rules.proofs.Answers.{numbers, event-numbers, number-passes, unused}
 use Rattle.core.specs.Types.{Book, Trade, Event}
-use Rattle.desk.specs.declared.state.Desk.{Desk}
-use Rattle.desk.specs.declared.done.Done.{Done}
+use Rattle.scalars.specs.declared.state.Scalars.{Scalars}
+use Rattle.scalars.specs.declared.done.Done.{Done}
 use Rattle.core.specs.Flat.{Rows, bookOf, appliedBy, appliedAt}
 
--- the rows of no book: where a fact is the desk's alone
+-- the rows of no book: where a fact is the scalars' alone
 abbrev pub noRows : Rows
 noRows = record { securities = []; kinds = []; units = [] }
 
@@ -40,9 +40,9 @@ done calendar book table event n = none-at-0 (λ k. not (unused k)) (eventCauses
 
 -- ---- what an event gives back: the book as it was where it is turned down, the new one where it is done
 
-module _ (causes : List Cause) (desk : Desk) (rows after : Rows) (next : Book) {r : Done} where
-  pub turned-down : {n : ℕ} → n ≡ numberOf (firstOf causes) → (n ≡ 0 → ⊥) → r ≡ record { answer = answer n; desk = desk } → after ≡ rows → appliedAt r after ≡ appliedBy (firstOf causes) (bookOf desk rows) next
+module _ (causes : List Cause) (scalars : Scalars) (rows after : Rows) (next : Book) {r : Done} where
+  pub turned-down : {n : ℕ} → n ≡ numberOf (firstOf causes) → (n ≡ 0 → ⊥) → r ≡ record { answer = answer n; scalars = scalars } → after ≡ rows → appliedAt r after ≡ appliedBy (firstOf causes) (bookOf scalars rows) next
   turned-down {n} e z left same = rw (left, same, refused (firstOf causes) n e z)
 
-  pub carried-out : {done : Desk} → firstOf causes ≡ none → r ≡ record { answer = answer 0; desk = done } → bookOf done after ≡ next → appliedAt r after ≡ appliedBy (firstOf causes) (bookOf desk rows) next
+  pub carried-out : {done : Scalars} → firstOf causes ≡ none → r ≡ record { answer = answer 0; scalars = done } → bookOf done after ≡ next → appliedAt r after ≡ appliedBy (firstOf causes) (bookOf scalars rows) next
   carried-out e left same = rw (left, e) (ap (λ (book : Book). record { answer = answer 0; book = book }) same)

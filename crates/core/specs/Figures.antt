@@ -10,7 +10,7 @@ use Rattle.rules.specs.Vault.{value, outstandingOf}
 use Rattle.rules.specs.Fit.{tradeFit, allTrades}
 use Rattle.core.specs.Types.{Trade, Book, Event, Open, FundIn, FundOut, Size, Rate, Pledge, Freeze, Withdraw, Initial, Early, Pay, Close, Entry, Known, Undecodable}
 use Rattle.core.specs.Flat.{FitsWhole, FitsHeld, vaultOf, securitiesOf}
-use Rattle.desk.specs.declared.state.Desk.{Desk}
+use Rattle.scalars.specs.declared.state.Scalars.{Scalars}
 pub use Rattle.core.specs.declared.figures.Figures.{Figures}
 pub use Rattle.core.specs.declared.figures.KnownFigures.{KnownFigures}
 pub use Rattle.core.specs.declared.figures.KnownValue.{KnownValue}
@@ -21,27 +21,27 @@ pub use Rattle.core.specs.declared.trades.Summary.{Summary}
 abbrev pub figuresOf : Book → List Trade → Figures
 figuresOf book table = record { outstanding = outstandingOf book table; value = value (book .vault) }
 
--- O of a desk, and both of a desk with its row of securities
-abbrev pub outstandingAt : Desk → List Trade → ℕ
-outstandingAt desk table = outstanding (inUse (desk .trades) table)
+-- O of scalars, and both of scalars with the row of securities
+abbrev pub outstandingAt : Scalars → List Trade → ℕ
+outstandingAt scalars table = outstanding (inUse (scalars .trades) table)
 
-abbrev pub figuresAt : Desk → (held : List ℕ) → List Trade → Figures
-figuresAt desk held table = record { outstanding = outstandingAt desk table; value = value (vaultOf (desk .guarantee) (securitiesOf held)) }
+abbrev pub figuresAt : Scalars → (held : List ℕ) → List Trade → Figures
+figuresAt scalars held table = record { outstanding = outstandingAt scalars table; value = value (vaultOf (scalars .guarantee) (securitiesOf held)) }
 
 abbrev pub IsValue : KnownValue → (value : ℕ) → Type 0
 IsValue (Counted number) value = number ≡ value
 IsValue NotCounted value = Unit {0}
 
 -- what the core may rely on where O, and V if it is known, come with the book
-pub record CountedWhole (calendar : Calendar) (desk : Desk) (held kinds units : List ℕ) (table : List Trade) (known : KnownFigures) : Type 0 where
-  pub book : FitsWhole calendar desk held kinds units table
-  pub sheets : known .outstanding ≡ outstandingAt desk table
-  pub value : IsValue (known .value) (figuresAt desk held table .value)
+pub record CountedWhole (calendar : Calendar) (scalars : Scalars) (held kinds units : List ℕ) (table : List Trade) (known : KnownFigures) : Type 0 where
+  pub book : FitsWhole calendar scalars held kinds units table
+  pub sheets : known .outstanding ≡ outstandingAt scalars table
+  pub value : IsValue (known .value) (figuresAt scalars held table .value)
 
-pub record CountedHeld (calendar : Calendar) (desk : Desk) (held : List ℕ) (table : List Trade) (known : KnownFigures) : Type 0 where
-  pub book : FitsHeld calendar desk held table
-  pub sheets : known .outstanding ≡ outstandingAt desk table
-  pub value : IsValue (known .value) (figuresAt desk held table .value)
+pub record CountedHeld (calendar : Calendar) (scalars : Scalars) (held : List ℕ) (table : List Trade) (known : KnownFigures) : Type 0 where
+  pub book : FitsHeld calendar scalars held table
+  pub sheets : known .outstanding ≡ outstandingAt scalars table
+  pub value : IsValue (known .value) (figuresAt scalars held table .value)
 
 -- what is known of them after an event that is done
 abbrev pub Moved : Event → (before after : Figures) → Type 0

@@ -1,4 +1,4 @@
--- How the core lays out its table, four numbers a trade, and its book, a desk and rows: what `Lent` reads numbers by. Promises of other calls
+-- How the core lays out its table, four numbers a trade, and its book, scalars and rows: what `Lent` reads numbers by. Promises of other calls
 -- cite this layout and `appliedOf`; all else serves private contracts. No rule of document 01 stands here.
 -- Assumes nothing.
 use Prim.Native.Nat.{ℕ, zero, suc, _+_, _*_, _/_, _%_, _≤_, _<_}
@@ -22,8 +22,8 @@ use Rattle.rules.specs.Step.{Outcome}
 use Rattle.rules.specs.Trades.{same}
 use Rattle.rules.specs.Fit.{securitiesFit, cashFit, withdrawalsFit, tradeFit, allTrades, fit}
 use Rattle.core.specs.Types.{Security, Standing, Guarantee, Vault, Book, Applied, Contract, Trade}
-use Rattle.desk.specs.declared.state.Desk.{Desk}
-use Rattle.desk.specs.declared.done.Done.{Done}
+use Rattle.scalars.specs.declared.state.Scalars.{Scalars}
+use Rattle.scalars.specs.declared.done.Done.{Done}
 use Rattle.core.specs.declared.evening.EveningScalars.{EveningScalars}
 
 -- how many numbers a trade takes
@@ -73,7 +73,7 @@ capacity table = length table / width
 abbrev pub tradesOf : List ℕ → List Trade
 tradesOf table = tradesTo table (capacity table)
 
--- ---- the rows beside the desk: the securities, four numbers each, and the applications
+-- ---- the rows beside the scalars: the securities, four numbers each, and the applications
 
 unfoldable pub securityIn : List ℕ → ℕ → Security
 securityIn held kind = record {
@@ -101,20 +101,20 @@ rowsOf held kinds units = record { securities = securitiesOf held; kinds = kinds
 abbrev pub vaultOf : Guarantee → List Security → Vault
 vaultOf guarantee securities = record { guarantee = guarantee; securities = securities }
 
--- the book that a desk and rows are, and the desk of a book
-abbrev pub bookOf : Desk → Rows → Book
-bookOf desk rows = record {
-  nets = desk .nets;
-  cash = desk .cash;
-  vault = vaultOf (desk .guarantee) (rows .securities);
-  size = desk .size;
-  standing = desk .standing;
-  withdrawals = record { kinds = rows .kinds; units = rows .units; count = desk .applications };
-  trades = desk .trades;
+-- the book that scalars and rows are, and the scalars of a book
+abbrev pub bookOf : Scalars → Rows → Book
+bookOf scalars rows = record {
+  nets = scalars .nets;
+  cash = scalars .cash;
+  vault = vaultOf (scalars .guarantee) (rows .securities);
+  size = scalars .size;
+  standing = scalars .standing;
+  withdrawals = record { kinds = rows .kinds; units = rows .units; count = scalars .applications };
+  trades = scalars .trades;
 }
 
-abbrev pub deskOf : Book → Desk
-deskOf book = record {
+abbrev pub scalarsOf : Book → Scalars
+scalarsOf book = record {
   nets = book .nets;
   cash = book .cash;
   guarantee = book .vault .guarantee;
@@ -126,31 +126,31 @@ deskOf book = record {
 
 -- what an event leaves, and the evening, with their rows
 abbrev pub appliedAt : Done → Rows → Applied
-appliedAt done rows = record { answer = done .answer; book = bookOf (done .desk) rows }
+appliedAt done rows = record { answer = done .answer; book = bookOf (done .scalars) rows }
 
 abbrev pub eveningAt : EveningScalars → List Security → Evening
 eveningAt ended securities = record { own = ended .own; vault = vaultOf (ended .guarantee) securities; done = ended .done; dropped = ended .dropped }
 
--- what the core may rely on: a calendar within its limit, rows of their lengths, and that they make the desk a fit book
-pub record FitsWhole (calendar : Calendar) (desk : Desk) (held kinds units : List ℕ) (table : List Trade) : Type 0 where
+-- what the core may rely on: a calendar within its limit, rows of their lengths, and that they make the scalars a fit book
+pub record FitsWhole (calendar : Calendar) (scalars : Scalars) (held kinds units : List ℕ) (table : List Trade) : Type 0 where
   pub held-long : length held ≡ heldLength
   pub kinds-long : length kinds ≡ applicationLimit
   pub units-long : length units ≡ applicationLimit
   pub few : length calendar ≤ calendarLimit
-  pub fits : fit calendar (bookOf desk (rowsOf held kinds units)) table ≡ true
+  pub fits : fit calendar (bookOf scalars (rowsOf held kinds units)) table ≡ true
 
 -- the same where it has the securities only, and where it has no rows: some rows make it so
-pub record FitsHeld (calendar : Calendar) (desk : Desk) (held : List ℕ) (table : List Trade) : Type 0 where
+pub record FitsHeld (calendar : Calendar) (scalars : Scalars) (held : List ℕ) (table : List Trade) : Type 0 where
   pub kinds : List ℕ
   pub units : List ℕ
   pub held-long : length held ≡ heldLength
   pub few : length calendar ≤ calendarLimit
-  pub fits : fit calendar (bookOf desk (rowsOf held kinds units)) table ≡ true
+  pub fits : fit calendar (bookOf scalars (rowsOf held kinds units)) table ≡ true
 
-pub record Fits (calendar : Calendar) (desk : Desk) (table : List Trade) : Type 0 where
+pub record Fits (calendar : Calendar) (scalars : Scalars) (table : List Trade) : Type 0 where
   pub rows : Rows
   pub few : length calendar ≤ calendarLimit
-  pub fits : fit calendar (bookOf desk rows) table ≡ true
+  pub fits : fit calendar (bookOf scalars rows) table ≡ true
 
 -- where a contract's trade stands, or how many trades there are
 unfoldable pub placeOf : Contract → List Trade → ℕ
@@ -183,36 +183,36 @@ pub record RowsLong (calendar : Calendar) (held kinds units : List ℕ) : Type 0
   pub few : length calendar ≤ calendarLimit
 
 -- Open: there is a day to go to, and this is how the firm stands on it
-pub record Opening (calendar : Calendar) (desk : Desk) (table : List Trade) (after : Standing) : Type 0 where
-  pub book : Fits calendar desk table
-  pub follows : followed calendar (following calendar (desk .standing .day)) ≡ true
-  pub opened : after ≡ openedStanding calendar (desk .standing)
+pub record Opening (calendar : Calendar) (scalars : Scalars) (table : List Trade) (after : Standing) : Type 0 where
+  pub book : Fits calendar scalars table
+  pub follows : followed calendar (following calendar (scalars .standing .day)) ≡ true
+  pub opened : after ≡ openedStanding calendar (scalars .standing)
 
 -- and its permission ends there
-pub record Ending (calendar : Calendar) (desk : Desk) (table : List Trade) (after : Standing) : Type 0 where
-  pub opening : Opening calendar desk table after
-  pub closed : isClosed (desk .standing .phase) ≡ true
-  pub ended : turnsTerminated (desk .standing) ≡ true
+pub record Ending (calendar : Calendar) (scalars : Scalars) (table : List Trade) (after : Standing) : Type 0 where
+  pub opening : Opening calendar scalars table after
+  pub closed : isClosed (scalars .standing .phase) ≡ true
+  pub ended : turnsTerminated (scalars .standing) ≡ true
 
 -- Early: the place is the contract's
-pub record Named (calendar : Calendar) (desk : Desk) (table : List ℕ) (place : ℕ) (contract : Contract) : Type 0 where
-  pub book : Fits calendar desk (tradesOf table)
-  pub stands : place ≡ placeOf contract (tradesTo table (desk .trades))
+pub record Named (calendar : Calendar) (scalars : Scalars) (table : List ℕ) (place : ℕ) (contract : Contract) : Type 0 where
+  pub book : Fits calendar scalars (tradesOf table)
+  pub stands : place ≡ placeOf contract (tradesTo table (scalars .trades))
 
 -- where its trade is on the table, and the price within its limit
-pub record Running (calendar : Calendar) (desk : Desk) (table : List ℕ) (place : ℕ) (contract : Contract) (price : Ticks) : Type 0 where
-  pub named : Named calendar desk table place contract
-  pub below : place < desk .trades
+pub record Running (calendar : Calendar) (scalars : Scalars) (table : List ℕ) (place : ℕ) (contract : Contract) (price : Ticks) : Type 0 where
+  pub named : Named calendar scalars table place contract
+  pub below : place < scalars .trades
   pub cheap : price .0 ≤ priceLimit
 
 -- Withdraw and Close: rows of their lengths that are fit, and the cash
-pub record RowsFit (desk : Desk) (held kinds units : List ℕ) : Type 0 where
+pub record RowsFit (scalars : Scalars) (held kinds units : List ℕ) : Type 0 where
   pub held-long : length held ≡ heldLength
   pub kinds-long : length kinds ≡ applicationLimit
   pub units-long : length units ≡ applicationLimit
-  pub withdrawals : withdrawalsFit (record { kinds = kinds; units = units; count = desk .applications }) ≡ true
-  pub securities : securitiesFit (vaultOf (desk .guarantee) (securitiesOf held)) ≡ true
-  pub cash : cashFit (desk .cash) (desk .guarantee) ≡ true
+  pub withdrawals : withdrawalsFit (record { kinds = kinds; units = units; count = scalars .applications }) ≡ true
+  pub securities : securitiesFit (vaultOf (scalars .guarantee) (securitiesOf held)) ≡ true
+  pub cash : cashFit (scalars .cash) (scalars .guarantee) ≡ true
 
 -- ---- what an event gives back, by the cause that applies: what it does, or the number and the book as it was
 

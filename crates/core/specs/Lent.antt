@@ -13,22 +13,22 @@ use Rattle.rules.specs.Cover.{coverRefused, coverOf}
 use Rattle.rules.specs.Listing.{RunOutcome, runOutcome}
 use Rattle.core.specs.Types.{Book, Trade, Entry, Cover}
 use Rattle.core.specs.Flat.{width, rowsOf, bookOf, tradesOf}
-use Rattle.desk.specs.declared.state.Desk.{Desk}
+use Rattle.scalars.specs.declared.state.Scalars.{Scalars}
 
 -- what is small of the book, the rows of securities and of applications, and the table
 pub record Lent : Type 0 where
-  pub desk : Desk
+  pub scalars : Scalars
   pub held : List ℕ
   pub kinds : List ℕ
   pub units : List ℕ
   pub table : List ℕ
 
-abbrev pub lent : Desk → (held kinds units table : List ℕ) → Lent
-lent desk held kinds units table = record { desk = desk; held = held; kinds = kinds; units = units; table = table }
+abbrev pub lent : Scalars → (held kinds units table : List ℕ) → Lent
+lent scalars held kinds units table = record { scalars = scalars; held = held; kinds = kinds; units = units; table = table }
 
 -- the book and the trades that they are
 abbrev pub bookIn : Lent → Book
-bookIn l = bookOf (l .desk) (rowsOf (l .held) (l .kinds) (l .units))
+bookIn l = bookOf (l .scalars) (rowsOf (l .held) (l .kinds) (l .units))
 
 abbrev pub tableIn : Lent → List Trade
 tableIn l = tradesOf (l .table)

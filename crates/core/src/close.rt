@@ -23,11 +23,6 @@ use crate::packing;
 use crate::redemption;
 use crate::trades;
 use crate::vault;
-use desk::done;
-use desk::done::Done;
-use desk::headroom;
-use desk::standing;
-use desk::state::Desk;
 use money::units::Fen;
 use money::units::Sheets;
 use rules::book::Cash;
@@ -36,6 +31,11 @@ use rules::book::Phase;
 use rules::book::ShortRun;
 use rules::book::Standing;
 use rules::limits::APPLICATION_LIMIT;
+use scalars::done;
+use scalars::done::Done;
+use scalars::headroom;
+use scalars::standing;
+use scalars::state::Scalars;
 
 fn may_close(standing: Standing) -> bool
     ensures { λ r. ⌜ r ≡ mayClose standing ⌝ }
@@ -108,24 +108,24 @@ fn clear(kinds: &mut [u8], units: &mut [u64])
 
 // The evening's end, with the sheets of the trades that part (a) leaves.
 fn evening_end(
-    desk: Desk,
+    scalars: Scalars,
     held: &mut [u64],
     kinds: &[u8],
     units: &[u64],
     left: u64,
 ) -> EveningScalars
-    requires { ⌜ RowsFit desk (now held) (now kinds) (now units) ⌝ }
+    requires { ⌜ RowsFit scalars (now held) (now kinds) (now units) ⌝ }
     ensures { λ r.
-        let book = bookOf desk (rowsOf (now (held .entry)) (now (kinds .entry)) (now (units .entry))) in
+        let book = bookOf scalars (rowsOf (now (held .entry)) (now (kinds .entry)) (now (units .entry))) in
         ⌜ ((trades : List Trade) → left ≡ outstanding trades → eveningAt r (securitiesOf (now (held .exit))) ≡ eveningOf book trades)
         × (r .value .0 ≡ value (vaultOf (r .guarantee) (securitiesOf (now (held .exit))))) ⌝ }
 {
-    let standing = desk.standing;
-    let guarantee = desk.guarantee;
+    let standing = scalars.standing;
+    let guarantee = scalars.guarantee;
     evening::all_arrived(held, guarantee);
     let arrived = evening::guarantee_arrived(guarantee);
     let begun = EveningScalars {
-        own: Fen(desk.cash.own.0),
+        own: Fen(scalars.cash.own.0),
         guarantee: arrived,
         value: Sheets(vault::value_of(&*held, arrived)),
         done: 0,
@@ -136,17 +136,23 @@ fn evening_end(
         left,
         kinds,
         units,
-        desk.applications,
+        scalars.applications,
         held,
         begun,
     )
 }
 
-// The desk after the evening: `cleared` has the nets, `kept` the trades that stay.
-fn closed_desk(desk: Desk, cleared: Nets, ended: EveningScalars, left: u64, kept: usize) -> Desk
+// The scalars after the evening: `cleared` has the nets, `kept` the trades that stay.
+fn closed_scalars(
+    scalars: Scalars,
+    cleared: Nets,
+    ended: EveningScalars,
+    left: u64,
+    kept: usize,
+) -> Scalars
     ensures { λ r.
         ⌜ ((calendar : Calendar) (rows : Rows) (held : List ℕ) (trades table : List Trade) →
-        let book = bookOf desk rows in
+        let book = bookOf scalars rows in
         cleared ≡ record { today = pos 0; cleared = clearedAtClose calendar book table }
         → eveningAt ended (securitiesOf held) ≡ eveningOf book trades
         → ended .value .0 ≡ value (vaultOf (ended .guarantee) (securitiesOf held))
@@ -154,15 +160,15 @@ fn closed_desk(desk: Desk, cleared: Nets, ended: EveningScalars, left: u64, kept
         → kept ≡ length (remaining trades)
         → bookOf r (rowsOf held (noApplications .kinds) (noApplications .units)) ≡ closedBook calendar book trades table) ⌝ }
 {
-    let standing = desk.standing;
+    let standing = scalars.standing;
     let short = standing.short;
     let guarantee = ended.guarantee;
-    let is_short = headroom::is_short(desk.size.0, ended.value.0, left);
+    let is_short = headroom::is_short(scalars.size.0, ended.value.0, left);
     let cash = Cash {
         own: Fen(ended.own.0),
-        client: Fen(desk.cash.client.0),
+        client: Fen(scalars.cash.client.0),
     };
-    let mut next = desk;
+    let mut next = scalars;
     next.nets = cleared;
     next.cash = cash;
     next.guarantee = guarantee;
@@ -174,7 +180,7 @@ fn closed_desk(desk: Desk, cleared: Nets, ended: EveningScalars, left: u64, kept
 
 // What Close does, once nothing refuses it. O is what is left after maturity, before the table is packed.
 fn closed(
-    desk: Desk,
+    scalars: Scalars,
     held: &mut [u64],
     kinds: &mut [u8],
     units: &mut [u64],
@@ -182,9 +188,9 @@ fn closed(
     matured: Sheets,
     cleared: Nets,
 ) -> Done
-    requires { ⌜ (RowsFit desk (now held) (now kinds) (now units)) × (Kept (now table) (desk .trades)) ⌝ }
+    requires { ⌜ (RowsFit scalars (now held) (now kinds) (now units)) × (Kept (now table) (scalars .trades)) ⌝ }
     ensures { λ r.
-        let book = bookOf desk (rowsOf (now (held .entry)) (now (kinds .entry)) (now (units .entry))) in
+        let book = bookOf scalars (rowsOf (now (held .entry)) (now (kinds .entry)) (now (units .entry))) in
         let trades = tradesOf (now (table .entry)) in
         let remains = maturedTrades book trades in
         ⌜ ((calendar : Calendar) →
@@ -193,30 +199,30 @@ fn closed(
         → appliedAt r (rowsOf (now (held .exit)) (now (kinds .exit)) (now (units .exit))) ≡ closedBy none calendar book remains trades)
         × (tradesOf (now (table .exit)) ≡ closedTable book remains trades) ⌝ }
 {
-    let standing = desk.standing;
+    let standing = scalars.standing;
     let day = standing.day;
-    let count = desk.trades;
+    let count = scalars.trades;
     redemption::redeem_due(table, count, days::day_number(day));
     let left = trades::outstanding_of(&*table, count);
     let kept = packing::pack(table, count);
-    let ended = evening_end(desk, held, &*kinds, &*units, left);
+    let ended = evening_end(scalars, held, &*kinds, &*units, left);
     clear(kinds, units);
-    let next = closed_desk(desk, cleared, ended, left, kept);
+    let next = closed_scalars(scalars, cleared, ended, left, kept);
     done::of_close(matured, ended.done, ended.dropped, next)
 }
 
 // All that can refuse it is decided on a plan, before anything is written.
 pub fn close(
     calendar: &[u32],
-    desk: Desk,
+    scalars: Scalars,
     held: &mut [u64],
     kinds: &mut [u8],
     units: &mut [u64],
     table: &mut [u64],
 ) -> Done
-    requires { ⌜ FitsWhole (now calendar) desk (now held) (now kinds) (now units) (tradesOf (now table)) ⌝ }
+    requires { ⌜ FitsWhole (now calendar) scalars (now held) (now kinds) (now units) (tradesOf (now table)) ⌝ }
     ensures { λ r.
-        let book = bookOf desk (rowsOf (now (held .entry)) (now (kinds .entry)) (now (units .entry))) in
+        let book = bookOf scalars (rowsOf (now (held .entry)) (now (kinds .entry)) (now (units .entry))) in
         let trades = tradesOf (now (table .entry)) in
         let remains = maturedTrades book trades in
         let left = rowsOf (now (held .exit)) (now (kinds .exit)) (now (units .exit)) in
@@ -224,21 +230,21 @@ pub fn close(
         ⌜ (appliedAt r left ≡ closedBy cause (now (calendar .entry)) book remains trades)
         × (tradesOf (now (table .exit)) ≡ tableBy cause trades (closedTable book remains trades)) ⌝ }
 {
-    let standing = desk.standing;
+    let standing = scalars.standing;
     if !may_close(standing) {
-        return done::answered(4, desk);
+        return done::answered(4, scalars);
     }
     let day = standing.day;
-    let count = desk.trades;
+    let count = scalars.trades;
     let payment = days::payment_day(calendar, day);
     let plan = redemption::maturity_plan(&*table, count, days::day_number(day), payment);
-    let with_matured = nets::today_plus(desk.nets, plan.amount);
+    let with_matured = nets::today_plus(scalars.nets, plan.amount);
     if !nets::today_fit(with_matured) {
-        return done::answered(14, desk);
+        return done::answered(14, scalars);
     }
     let cleared = nets::joined(with_matured);
     if !nets::cleared_fit(cleared) {
-        return done::answered(14, desk);
+        return done::answered(14, scalars);
     }
-    closed(desk, held, kinds, units, table, plan.sheets, cleared)
+    closed(scalars, held, kinds, units, table, plan.sheets, cleared)
 }

@@ -6,9 +6,9 @@ ghost use Rattle.rules.specs.Limits.{sizeLimit};
 ghost use Rattle.rules.specs.Vault.{headroomOf};
 use crate::figures::Figures;
 use crate::nets;
-use desk::headroom;
 use money::units::Sheets;
 use rules::answer::Cover;
+use scalars::headroom;
 
 // The smaller of S and V, less O.
 fn headroom_from(size: u64, value: u64, outstanding: u64) -> i64

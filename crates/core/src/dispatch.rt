@@ -16,16 +16,16 @@ use crate::pledge;
 use crate::rate;
 use crate::size;
 use crate::withdraw;
-use desk::done;
-use desk::done::Done;
-use desk::state::Desk;
 use rules::event::Entry;
 use rules::event::Event;
+use scalars::done;
+use scalars::done::Done;
+use scalars::state::Scalars;
 
 // One event on a fit book, under a calendar of at most 1,200 words; O comes with it, and V where it is known.
 fn event_on(
     calendar: &[u32],
-    desk: Desk,
+    scalars: Scalars,
     held: &mut [u64],
     kinds: &mut [u8],
     units: &mut [u64],
@@ -33,48 +33,48 @@ fn event_on(
     known: KnownFigures,
     event: Event,
 ) -> Done
-    requires { ⌜ CountedWhole (now calendar) desk (now held) (now kinds) (now units) (tradesOf (now table)) known ⌝ }
+    requires { ⌜ CountedWhole (now calendar) scalars (now held) (now kinds) (now units) (tradesOf (now table)) known ⌝ }
     ensures { λ r.
-        let book = bookOf desk (rowsOf (now (held .entry)) (now (kinds .entry)) (now (units .entry))) in
+        let book = bookOf scalars (rowsOf (now (held .entry)) (now (kinds .entry)) (now (units .entry))) in
         let trades = tradesOf (now (table .entry)) in
         let next = step (now (calendar .entry)) book trades (Known event) in
         ⌜ (appliedAt r (rowsOf (now (held .exit)) (now (kinds .exit)) (now (units .exit))) ≡ appliedOf next)
         × (tradesOf (now (table .exit)) ≡ next .table) ⌝ }
 {
     match event {
-        Event::Open => open::open(calendar, desk, table),
-        Event::FundIn(account, amount) => funds::fund_in(desk, account, amount),
-        Event::FundOut(account, amount) => funds::fund_out(desk, account, amount),
-        Event::Size(sheets) => size::set_size(desk, known.outstanding, sheets),
-        Event::Rate(kind, rate) => rate::set_rate(desk, held, kind, rate),
-        Event::Pledge(kind, amount) => pledge::pledge(desk, held, kind, amount),
-        Event::Freeze(kind, amount) => freeze::freeze(desk, held, kind, amount),
+        Event::Open => open::open(calendar, scalars, table),
+        Event::FundIn(account, amount) => funds::fund_in(scalars, account, amount),
+        Event::FundOut(account, amount) => funds::fund_out(scalars, account, amount),
+        Event::Size(sheets) => size::set_size(scalars, known.outstanding, sheets),
+        Event::Rate(kind, rate) => rate::set_rate(scalars, held, kind, rate),
+        Event::Pledge(kind, amount) => pledge::pledge(scalars, held, kind, amount),
+        Event::Freeze(kind, amount) => freeze::freeze(scalars, held, kind, amount),
         Event::Withdraw(kind, amount) => withdraw::withdraw(
-            desk,
+            scalars,
             &*held,
             kinds,
             units,
             kind,
             amount,
         ),
-        Event::Initial(terms) => initial::initial(calendar, desk, &*held, table, known, terms),
+        Event::Initial(terms) => initial::initial(calendar, scalars, &*held, table, known, terms),
         Event::Early(contract, count, price) => early::early(
             calendar,
-            desk,
+            scalars,
             table,
             contract,
             count,
             price,
         ),
-        Event::Pay => pay::pay(desk),
-        Event::Close => close::close(calendar, desk, held, kinds, units, table),
+        Event::Pay => pay::pay(scalars),
+        Event::Close => close::close(calendar, scalars, held, kinds, units, table),
     }
 }
 
 // One entry on a fit book.
 pub fn entry_on(
     calendar: &[u32],
-    desk: Desk,
+    scalars: Scalars,
     held: &mut [u64],
     kinds: &mut [u8],
     units: &mut [u64],
@@ -82,16 +82,16 @@ pub fn entry_on(
     known: KnownFigures,
     entry: Entry,
 ) -> Done
-    requires { ⌜ CountedWhole (now calendar) desk (now held) (now kinds) (now units) (tradesOf (now table)) known ⌝ }
+    requires { ⌜ CountedWhole (now calendar) scalars (now held) (now kinds) (now units) (tradesOf (now table)) known ⌝ }
     ensures { λ r.
-        let book = bookOf desk (rowsOf (now (held .entry)) (now (kinds .entry)) (now (units .entry))) in
+        let book = bookOf scalars (rowsOf (now (held .entry)) (now (kinds .entry)) (now (units .entry))) in
         let trades = tradesOf (now (table .entry)) in
         let next = step (now (calendar .entry)) book trades entry in
         ⌜ (appliedAt r (rowsOf (now (held .exit)) (now (kinds .exit)) (now (units .exit))) ≡ appliedOf next)
         × (tradesOf (now (table .exit)) ≡ next .table) ⌝ }
 {
     match entry {
-        Entry::Known(event) => event_on(calendar, desk, held, kinds, units, table, known, event),
-        Entry::Undecodable => done::answered(2, desk),
+        Entry::Known(event) => event_on(calendar, scalars, held, kinds, units, table, known, event),
+        Entry::Undecodable => done::answered(2, scalars),
     }
 }

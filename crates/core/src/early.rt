@@ -12,24 +12,24 @@ use crate::nets;
 use crate::redemption;
 use crate::redemption::Redeemed;
 use crate::trades;
-use desk::done;
-use desk::done::Done;
-use desk::standing;
-use desk::state::Desk;
 use money::limits::PRICE_LIMIT;
 use money::units::Sheets;
 use money::units::Ticks;
 use rules::trade::Contract;
+use scalars::done;
+use scalars::done::Done;
+use scalars::standing;
+use scalars::state::Scalars;
 
 // Whether today is at or past the due day of the trade at a place.
-fn past_due(desk: Desk, table: &[u64], place: usize, contract: Contract) -> bool
-    requires { ⌜ (HasSlots (now table) (desk .trades)) × (place ≡ placeOf contract (tradesTo (now table) (desk .trades))) ⌝ }
-    ensures { λ r. ⌜ ((rows : Rows) → r ≡ pastDue (bookOf desk rows) (tradesOf (now (table .entry))) contract) ⌝ }
+fn past_due(scalars: Scalars, table: &[u64], place: usize, contract: Contract) -> bool
+    requires { ⌜ (HasSlots (now table) (scalars .trades)) × (place ≡ placeOf contract (tradesTo (now table) (scalars .trades))) ⌝ }
+    ensures { λ r. ⌜ ((rows : Rows) → r ≡ pastDue (bookOf scalars rows) (tradesOf (now (table .entry))) contract) ⌝ }
 {
-    if place >= desk.trades {
+    if place >= scalars.trades {
         return false;
     }
-    let standing = desk.standing;
+    let standing = scalars.standing;
     let day = standing.day;
     flat::due_at(table, place) <= days::day_number(day)
 }
@@ -37,19 +37,19 @@ fn past_due(desk: Desk, table: &[u64], place: usize, contract: Contract) -> bool
 // What sheets of the trade at a place are redeemed for, from its first payment day to today's.
 fn early_plan(
     calendar: &[u32],
-    desk: Desk,
+    scalars: Scalars,
     table: &[u64],
     place: usize,
     contract: Contract,
     count: Sheets,
     price: Ticks,
 ) -> Redeemed
-    requires { ⌜ (Running (now calendar) desk (now table) place contract price) × (count .0 ≤ tradeLimit) ⌝ }
+    requires { ⌜ (Running (now calendar) scalars (now table) place contract price) × (count .0 ≤ tradeLimit) ⌝ }
     ensures { λ r.
         ⌜ ((rows : Rows) →
-        r ≡ earlyOf (now (calendar .entry)) (bookOf desk rows) (tradesOf (now (table .entry))) contract count price) ⌝ }
+        r ≡ earlyOf (now (calendar .entry)) (bookOf scalars rows) (tradesOf (now (table .entry))) contract count price) ⌝ }
 {
-    let standing = desk.standing;
+    let standing = scalars.standing;
     let day = standing.day;
     let payment = days::payment_day(calendar, day);
     Redeemed {
@@ -60,10 +60,10 @@ fn early_plan(
 
 // The causes, group by group as the rules have them: when sheets may be redeemed and how many at which price, the contract's
 // trade, and what is taken from it.
-fn order_refusal(desk: Desk, count: Sheets, price: Ticks) -> u8
-    ensures { λ r. ⌜ ((rows : Rows) → r ≡ numberOf (firstOf (orderCauses (bookOf desk rows) count price))) ⌝ }
+fn order_refusal(scalars: Scalars, count: Sheets, price: Ticks) -> u8
+    ensures { λ r. ⌜ ((rows : Rows) → r ≡ numberOf (firstOf (orderCauses (bookOf scalars rows) count price))) ⌝ }
 {
-    let standing = desk.standing;
+    let standing = scalars.standing;
     if !standing::is_trading(standing) {
         return 4;
     }
@@ -79,14 +79,14 @@ fn order_refusal(desk: Desk, count: Sheets, price: Ticks) -> u8
     0
 }
 
-fn named_refusal(desk: Desk, table: &[u64], place: usize, contract: Contract) -> u8
-    requires { ⌜ (HasSlots (now table) (desk .trades)) × (place ≡ placeOf contract (tradesTo (now table) (desk .trades))) ⌝ }
-    ensures { λ r. ⌜ ((rows : Rows) → r ≡ numberOf (firstOf (namedCauses (bookOf desk rows) (tradesOf (now (table .entry))) contract))) ⌝ }
+fn named_refusal(scalars: Scalars, table: &[u64], place: usize, contract: Contract) -> u8
+    requires { ⌜ (HasSlots (now table) (scalars .trades)) × (place ≡ placeOf contract (tradesTo (now table) (scalars .trades))) ⌝ }
+    ensures { λ r. ⌜ ((rows : Rows) → r ≡ numberOf (firstOf (namedCauses (bookOf scalars rows) (tradesOf (now (table .entry))) contract))) ⌝ }
 {
-    if past_due(desk, table, place, contract) {
+    if past_due(scalars, table, place, contract) {
         return 9;
     }
-    if place >= desk.trades {
+    if place >= scalars.trades {
         return 10;
     }
     0
@@ -94,23 +94,23 @@ fn named_refusal(desk: Desk, table: &[u64], place: usize, contract: Contract) ->
 
 fn take_refusal(
     calendar: &[u32],
-    desk: Desk,
+    scalars: Scalars,
     table: &[u64],
     place: usize,
     contract: Contract,
     count: Sheets,
     price: Ticks,
 ) -> u8
-    requires { ⌜ Running (now calendar) desk (now table) place contract price ⌝ }
+    requires { ⌜ Running (now calendar) scalars (now table) place contract price ⌝ }
     ensures { λ r.
         ⌜ ((rows : Rows) →
-        r ≡ numberOf (firstOf (takeCauses (now (calendar .entry)) (bookOf desk rows) (tradesOf (now (table .entry))) contract count price))) ⌝ }
+        r ≡ numberOf (firstOf (takeCauses (now (calendar .entry)) (bookOf scalars rows) (tradesOf (now (table .entry))) contract count price))) ⌝ }
 {
     if flat::sheets_at(table, place) < count.0 {
         return 13;
     }
-    let nets = desk.nets;
-    let plan = early_plan(calendar, desk, table, place, contract, count, price);
+    let nets = scalars.nets;
+    let plan = early_plan(calendar, scalars, table, place, contract, count, price);
     if nets::over_plus(nets, plan.amount) {
         return 14;
     }
@@ -119,59 +119,59 @@ fn take_refusal(
 
 fn early_refusal(
     calendar: &[u32],
-    desk: Desk,
+    scalars: Scalars,
     table: &[u64],
     place: usize,
     contract: Contract,
     count: Sheets,
     price: Ticks,
 ) -> u8
-    requires { ⌜ Named (now calendar) desk (now table) place contract ⌝ }
+    requires { ⌜ Named (now calendar) scalars (now table) place contract ⌝ }
     ensures { λ r.
         let trades = tradesOf (now (table .entry)) in
         ⌜ ((rows : Rows) →
-        let book = bookOf desk rows in
+        let book = bookOf scalars rows in
         let cause = firstOf (earlyCauses (now (calendar .entry)) book trades contract count price) in
         r ≡ numberOf cause) ⌝ }
 {
-    let as_ordered = order_refusal(desk, count, price);
+    let as_ordered = order_refusal(scalars, count, price);
     if as_ordered != 0 {
         return as_ordered;
     }
-    let of_that_name = named_refusal(desk, table, place, contract);
+    let of_that_name = named_refusal(scalars, table, place, contract);
     if of_that_name != 0 {
         return of_that_name;
     }
-    take_refusal(calendar, desk, table, place, contract, count, price)
+    take_refusal(calendar, scalars, table, place, contract, count, price)
 }
 
 pub fn early(
     calendar: &[u32],
-    desk: Desk,
+    scalars: Scalars,
     table: &mut [u64],
     contract: Contract,
     count: Sheets,
     price: Ticks,
 ) -> Done
-    requires { ⌜ Fits (now calendar) desk (tradesOf (now table)) ⌝ }
+    requires { ⌜ Fits (now calendar) scalars (tradesOf (now table)) ⌝ }
     ensures { λ r.
         let trades = tradesOf (now (table .entry)) in
         ⌜ ((rows : Rows) →
-        let book = bookOf desk rows in
+        let book = bookOf scalars rows in
         let cause = firstOf (earlyCauses (now (calendar .entry)) book trades contract count price) in
         (appliedAt r rows ≡ appliedBy cause book (earlyBook (now (calendar .entry)) book trades contract count price))
         × (tradesOf (now (table .exit)) ≡ tableBy cause trades (earlyTable book trades contract count))) ⌝ }
 {
-    let place = trades::place_of(&*table, desk.trades, contract);
-    let refusal = early_refusal(calendar, desk, &*table, place, contract, count, price);
+    let place = trades::place_of(&*table, scalars.trades, contract);
+    let refusal = early_refusal(calendar, scalars, &*table, place, contract, count, price);
     if refusal != 0 {
-        return done::answered(refusal, desk);
+        return done::answered(refusal, scalars);
     }
-    let plan = early_plan(calendar, desk, &*table, place, contract, count, price);
+    let plan = early_plan(calendar, scalars, &*table, place, contract, count, price);
     let left = flat::sheets_at(&*table, place) - plan.sheets.0;
     flat::put_sheets(table, place, left);
-    let nets = desk.nets;
-    let mut next = desk;
+    let nets = scalars.nets;
+    let mut next = scalars;
     next.nets = nets::today_plus(nets, plan.amount);
     done::answered(0, next)
 }

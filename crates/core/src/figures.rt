@@ -5,9 +5,9 @@ ghost use Rattle.core.specs.Figures.{CountedHeld, figuresAt, Moved, Move
 ghost use Rattle.core.specs.Flat.{FitsHeld, tradesOf};
 use crate::trades;
 use crate::vault;
-use desk::state::Desk;
 use rules::event::Entry;
 use rules::event::Event;
+use scalars::state::Scalars;
 
 pub struct Figures {
     pub outstanding: u64,
@@ -27,13 +27,13 @@ pub struct KnownFigures {
 }
 
 // Counted, over the trades in use and all kinds.
-pub fn figures_of(calendar: &[u32], desk: Desk, held: &[u64], table: &[u64]) -> Figures
-    requires { ⌜ FitsHeld (now calendar) desk (now held) (tradesOf (now table)) ⌝ }
-    ensures { λ r. ⌜ r ≡ figuresAt desk (now (held .entry)) (tradesOf (now (table .entry))) ⌝ }
+pub fn figures_of(calendar: &[u32], scalars: Scalars, held: &[u64], table: &[u64]) -> Figures
+    requires { ⌜ FitsHeld (now calendar) scalars (now held) (tradesOf (now table)) ⌝ }
+    ensures { λ r. ⌜ r ≡ figuresAt scalars (now (held .entry)) (tradesOf (now (table .entry))) ⌝ }
 {
-    let guarantee = desk.guarantee;
+    let guarantee = scalars.guarantee;
     Figures {
-        outstanding: trades::outstanding_of(table, desk.trades),
+        outstanding: trades::outstanding_of(table, scalars.trades),
         value: vault::value_of(held, guarantee),
     }
 }
@@ -41,15 +41,15 @@ pub fn figures_of(calendar: &[u32], desk: Desk, held: &[u64], table: &[u64]) -> 
 // Both, with V counted only where it is not known.
 pub fn figures_known(
     calendar: &[u32],
-    desk: Desk,
+    scalars: Scalars,
     held: &[u64],
     table: &[u64],
     known: KnownFigures,
 ) -> Figures
-    requires { ⌜ CountedHeld (now calendar) desk (now held) (tradesOf (now table)) known ⌝ }
-    ensures { λ r. ⌜ r ≡ figuresAt desk (now (held .entry)) (tradesOf (now (table .entry))) ⌝ }
+    requires { ⌜ CountedHeld (now calendar) scalars (now held) (tradesOf (now table)) known ⌝ }
+    ensures { λ r. ⌜ r ≡ figuresAt scalars (now (held .entry)) (tradesOf (now (table .entry))) ⌝ }
 {
-    let guarantee = desk.guarantee;
+    let guarantee = scalars.guarantee;
     let value = known.value;
     match value {
         KnownValue::Counted(number) => Figures {
@@ -64,13 +64,19 @@ pub fn figures_known(
 }
 
 // The vault has changed, and the table has not.
-fn revalued(calendar: &[u32], before: Figures, desk: Desk, held: &[u64], table: &[u64]) -> Figures
+fn revalued(
+    calendar: &[u32],
+    before: Figures,
+    scalars: Scalars,
+    held: &[u64],
+    table: &[u64],
+) -> Figures
     requires { let trades = tradesOf (now table) in
-        ⌜ (FitsHeld (now calendar) desk (now held) trades)
-        × (outstanding (inUse (desk .trades) trades) ≡ before .outstanding) ⌝ }
-    ensures { λ r. ⌜ r ≡ figuresAt desk (now (held .entry)) (tradesOf (now (table .entry))) ⌝ }
+        ⌜ (FitsHeld (now calendar) scalars (now held) trades)
+        × (outstanding (inUse (scalars .trades) trades) ≡ before .outstanding) ⌝ }
+    ensures { λ r. ⌜ r ≡ figuresAt scalars (now (held .entry)) (tradesOf (now (table .entry))) ⌝ }
 {
-    let guarantee = desk.guarantee;
+    let guarantee = scalars.guarantee;
     Figures {
         outstanding: before.outstanding,
         value: vault::value_of(held, guarantee),
@@ -82,26 +88,26 @@ fn figures_moved(
     calendar: &[u32],
     before: Figures,
     event: Event,
-    desk: Desk,
+    scalars: Scalars,
     held: &[u64],
     table: &[u64],
 ) -> Figures
     requires { let trades = tradesOf (now table) in
-        ⌜ (FitsHeld (now calendar) desk (now held) trades)
-        × (Moved event before (figuresAt desk (now held) trades)) ⌝ }
-    ensures { λ r. ⌜ r ≡ figuresAt desk (now (held .entry)) (tradesOf (now (table .entry))) ⌝ }
+        ⌜ (FitsHeld (now calendar) scalars (now held) trades)
+        × (Moved event before (figuresAt scalars (now held) trades)) ⌝ }
+    ensures { λ r. ⌜ r ≡ figuresAt scalars (now (held .entry)) (tradesOf (now (table .entry))) ⌝ }
 {
     match event {
         Event::Open => Figures {
-            outstanding: trades::outstanding_of(table, desk.trades),
+            outstanding: trades::outstanding_of(table, scalars.trades),
             value: before.value,
         },
         Event::FundIn(_, _) => before,
         Event::FundOut(_, _) => before,
         Event::Size(_) => before,
-        Event::Rate(_, _) => revalued(calendar, before, desk, held, table),
-        Event::Pledge(_, _) => revalued(calendar, before, desk, held, table),
-        Event::Freeze(_, _) => revalued(calendar, before, desk, held, table),
+        Event::Rate(_, _) => revalued(calendar, before, scalars, held, table),
+        Event::Pledge(_, _) => revalued(calendar, before, scalars, held, table),
+        Event::Freeze(_, _) => revalued(calendar, before, scalars, held, table),
         Event::Withdraw(_, _) => before,
         Event::Initial(terms) => Figures {
             outstanding: before.outstanding + terms.sheets.0,
@@ -112,7 +118,7 @@ fn figures_moved(
             value: before.value,
         },
         Event::Pay => before,
-        Event::Close => figures_of(calendar, desk, held, table),
+        Event::Close => figures_of(calendar, scalars, held, table),
     }
 }
 
@@ -122,20 +128,20 @@ pub fn figures_after(
     before: Figures,
     entry: Entry,
     number: u8,
-    desk: Desk,
+    scalars: Scalars,
     held: &[u64],
     table: &[u64],
 ) -> Figures
     requires { let trades = tradesOf (now table) in
-        ⌜ (FitsHeld (now calendar) desk (now held) trades)
-        × (MovedBy entry number before (figuresAt desk (now held) trades)) ⌝ }
-    ensures { λ r. ⌜ r ≡ figuresAt desk (now (held .entry)) (tradesOf (now (table .entry))) ⌝ }
+        ⌜ (FitsHeld (now calendar) scalars (now held) trades)
+        × (MovedBy entry number before (figuresAt scalars (now held) trades)) ⌝ }
+    ensures { λ r. ⌜ r ≡ figuresAt scalars (now (held .entry)) (tradesOf (now (table .entry))) ⌝ }
 {
     if number != 0 {
         return before;
     }
     match entry {
-        Entry::Known(event) => figures_moved(calendar, before, event, desk, held, table),
+        Entry::Known(event) => figures_moved(calendar, before, event, scalars, held, table),
         Entry::Undecodable => before,
     }
 }

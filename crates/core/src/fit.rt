@@ -19,13 +19,13 @@ use crate::nets;
 use crate::trades;
 use crate::trades::Summary;
 use crate::vault;
-use desk::standing;
-use desk::state::Desk;
 use rules::book::Day;
 use rules::book::Nets;
 use rules::book::Standing;
 use rules::limits::CAPACITY_LIMIT;
 use rules::limits::SIZE_LIMIT;
+use scalars::standing;
+use scalars::state::Scalars;
 
 fn capacity_fit(count: usize, table: &[u64]) -> bool
     ensures { λ r. ⌜ r ≡ capacityFit count (tradesOf (now (table .entry))) ⌝ }
@@ -96,7 +96,7 @@ fn day_fit(calendar: &[u32], standing: Standing, count: usize, latest: u32) -> b
 // The tests after those of the vault, the cash and the sheets.
 fn others_fit(
     calendar: &[u32],
-    desk: Desk,
+    scalars: Scalars,
     kinds: &[u8],
     units: &[u64],
     table: &[u64],
@@ -105,36 +105,36 @@ fn others_fit(
     requires { ⌜ (length (now calendar) ≤ calendarLimit)
         × (length (now kinds) ≡ applicationLimit)
         × (length (now units) ≡ applicationLimit)
-        × (Kept (now table) (desk .trades))
-        × (latest ≡ latestFirst (tradesTo (now table) (desk .trades))) ⌝ }
+        × (Kept (now table) (scalars .trades))
+        × (latest ≡ latestFirst (tradesTo (now table) (scalars .trades))) ⌝ }
     ensures { λ r.
-        let trades = tradesTo (now (table .entry)) (desk .trades) in
+        let trades = tradesTo (now (table .entry)) (scalars .trades) in
         ⌜ r ≡ every
-        (netsFit (desk .nets)
+        (netsFit (scalars .nets)
         ∷ differ trades
-        ∷ withdrawalsFit (record { kinds = now (kinds .entry); units = now (units .entry); count = desk .applications })
-        ∷ dayFit (now (calendar .entry)) (desk .standing .day) (desk .standing .phase) trades (desk .trades)
+        ∷ withdrawalsFit (record { kinds = now (kinds .entry); units = now (units .entry); count = scalars .applications })
+        ∷ dayFit (now (calendar .entry)) (scalars .standing .day) (scalars .standing .phase) trades (scalars .trades)
         ∷ []) ⌝ }
 {
-    let nets = desk.nets;
+    let nets = scalars.nets;
     if !nets_fit(nets) {
         return false;
     }
-    let count = desk.trades;
+    let count = scalars.trades;
     if !trades::contracts_differ(table, count) {
         return false;
     }
-    if !vault::withdrawals_fit(kinds, units, desk.applications) {
+    if !vault::withdrawals_fit(kinds, units, scalars.applications) {
         return false;
     }
-    let standing = desk.standing;
+    let standing = scalars.standing;
     day_fit(calendar, standing, count, latest)
 }
 
 // The tests of a table with room for its trades, from what one walk over these summary.
 fn is_fit(
     calendar: &[u32],
-    desk: Desk,
+    scalars: Scalars,
     held: &[u64],
     kinds: &[u8],
     units: &[u64],
@@ -142,18 +142,18 @@ fn is_fit(
     summary: Summary,
 ) -> bool
     requires { ⌜ (RowsLong (now calendar) (now held) (now kinds) (now units))
-        × (capacityFit (desk .trades) (tradesOf (now table)) ≡ true)
-        × (summary ≡ summaryOf (tradesTo (now table) (desk .trades))) ⌝ }
+        × (capacityFit (scalars .trades) (tradesOf (now table)) ≡ true)
+        × (summary ≡ summaryOf (tradesTo (now table) (scalars .trades))) ⌝ }
     ensures { λ r.
-        let book = bookOf desk (rowsOf (now (held .entry)) (now (kinds .entry)) (now (units .entry))) in
+        let book = bookOf scalars (rowsOf (now (held .entry)) (now (kinds .entry)) (now (units .entry))) in
         let trades = tradesOf (now (table .entry)) in
         ⌜ r ≡ fit (now (calendar .entry)) book trades ⌝ }
 {
     if !vault::securities_fit(held) {
         return false;
     }
-    let cash = desk.cash;
-    let guarantee = desk.guarantee;
+    let cash = scalars.cash;
+    let guarantee = scalars.guarantee;
     if !vault::cash_fit(cash, guarantee) {
         return false;
     }
@@ -161,10 +161,10 @@ fn is_fit(
     if !within {
         return false;
     }
-    if !size_fit(desk.size.0, summary.outstanding) {
+    if !size_fit(scalars.size.0, summary.outstanding) {
         return false;
     }
-    others_fit(calendar, desk, kinds, units, table, summary.latest)
+    others_fit(calendar, scalars, kinds, units, table, summary.latest)
 }
 
 // Whether a book is fit, and O of one that is, since the test counts it.
@@ -175,7 +175,7 @@ pub struct Fitness {
 
 pub fn fitness_of(
     calendar: &[u32],
-    desk: Desk,
+    scalars: Scalars,
     held: &[u64],
     kinds: &[u8],
     units: &[u64],
@@ -184,10 +184,10 @@ pub fn fitness_of(
     requires { ⌜ RowsLong (now calendar) (now held) (now kinds) (now units) ⌝ }
     ensures { λ r.
         let trades = tradesOf (now (table .entry)) in
-        ⌜ (r .fit ≡ fit (now (calendar .entry)) (bookOf desk (rowsOf (now (held .entry)) (now (kinds .entry)) (now (units .entry)))) trades)
-        × (r .fit ≡ true → r .outstanding ≡ outstandingAt desk trades) ⌝ }
+        ⌜ (r .fit ≡ fit (now (calendar .entry)) (bookOf scalars (rowsOf (now (held .entry)) (now (kinds .entry)) (now (units .entry)))) trades)
+        × (r .fit ≡ true → r .outstanding ≡ outstandingAt scalars trades) ⌝ }
 {
-    let count = desk.trades;
+    let count = scalars.trades;
     if !capacity_fit(count, table) {
         return Fitness {
             fit: false,
@@ -196,7 +196,7 @@ pub fn fitness_of(
     }
     let summary = trades::summary_of(table, count);
     Fitness {
-        fit: is_fit(calendar, desk, held, kinds, units, table, summary),
+        fit: is_fit(calendar, scalars, held, kinds, units, table, summary),
         outstanding: summary.outstanding,
     }
 }

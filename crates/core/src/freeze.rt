@@ -8,22 +8,22 @@ ghost use Rattle.rules.specs.Freeze.{freezeCauses, frozen, withFrozen, cashFroz
 ghost use Rattle.core.specs.Flat.{securityIn, securitiesOf, rowsOf, bookOf, appliedBy, appliedAt, heldLength};
 use crate::held;
 use crate::vault;
-use desk::done;
-use desk::done::Done;
-use desk::state::Desk;
 use money::units::Fen;
 use rules::book::Guarantee;
+use scalars::done;
+use scalars::done::Done;
+use scalars::state::Scalars;
 
-fn freeze_refusal(desk: Desk, held: &[u64], kind: u8, units: u64) -> u8
+fn freeze_refusal(scalars: Scalars, held: &[u64], kind: u8, units: u64) -> u8
     requires { ⌜ length (now held) ≡ heldLength ⌝ }
     ensures { λ r.
         ⌜ ((kinds amounts : List ℕ) →
-        r ≡ numberOf (firstOf (freezeCauses (bookOf desk (rowsOf (now (held .entry)) kinds amounts)) kind units))) ⌝ }
+        r ≡ numberOf (firstOf (freezeCauses (bookOf scalars (rowsOf (now (held .entry)) kinds amounts)) kind units))) ⌝ }
 {
     if kind > 32 {
         return 3;
     }
-    let guarantee = desk.guarantee;
+    let guarantee = scalars.guarantee;
     if vault::effective_of(held, guarantee, kind) < units {
         return 13;
     }
@@ -52,24 +52,24 @@ fn cash_frozen(guarantee: Guarantee, units: u64) -> Guarantee
     }
 }
 
-pub fn freeze(desk: Desk, held: &mut [u64], kind: u8, units: u64) -> Done
+pub fn freeze(scalars: Scalars, held: &mut [u64], kind: u8, units: u64) -> Done
     requires { ⌜ length (now held) ≡ heldLength ⌝ }
     ensures { λ r.
         ⌜ ((kinds amounts : List ℕ) →
-        let book = bookOf desk (rowsOf (now (held .entry)) kinds amounts) in
+        let book = bookOf scalars (rowsOf (now (held .entry)) kinds amounts) in
         let cause = firstOf (freezeCauses book kind units) in
         appliedAt r (rowsOf (now (held .exit)) kinds amounts) ≡ appliedBy cause book (frozen book kind units)) ⌝ }
 {
-    let refusal = freeze_refusal(desk, &*held, kind, units);
+    let refusal = freeze_refusal(scalars, &*held, kind, units);
     if refusal != 0 {
-        return done::answered(refusal, desk);
+        return done::answered(refusal, scalars);
     }
     if kind == 32 {
-        let guarantee = desk.guarantee;
-        let mut next = desk;
+        let guarantee = scalars.guarantee;
+        let mut next = scalars;
         next.guarantee = cash_frozen(guarantee, units);
         return done::answered(0, next);
     }
     put_frozen(held, kind, units);
-    done::answered(0, desk)
+    done::answered(0, scalars)
 }

@@ -5,13 +5,13 @@ ghost use Rattle.money.specs.Causes.{firstOf, numberOf};
 ghost use Rattle.rules.specs.Fit.{cashFit};
 ghost use Rattle.rules.specs.Funds.{holds, withAccount, fundInCauses, fundedIn, fundOutCauses, fundedOut};
 ghost use Rattle.core.specs.Flat.{Rows, bookOf, appliedBy, appliedAt};
-use desk::done;
-use desk::done::Done;
-use desk::state::Desk;
 use money::limits::CASH_LIMIT;
 use money::units::Fen;
 use rules::book::Cash;
 use rules::event::Account;
+use scalars::done;
+use scalars::done::Done;
+use scalars::state::Scalars;
 
 fn balance(account: Account, cash: Cash) -> u64
     ensures { λ r. ⌜ r ≡ holds account cash ⌝ }
@@ -37,65 +37,65 @@ fn with_account(account: Account, sum: u64, cash: Cash) -> Cash
     }
 }
 
-fn fund_in_refusal(desk: Desk, account: Account, amount: Fen) -> u8
-    requires { ⌜ cashFit (desk .cash) (desk .guarantee) ≡ true ⌝ }
-    ensures { λ r. ⌜ ((rows : Rows) → r ≡ numberOf (firstOf (fundInCauses (bookOf desk rows) account amount))) ⌝ }
+fn fund_in_refusal(scalars: Scalars, account: Account, amount: Fen) -> u8
+    requires { ⌜ cashFit (scalars .cash) (scalars .guarantee) ≡ true ⌝ }
+    ensures { λ r. ⌜ ((rows : Rows) → r ≡ numberOf (firstOf (fundInCauses (bookOf scalars rows) account amount))) ⌝ }
 {
     if amount.0 == 0 {
         return 7;
     }
-    let cash = desk.cash.own.0
-        + desk.cash.client.0
-        + desk.guarantee.effective.0
-        + desk.guarantee.arriving.0;
+    let cash = scalars.cash.own.0
+        + scalars.cash.client.0
+        + scalars.guarantee.effective.0
+        + scalars.guarantee.arriving.0;
     if CASH_LIMIT - cash < amount.0 {
         return 14;
     }
     0
 }
 
-pub fn fund_in(desk: Desk, account: Account, amount: Fen) -> Done
-    requires { ⌜ cashFit (desk .cash) (desk .guarantee) ≡ true ⌝ }
+pub fn fund_in(scalars: Scalars, account: Account, amount: Fen) -> Done
+    requires { ⌜ cashFit (scalars .cash) (scalars .guarantee) ≡ true ⌝ }
     ensures { λ r.
         ⌜ ((rows : Rows) →
-        let book = bookOf desk rows in
+        let book = bookOf scalars rows in
         appliedAt r rows ≡ appliedBy (firstOf (fundInCauses book account amount)) book (fundedIn book account amount)) ⌝ }
 {
-    let refusal = fund_in_refusal(desk, account, amount);
+    let refusal = fund_in_refusal(scalars, account, amount);
     if refusal != 0 {
-        return done::answered(refusal, desk);
+        return done::answered(refusal, scalars);
     }
-    let cash = desk.cash;
-    let mut next = desk;
+    let cash = scalars.cash;
+    let mut next = scalars;
     next.cash = with_account(account, balance(account, cash) + amount.0, cash);
     done::answered(0, next)
 }
 
-fn fund_out_refusal(desk: Desk, account: Account, amount: Fen) -> u8
-    ensures { λ r. ⌜ ((rows : Rows) → r ≡ numberOf (firstOf (fundOutCauses (bookOf desk rows) account amount))) ⌝ }
+fn fund_out_refusal(scalars: Scalars, account: Account, amount: Fen) -> u8
+    ensures { λ r. ⌜ ((rows : Rows) → r ≡ numberOf (firstOf (fundOutCauses (bookOf scalars rows) account amount))) ⌝ }
 {
     if amount.0 == 0 {
         return 7;
     }
-    let cash = desk.cash;
+    let cash = scalars.cash;
     if balance(account, cash) < amount.0 {
         return 13;
     }
     0
 }
 
-pub fn fund_out(desk: Desk, account: Account, amount: Fen) -> Done
+pub fn fund_out(scalars: Scalars, account: Account, amount: Fen) -> Done
     ensures { λ r.
         ⌜ ((rows : Rows) →
-        let book = bookOf desk rows in
+        let book = bookOf scalars rows in
         appliedAt r rows ≡ appliedBy (firstOf (fundOutCauses book account amount)) book (fundedOut book account amount)) ⌝ }
 {
-    let refusal = fund_out_refusal(desk, account, amount);
+    let refusal = fund_out_refusal(scalars, account, amount);
     if refusal != 0 {
-        return done::answered(refusal, desk);
+        return done::answered(refusal, scalars);
     }
-    let cash = desk.cash;
-    let mut next = desk;
+    let cash = scalars.cash;
+    let mut next = scalars;
     next.cash = with_account(account, balance(account, cash) - amount.0, cash);
     done::answered(0, next)
 }

@@ -21,12 +21,6 @@ use crate::figures::KnownFigures;
 use crate::flat;
 use crate::nets;
 use crate::trades;
-use desk::done;
-use desk::done::Done;
-use desk::headroom;
-use desk::standing;
-use desk::state;
-use desk::state::Desk;
 use money::limits::PRICE_LIMIT;
 use money::limits::TRADE_LIMIT;
 use money::units::Fen;
@@ -37,6 +31,12 @@ use rules::limits::AHEAD_LIMIT;
 use rules::trade::Contract;
 use rules::trade::Terms;
 use rules::trade::Trade;
+use scalars::done;
+use scalars::done::Done;
+use scalars::headroom;
+use scalars::standing;
+use scalars::state;
+use scalars::state::Scalars;
 
 fn bad_count(count: u64) -> bool
     ensures { λ r. ⌜ r ≡ badCount count ⌝ }
@@ -98,27 +98,27 @@ fn principal_of(count: Sheets) -> Fen
 // Whether sheets are above headroom.
 fn lacks_headroom(
     calendar: &[u32],
-    desk: Desk,
+    scalars: Scalars,
     held: &[u64],
     table: &[u64],
     known: KnownFigures,
     count: u64,
 ) -> bool
-    requires { ⌜ (CountedHeld (now calendar) desk (now held) (tradesOf (now table)) known) × (count ≤ tradeLimit) ⌝ }
+    requires { ⌜ (CountedHeld (now calendar) scalars (now held) (tradesOf (now table)) known) × (count ≤ tradeLimit) ⌝ }
     ensures { λ r.
         ⌜ ((kinds units : List ℕ) →
-        r ≡ ltZ (headroom (bookOf desk (rowsOf (now (held .entry)) kinds units)) (tradesOf (now (table .entry)))) (pos count)) ⌝ }
+        r ≡ ltZ (headroom (bookOf scalars (rowsOf (now (held .entry)) kinds units)) (tradesOf (now (table .entry)))) (pos count)) ⌝ }
 {
-    let figures = figures::figures_known(calendar, desk, held, table, known);
-    headroom::above_headroom(desk.size.0, figures.value, figures.outstanding, count)
+    let figures = figures::figures_known(calendar, scalars, held, table, known);
+    headroom::above_headroom(scalars.size.0, figures.value, figures.outstanding, count)
 }
 
 // The causes, group by group as the rules have them: when a trade may begin, its prices and its due day, the table's room, and
 // headroom's and the net's.
-fn time_refusal(desk: Desk) -> u8
-    ensures { λ r. ⌜ ((rows : Rows) → r ≡ numberOf (firstOf (timeCauses (bookOf desk rows)))) ⌝ }
+fn time_refusal(scalars: Scalars) -> u8
+    ensures { λ r. ⌜ ((rows : Rows) → r ≡ numberOf (firstOf (timeCauses (bookOf scalars rows)))) ⌝ }
 {
-    let standing = desk.standing;
+    let standing = scalars.standing;
     if !standing::is_trading(standing) {
         return 4;
     }
@@ -131,16 +131,16 @@ fn time_refusal(desk: Desk) -> u8
     0
 }
 
-fn term_refusal(calendar: &[u32], desk: Desk, terms: Terms) -> u8
-    requires { ⌜ (length (now calendar) ≤ calendarLimit) × (dayNumber (desk .standing .day) < termLimit) ⌝ }
-    ensures { λ r. ⌜ ((rows : Rows) → r ≡ numberOf (firstOf (termCauses (now (calendar .entry)) (bookOf desk rows) terms))) ⌝ }
+fn term_refusal(calendar: &[u32], scalars: Scalars, terms: Terms) -> u8
+    requires { ⌜ (length (now calendar) ≤ calendarLimit) × (dayNumber (scalars .standing .day) < termLimit) ⌝ }
+    ensures { λ r. ⌜ ((rows : Rows) → r ≡ numberOf (firstOf (termCauses (now (calendar .entry)) (bookOf scalars rows) terms))) ⌝ }
 {
     let price = terms.price;
     let fallback = terms.fallback;
     if bad_prices(price, fallback) {
         return 8;
     }
-    let standing = desk.standing;
+    let standing = scalars.standing;
     let day = standing.day;
     if bad_due(calendar, day, terms.due) {
         return 9;
@@ -148,15 +148,15 @@ fn term_refusal(calendar: &[u32], desk: Desk, terms: Terms) -> u8
     0
 }
 
-fn slot_refusal(desk: Desk, table: &[u64], terms: Terms) -> u8
-    requires { ⌜ HasSlots (now table) (desk .trades) ⌝ }
-    ensures { λ r. ⌜ ((rows : Rows) → r ≡ numberOf (firstOf (slotCauses (bookOf desk rows) (tradesOf (now (table .entry))) terms))) ⌝ }
+fn slot_refusal(scalars: Scalars, table: &[u64], terms: Terms) -> u8
+    requires { ⌜ HasSlots (now table) (scalars .trades) ⌝ }
+    ensures { λ r. ⌜ ((rows : Rows) → r ≡ numberOf (firstOf (slotCauses (bookOf scalars rows) (tradesOf (now (table .entry))) terms))) ⌝ }
 {
     let contract = terms.contract;
-    if is_taken(table, desk.trades, contract) {
+    if is_taken(table, scalars.trades, contract) {
         return 10;
     }
-    if is_full(table, desk.trades) {
+    if is_full(table, scalars.trades) {
         return 11;
     }
     0
@@ -164,22 +164,22 @@ fn slot_refusal(desk: Desk, table: &[u64], terms: Terms) -> u8
 
 fn sheet_refusal(
     calendar: &[u32],
-    desk: Desk,
+    scalars: Scalars,
     held: &[u64],
     table: &[u64],
     known: KnownFigures,
     terms: Terms,
 ) -> u8
-    requires { ⌜ (CountedHeld (now calendar) desk (now held) (tradesOf (now table)) known) × (terms .sheets .0 ≤ tradeLimit) ⌝ }
+    requires { ⌜ (CountedHeld (now calendar) scalars (now held) (tradesOf (now table)) known) × (terms .sheets .0 ≤ tradeLimit) ⌝ }
     ensures { λ r.
         ⌜ ((kinds units : List ℕ) →
-        let book = bookOf desk (rowsOf (now (held .entry)) kinds units) in
+        let book = bookOf scalars (rowsOf (now (held .entry)) kinds units) in
         r ≡ numberOf (firstOf (sheetCauses book (tradesOf (now (table .entry))) terms))) ⌝ }
 {
-    if lacks_headroom(calendar, desk, held, table, known, terms.sheets.0) {
+    if lacks_headroom(calendar, scalars, held, table, known, terms.sheets.0) {
         return 12;
     }
-    let nets = desk.nets;
+    let nets = scalars.nets;
     let count = terms.sheets;
     if nets::over_less(nets, principal_of(count)) {
         return 14;
@@ -189,44 +189,44 @@ fn sheet_refusal(
 
 fn initial_refusal(
     calendar: &[u32],
-    desk: Desk,
+    scalars: Scalars,
     held: &[u64],
     table: &[u64],
     known: KnownFigures,
     terms: Terms,
 ) -> u8
-    requires { ⌜ CountedHeld (now calendar) desk (now held) (tradesOf (now table)) known ⌝ }
+    requires { ⌜ CountedHeld (now calendar) scalars (now held) (tradesOf (now table)) known ⌝ }
     ensures { λ r.
         let trades = tradesOf (now (table .entry)) in
         ⌜ ((kinds units : List ℕ) →
-        let book = bookOf desk (rowsOf (now (held .entry)) kinds units) in
+        let book = bookOf scalars (rowsOf (now (held .entry)) kinds units) in
         let cause = firstOf (initialCauses (now (calendar .entry)) book trades terms) in
         r ≡ numberOf cause) ⌝ }
 {
-    let at_this_time = time_refusal(desk);
+    let at_this_time = time_refusal(scalars);
     if at_this_time != 0 {
         return at_this_time;
     }
     if bad_count(terms.sheets.0) {
         return 7;
     }
-    let on_these_terms = term_refusal(calendar, desk, terms);
+    let on_these_terms = term_refusal(calendar, scalars, terms);
     if on_these_terms != 0 {
         return on_these_terms;
     }
-    let for_a_slot = slot_refusal(desk, table, terms);
+    let for_a_slot = slot_refusal(scalars, table, terms);
     if for_a_slot != 0 {
         return for_a_slot;
     }
-    sheet_refusal(calendar, desk, held, table, known, terms)
+    sheet_refusal(calendar, scalars, held, table, known, terms)
 }
 
 // The record of a trade that begins today.
-fn begun_trade(calendar: &[u32], desk: Desk, terms: Terms) -> Trade
+fn begun_trade(calendar: &[u32], scalars: Scalars, terms: Terms) -> Trade
     requires { ⌜ length (now calendar) ≤ calendarLimit ⌝ }
-    ensures { λ r. ⌜ ((rows : Rows) → r ≡ begun (now (calendar .entry)) (bookOf desk rows) terms) ⌝ }
+    ensures { λ r. ⌜ ((rows : Rows) → r ≡ begun (now (calendar .entry)) (bookOf scalars rows) terms) ⌝ }
 {
-    let standing = desk.standing;
+    let standing = scalars.standing;
     let day = standing.day;
     Trade {
         contract: Contract(terms.contract.0),
@@ -240,28 +240,28 @@ fn begun_trade(calendar: &[u32], desk: Desk, terms: Terms) -> Trade
 
 pub fn initial(
     calendar: &[u32],
-    desk: Desk,
+    scalars: Scalars,
     held: &[u64],
     table: &mut [u64],
     known: KnownFigures,
     terms: Terms,
 ) -> Done
-    requires { ⌜ CountedHeld (now calendar) desk (now held) (tradesOf (now table)) known ⌝ }
+    requires { ⌜ CountedHeld (now calendar) scalars (now held) (tradesOf (now table)) known ⌝ }
     ensures { λ r.
         let trades = tradesOf (now (table .entry)) in
         ⌜ ((kinds units : List ℕ) →
-        let book = bookOf desk (rowsOf (now (held .entry)) kinds units) in
+        let book = bookOf scalars (rowsOf (now (held .entry)) kinds units) in
         let cause = firstOf (initialCauses (now (calendar .entry)) book trades terms) in
         (appliedAt r (rowsOf (now (held .entry)) kinds units) ≡ appliedBy cause book (initialBook book terms))
         × (tradesOf (now (table .exit)) ≡ tableBy cause trades (initialTable (now (calendar .entry)) book trades terms))) ⌝ }
 {
-    let refusal = initial_refusal(calendar, desk, held, &*table, known, terms);
+    let refusal = initial_refusal(calendar, scalars, held, &*table, known, terms);
     if refusal != 0 {
-        return done::answered(refusal, desk);
+        return done::answered(refusal, scalars);
     }
-    let place = desk.trades;
-    flat::put_trade(table, place, begun_trade(calendar, desk, terms));
+    let place = scalars.trades;
+    flat::put_trade(table, place, begun_trade(calendar, scalars, terms));
     let count = terms.sheets;
-    let nets = nets::today_less(desk.nets, principal_of(count));
-    done::answered(0, state::with_nets_and_trades(desk, nets, place + 1))
+    let nets = nets::today_less(scalars.nets, principal_of(count));
+    done::answered(0, state::with_nets_and_trades(scalars, nets, place + 1))
 }

@@ -22,11 +22,6 @@ use crate::flat;
 use crate::layout;
 use crate::layout::HELD_LENGTH;
 use crate::run;
-use desk::done;
-use desk::done::Done;
-use desk::headroom;
-use desk::state;
-use desk::state::Desk;
 use rules::answer::Cover;
 use rules::event::Entry;
 use rules::limits::APPLICATION_LIMIT;
@@ -34,9 +29,14 @@ use rules::limits::EVENT_BYTES;
 use rules::limits::EVENT_LIMIT;
 use rules::limits::LINE_NUMBERS;
 use rules::trade::Trade;
+use scalars::done;
+use scalars::done::Done;
+use scalars::headroom;
+use scalars::state;
+use scalars::state::Scalars;
 
-fn is_whole(desk: Desk, held: &[u64], kinds: &[u8], units: &[u64], table: &[u64]) -> bool
-    ensures { λ r. ⌜ r ≡ isWhole (lent desk (now (held .entry)) (now (kinds .entry)) (now (units .entry)) (now (table .entry))) ⌝ }
+fn is_whole(scalars: Scalars, held: &[u64], kinds: &[u8], units: &[u64], table: &[u64]) -> bool
+    ensures { λ r. ⌜ r ≡ isWhole (lent scalars (now (held .entry)) (now (kinds .entry)) (now (units .entry)) (now (table .entry))) ⌝ }
 {
     if held.len() != HELD_LENGTH {
         return false;
@@ -63,31 +63,31 @@ fn not_fit() -> Fitness
 // Whether the numbers hold a fit book, and O of one that is.
 fn fitness_in(
     calendar: &[u32],
-    desk: Desk,
+    scalars: Scalars,
     held: &[u64],
     kinds: &[u8],
     units: &[u64],
     table: &[u64],
 ) -> Fitness
     ensures { λ r.
-        let before = lent desk (now (held .entry)) (now (kinds .entry)) (now (units .entry)) (now (table .entry)) in
+        let before = lent scalars (now (held .entry)) (now (kinds .entry)) (now (units .entry)) (now (table .entry)) in
         let trades = tradesOf (now (table .entry)) in
         ⌜ (r .fit ≡ fitIn (now (calendar .entry)) before)
-        × (r .fit ≡ true → r .outstanding ≡ outstandingAt desk trades) ⌝ }
+        × (r .fit ≡ true → r .outstanding ≡ outstandingAt scalars trades) ⌝ }
 {
-    if !is_whole(desk, held, kinds, units, table) {
+    if !is_whole(scalars, held, kinds, units, table) {
         return not_fit();
     }
     if state::is_too_long(calendar.len()) {
         return not_fit();
     }
-    fit::fitness_of(calendar, desk, held, kinds, units, table)
+    fit::fitness_of(calendar, scalars, held, kinds, units, table)
 }
 
 // One entry.
 pub fn apply(
     calendar: &[u32],
-    desk: Desk,
+    scalars: Scalars,
     held: &mut [u64],
     kinds: &mut [u8],
     units: &mut [u64],
@@ -95,19 +95,19 @@ pub fn apply(
     entry: Entry,
 ) -> Done
     ensures { λ r.
-        let before = lent desk (now (held .entry)) (now (kinds .entry)) (now (units .entry)) (now (table .entry)) in
-        let after = lent (r .desk) (now (held .exit)) (now (kinds .exit)) (now (units .exit)) (now (table .exit)) in
+        let before = lent scalars (now (held .entry)) (now (kinds .entry)) (now (units .entry)) (now (table .entry)) in
+        let after = lent (r .scalars) (now (held .exit)) (now (kinds .exit)) (now (units .exit)) (now (table .exit)) in
         ⌜ (outcome (r .answer) (bookIn after) (tableIn after) ≡ stepIn (now (calendar .entry)) before entry)
         × (isWhole before ≡ false → after ≡ before) ⌝ }
 {
-    let tested = fitness_in(calendar, desk, &*held, &*kinds, &*units, &*table);
+    let tested = fitness_in(calendar, scalars, &*held, &*kinds, &*units, &*table);
     let fits = tested.fit;
     if !fits {
-        return done::answered(1, desk);
+        return done::answered(1, scalars);
     }
     dispatch::entry_on(
         calendar,
-        desk,
+        scalars,
         held,
         kinds,
         units,
@@ -123,23 +123,23 @@ pub fn apply(
 // Headroom and O.
 pub fn cover(
     calendar: &[u32],
-    desk: Desk,
+    scalars: Scalars,
     held: &[u64],
     kinds: &[u8],
     units: &[u64],
     table: &[u64],
 ) -> Cover
     ensures { λ r.
-        let before = lent desk (now (held .entry)) (now (kinds .entry)) (now (units .entry)) (now (table .entry)) in
+        let before = lent scalars (now (held .entry)) (now (kinds .entry)) (now (units .entry)) (now (table .entry)) in
         ⌜ r ≡ coverIn (now (calendar .entry)) before ⌝ }
 {
-    let tested = fitness_in(calendar, desk, held, kinds, units, table);
+    let tested = fitness_in(calendar, scalars, held, kinds, units, table);
     let fits = tested.fit;
     if !fits {
         return headroom::cover_refused();
     }
-    let figures = figures::figures_of(calendar, desk, held, table);
-    cover::cover_from(desk.size.0, figures)
+    let figures = figures::figures_of(calendar, scalars, held, table);
+    cover::cover_from(scalars.size.0, figures)
 }
 
 // The lent lengths: whole events, no more than a journal's, and room for their lines.
@@ -161,13 +161,13 @@ pub fn lengths_refusal(bytes: usize, room: usize) -> u8
 // What a run leaves beside the rows, the table and its lines.
 pub struct Ended {
     pub number: u8,
-    pub desk: Desk,
+    pub scalars: Scalars,
 }
 
 // Encoded events, 40 bytes each, and a line of seven numbers for each. Fitness is tested once.
 pub fn run(
     calendar: &[u32],
-    desk: Desk,
+    scalars: Scalars,
     held: &mut [u64],
     kinds: &mut [u8],
     units: &mut [u64],
@@ -176,27 +176,27 @@ pub fn run(
     lines: &mut [u64],
 ) -> Ended
     ensures { λ r.
-        let before = lent desk (now (held .entry)) (now (kinds .entry)) (now (units .entry)) (now (table .entry)) in
-        let after = lent (r .desk) (now (held .exit)) (now (kinds .exit)) (now (units .exit)) (now (table .exit)) in
+        let before = lent scalars (now (held .entry)) (now (kinds .entry)) (now (units .entry)) (now (table .entry)) in
+        let after = lent (r .scalars) (now (held .exit)) (now (kinds .exit)) (now (units .exit)) (now (table .exit)) in
         ⌜ (record { ran = record { number = r .number; book = bookIn after }; table = tableIn after; lines = now (lines .exit) }
         ≡ runIn (now (calendar .entry)) before (now (events .entry)) (now (lines .entry)))
         × (isWhole before ≡ false → after ≡ before) ⌝ }
 {
-    let tested = fitness_in(calendar, desk, &*held, &*kinds, &*units, &*table);
+    let tested = fitness_in(calendar, scalars, &*held, &*kinds, &*units, &*table);
     let fits = tested.fit;
     if !fits {
-        return Ended { number: 1, desk };
+        return Ended { number: 1, scalars };
     }
     let refusal = lengths_refusal(events.len(), lines.len());
     if refusal != 0 {
         return Ended {
             number: refusal,
-            desk,
+            scalars,
         };
     }
     Ended {
         number: 0,
-        desk: run::run_events(calendar, desk, held, kinds, units, table, events, lines),
+        scalars: run::run_events(calendar, scalars, held, kinds, units, table, events, lines),
     }
 }
 

@@ -1,6 +1,6 @@
 // The core: the twelve events on a book and its table in lent numbers.
 
-// A whole book taken apart into a desk and rows, and put together.
+// A whole book taken apart into scalars and rows, and put together.
 pub mod split;
 
 // The calls: one event, headroom and O, a run of encoded events.

@@ -4,13 +4,11 @@ ghost use lib.ListN.{length};
 ghost use Rattle.money.specs.Causes.{firstOf, numberOf};
 ghost use Rattle.rules.specs.Book.{freshBook};
 ghost use Rattle.rules.specs.Listing.{listingOf, listingCauses, writtenBy};
-ghost use Rattle.core.specs.Flat.{deskOf};
+ghost use Rattle.core.specs.Flat.{scalarsOf};
 use crate::layout::HELD_LENGTH;
 use crate::layout::WIDTH;
 use crate::lent;
 use crate::run;
-use desk::state;
-use desk::state::Desk;
 use money::units::Fen;
 use money::units::Sheets;
 use rules::book::Cash;
@@ -24,11 +22,13 @@ use rules::book::Standing;
 use rules::book::Status;
 use rules::limits::APPLICATION_LIMIT;
 use rules::limits::JOURNAL_CAPACITY;
+use scalars::state;
+use scalars::state::Scalars;
 
-fn fresh_desk() -> Desk
-    ensures { λ r. ⌜ r ≡ deskOf freshBook ⌝ }
+fn fresh_scalars() -> Scalars
+    ensures { λ r. ⌜ r ≡ scalarsOf freshBook ⌝ }
 {
-    Desk {
+    Scalars {
         nets: Nets {
             today: 0,
             cleared: 0,
@@ -81,7 +81,7 @@ pub fn run_listing(calendar: &[u32], events: &[u8], lines: &mut [u64]) -> u8
     let mut table = [0; JOURNAL_CAPACITY * WIDTH];
     let _ = run::run_events(
         calendar,
-        fresh_desk(),
+        fresh_scalars(),
         &mut held,
         &mut kinds,
         &mut units,

@@ -10,16 +10,16 @@ ghost use Rattle.core.specs.Flat.{Rows, bookOf, Fits, Opening, Ending, a
 use crate::days;
 use crate::nets;
 use crate::redemption;
-use desk::done;
-use desk::done::Done;
-use desk::standing;
-use desk::state::Desk;
 use rules::book::FailedRun;
 use rules::book::Nets;
 use rules::book::Phase;
 use rules::book::ShortRun;
 use rules::book::Standing;
 use rules::book::Status;
+use scalars::done;
+use scalars::done::Done;
+use scalars::standing;
+use scalars::state::Scalars;
 
 // Art. 69: short of collateral, initial trades are not taken from the next day on, and are again once headroom is not below
 // zero; still short two days later, the permission ends.
@@ -97,68 +97,68 @@ fn turns_terminated(before: Standing, after: Standing) -> bool
 }
 
 // Art. 72: every trade is redeemed whole at its fallback price on the day opened, into the cleared net.
-fn with_fallbacks(calendar: &[u32], desk: Desk, table: &[u64], after: Standing) -> Nets
-    requires { ⌜ Opening (now calendar) desk (tradesOf (now table)) after ⌝ }
+fn with_fallbacks(calendar: &[u32], scalars: Scalars, table: &[u64], after: Standing) -> Nets
+    requires { ⌜ Opening (now calendar) scalars (tradesOf (now table)) after ⌝ }
     ensures { λ r.
         let trades = tradesOf (now (table .entry)) in
         ⌜ ((rows : Rows) →
-        let book = bookOf desk rows in
-        r ≡ record { today = desk .nets .today; cleared = netWithFallbacks (now (calendar .entry)) book trades }) ⌝ }
+        let book = bookOf scalars rows in
+        r ≡ record { today = scalars .nets .today; cleared = netWithFallbacks (now (calendar .entry)) book trades }) ⌝ }
 {
-    let nets = desk.nets;
+    let nets = scalars.nets;
     let day = after.day;
     let payment = days::payment_day(calendar, day);
-    let plan = redemption::termination_plan(table, desk.trades, payment);
+    let plan = redemption::termination_plan(table, scalars.trades, payment);
     nets::cleared_plus(nets, plan.amount)
 }
 
 // On turning terminated the table is emptied, unless the net would leave its limit.
-fn terminated(calendar: &[u32], desk: Desk, table: &mut [u64], after: Standing) -> Done
-    requires { ⌜ Ending (now calendar) desk (tradesOf (now table)) after ⌝ }
+fn terminated(calendar: &[u32], scalars: Scalars, table: &mut [u64], after: Standing) -> Done
+    requires { ⌜ Ending (now calendar) scalars (tradesOf (now table)) after ⌝ }
     ensures { λ r.
         let trades = tradesOf (now (table .entry)) in
         ⌜ ((rows : Rows) →
-        let book = bookOf desk rows in
+        let book = bookOf scalars rows in
         let cause = firstOf (openCauses (now (calendar .entry)) book trades) in
         (appliedAt r rows ≡ appliedBy cause book (openedBook (now (calendar .entry)) book trades))
         × (tradesOf (now (table .exit)) ≡ tableBy cause trades (openedTable book trades))) ⌝ }
 {
-    let nets = with_fallbacks(calendar, desk, &*table, after);
+    let nets = with_fallbacks(calendar, scalars, &*table, after);
     if !nets::cleared_fit(nets) {
-        return done::answered(14, desk);
+        return done::answered(14, scalars);
     }
     // every due day has 32 bits, so every trade is due by the last of them
-    redemption::redeem_due(table, desk.trades, 4_294_967_295);
-    let mut next = desk;
+    redemption::redeem_due(table, scalars.trades, 4_294_967_295);
+    let mut next = scalars;
     next.nets = nets;
     next.standing = after;
     done::answered(0, next)
 }
 
-pub fn open(calendar: &[u32], desk: Desk, table: &mut [u64]) -> Done
-    requires { ⌜ Fits (now calendar) desk (tradesOf (now table)) ⌝ }
+pub fn open(calendar: &[u32], scalars: Scalars, table: &mut [u64]) -> Done
+    requires { ⌜ Fits (now calendar) scalars (tradesOf (now table)) ⌝ }
     ensures { λ r.
         let trades = tradesOf (now (table .entry)) in
         ⌜ ((rows : Rows) →
-        let book = bookOf desk rows in
+        let book = bookOf scalars rows in
         let cause = firstOf (openCauses (now (calendar .entry)) book trades) in
         (appliedAt r rows ≡ appliedBy cause book (openedBook (now (calendar .entry)) book trades))
         × (tradesOf (now (table .exit)) ≡ tableBy cause trades (openedTable book trades))) ⌝ }
 {
-    let standing = desk.standing;
+    let standing = scalars.standing;
     if !standing::is_closed(standing) {
-        return done::answered(4, desk);
+        return done::answered(4, scalars);
     }
     let day = standing.day;
     // before 14: that one does not apply where this one does
     if !days::opens(calendar, day) {
-        return done::answered(16, desk);
+        return done::answered(16, scalars);
     }
     let after = opened_standing(calendar, standing);
     if turns_terminated(standing, after) {
-        return terminated(calendar, desk, table, after);
+        return terminated(calendar, scalars, table, after);
     }
-    let mut next = desk;
+    let mut next = scalars;
     next.standing = after;
     done::answered(0, next)
 }

@@ -10,21 +10,21 @@ ghost use Rattle.rules.specs.Fit.{netFit, netsFit, cashFit};
 ghost use Rattle.rules.specs.Pay.{payerHolds, moved, failedMore, payCauses, paidStanding, afterPay};
 ghost use Rattle.core.specs.Flat.{Rows, bookOf, paidBy, appliedAt};
 use crate::nets;
-use desk::done;
-use desk::done::Done;
-use desk::standing;
-use desk::state::Desk;
 use money::units::Fen;
 use rules::book::Cash;
 use rules::book::FailedRun;
 use rules::book::Nets;
 use rules::book::Phase;
 use rules::book::Standing;
+use scalars::done;
+use scalars::done::Done;
+use scalars::standing;
+use scalars::state::Scalars;
 
-fn pay_refusal(desk: Desk) -> u8
-    ensures { λ r. ⌜ ((rows : Rows) → r ≡ numberOf (firstOf (payCauses (bookOf desk rows)))) ⌝ }
+fn pay_refusal(scalars: Scalars) -> u8
+    ensures { λ r. ⌜ ((rows : Rows) → r ≡ numberOf (firstOf (payCauses (bookOf scalars rows)))) ⌝ }
 {
-    let standing = desk.standing;
+    let standing = scalars.standing;
     if !standing::is_trading(standing) {
         return 4;
     }
@@ -97,44 +97,44 @@ fn paid_standing(standing: Standing, failed: FailedRun) -> Standing
 }
 
 // Nothing moves, and the failed run grows.
-fn unpaid(desk: Desk) -> Desk
-    ensures { λ r. ⌜ ((rows : Rows) → bookOf r rows ≡ afterPay true (bookOf desk rows)) ⌝ }
+fn unpaid(scalars: Scalars) -> Scalars
+    ensures { λ r. ⌜ ((rows : Rows) → bookOf r rows ≡ afterPay true (bookOf scalars rows)) ⌝ }
 {
-    let standing = desk.standing;
+    let standing = scalars.standing;
     let failed = standing.failed;
-    let mut next = desk;
+    let mut next = scalars;
     next.standing = paid_standing(standing, failed_more(failed));
     next
 }
 
-fn paid(desk: Desk) -> Desk
-    requires { ⌜ (netFit (desk .nets .cleared) ≡ true)
-        × (natAbs (desk .nets .cleared) ≤ payerHolds (desk .nets .cleared) (desk .cash))
-        × (desk .cash .own .0 + desk .cash .client .0 ≤ cashLimit) ⌝ }
-    ensures { λ r. ⌜ ((rows : Rows) → bookOf r rows ≡ afterPay false (bookOf desk rows)) ⌝ }
+fn paid(scalars: Scalars) -> Scalars
+    requires { ⌜ (netFit (scalars .nets .cleared) ≡ true)
+        × (natAbs (scalars .nets .cleared) ≤ payerHolds (scalars .nets .cleared) (scalars .cash))
+        × (scalars .cash .own .0 + scalars .cash .client .0 ≤ cashLimit) ⌝ }
+    ensures { λ r. ⌜ ((rows : Rows) → bookOf r rows ≡ afterPay false (bookOf scalars rows)) ⌝ }
 {
-    let nets = desk.nets;
-    let cash = desk.cash;
-    let standing = desk.standing;
-    let mut next = desk;
+    let nets = scalars.nets;
+    let cash = scalars.cash;
+    let standing = scalars.standing;
+    let mut next = scalars;
     next.nets = nets::paid(nets);
     next.cash = cash_moved(nets, cash);
     next.standing = paid_standing(standing, FailedRun::NotFailed);
     next
 }
 
-pub fn pay(desk: Desk) -> Done
-    requires { ⌜ (netsFit (desk .nets) ≡ true) × (cashFit (desk .cash) (desk .guarantee) ≡ true) ⌝ }
-    ensures { λ r. ⌜ ((rows : Rows) → appliedAt r rows ≡ paidBy (firstOf (payCauses (bookOf desk rows))) (bookOf desk rows)) ⌝ }
+pub fn pay(scalars: Scalars) -> Done
+    requires { ⌜ (netsFit (scalars .nets) ≡ true) × (cashFit (scalars .cash) (scalars .guarantee) ≡ true) ⌝ }
+    ensures { λ r. ⌜ ((rows : Rows) → appliedAt r rows ≡ paidBy (firstOf (payCauses (bookOf scalars rows))) (bookOf scalars rows)) ⌝ }
 {
-    let refusal = pay_refusal(desk);
+    let refusal = pay_refusal(scalars);
     if refusal != 0 {
-        return done::answered(refusal, desk);
+        return done::answered(refusal, scalars);
     }
-    let nets = desk.nets;
-    let cash = desk.cash;
+    let nets = scalars.nets;
+    let cash = scalars.cash;
     if falls_short(nets, cash) {
-        return done::answered(99, unpaid(desk));
+        return done::answered(99, unpaid(scalars));
     }
-    done::answered(0, paid(desk))
+    done::answered(0, paid(scalars))
 }

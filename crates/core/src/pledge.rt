@@ -10,13 +10,13 @@ ghost use Rattle.rules.specs.Fit.{cashFit, securitiesFit};
 ghost use Rattle.rules.specs.Pledge.{pledgeCauses, pledged, arrived, cashArrived};
 ghost use Rattle.core.specs.Flat.{securityIn, securitiesOf, vaultOf, rowsOf, bookOf, appliedBy, appliedAt, heldLength};
 use crate::held;
-use desk::done;
-use desk::done::Done;
-use desk::standing;
-use desk::state::Desk;
 use money::limits::UNIT_LIMIT;
 use money::units::Fen;
 use rules::book::Guarantee;
+use scalars::done;
+use scalars::done::Done;
+use scalars::standing;
+use scalars::state::Scalars;
 
 // The units of a security, effective and arriving together.
 fn units_of(held: &[u64], guarantee: Guarantee, kind: u8) -> u64
@@ -27,16 +27,16 @@ fn units_of(held: &[u64], guarantee: Guarantee, kind: u8) -> u64
     security.effective + security.arriving
 }
 
-fn pledge_refusal(desk: Desk, held: &[u64], kind: u8, units: u64) -> u8
-    requires { ⌜ (length (now held) ≡ heldLength) × (securitiesFit (vaultOf (desk .guarantee) (securitiesOf (now held))) ≡ true) ⌝ }
+fn pledge_refusal(scalars: Scalars, held: &[u64], kind: u8, units: u64) -> u8
+    requires { ⌜ (length (now held) ≡ heldLength) × (securitiesFit (vaultOf (scalars .guarantee) (securitiesOf (now held))) ≡ true) ⌝ }
     ensures { λ r.
         ⌜ ((kinds amounts : List ℕ) →
-        r ≡ numberOf (firstOf (pledgeCauses (bookOf desk (rowsOf (now (held .entry)) kinds amounts)) kind units))) ⌝ }
+        r ≡ numberOf (firstOf (pledgeCauses (bookOf scalars (rowsOf (now (held .entry)) kinds amounts)) kind units))) ⌝ }
 {
     if kind > 32 {
         return 3;
     }
-    let standing = desk.standing;
+    let standing = scalars.standing;
     if !standing::is_trading(standing) {
         return 4;
     }
@@ -44,12 +44,12 @@ fn pledge_refusal(desk: Desk, held: &[u64], kind: u8, units: u64) -> u8
         return 7;
     }
     if kind == 32 {
-        if desk.cash.own.0 < units {
+        if scalars.cash.own.0 < units {
             return 13;
         }
         return 0;
     }
-    let guarantee = desk.guarantee;
+    let guarantee = scalars.guarantee;
     if UNIT_LIMIT - units_of(held, guarantee, kind) < units {
         return 14;
     }
@@ -79,28 +79,28 @@ fn cash_arrived(guarantee: Guarantee, units: u64) -> Guarantee
     }
 }
 
-pub fn pledge(desk: Desk, held: &mut [u64], kind: u8, units: u64) -> Done
+pub fn pledge(scalars: Scalars, held: &mut [u64], kind: u8, units: u64) -> Done
     requires { ⌜ (length (now held) ≡ heldLength)
-        × (securitiesFit (vaultOf (desk .guarantee) (securitiesOf (now held))) ≡ true)
-        × (cashFit (desk .cash) (desk .guarantee) ≡ true) ⌝ }
+        × (securitiesFit (vaultOf (scalars .guarantee) (securitiesOf (now held))) ≡ true)
+        × (cashFit (scalars .cash) (scalars .guarantee) ≡ true) ⌝ }
     ensures { λ r.
         ⌜ ((kinds amounts : List ℕ) →
-        let book = bookOf desk (rowsOf (now (held .entry)) kinds amounts) in
+        let book = bookOf scalars (rowsOf (now (held .entry)) kinds amounts) in
         let cause = firstOf (pledgeCauses book kind units) in
         appliedAt r (rowsOf (now (held .exit)) kinds amounts) ≡ appliedBy cause book (pledged book kind units)) ⌝ }
 {
-    let refusal = pledge_refusal(desk, &*held, kind, units);
+    let refusal = pledge_refusal(scalars, &*held, kind, units);
     if refusal != 0 {
-        return done::answered(refusal, desk);
+        return done::answered(refusal, scalars);
     }
     if kind == 32 {
-        let own = desk.cash.own.0 - units;
-        let guarantee = desk.guarantee;
-        let mut next = desk;
+        let own = scalars.cash.own.0 - units;
+        let guarantee = scalars.guarantee;
+        let mut next = scalars;
         next.cash.own.0 = own;
         next.guarantee = cash_arrived(guarantee, units);
         return done::answered(0, next);
     }
     put_arrived(held, kind, units);
-    done::answered(0, desk)
+    done::answered(0, scalars)
 }

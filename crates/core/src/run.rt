@@ -15,13 +15,13 @@ use crate::figures::Figures;
 use crate::figures::KnownFigures;
 use crate::figures::KnownValue;
 use crate::line;
-use desk::state::Desk;
 use rules::limits::EVENT_BYTES;
 use rules::limits::LINE_NUMBERS;
+use scalars::state::Scalars;
 
-// What an event of a run leaves: the desk, and O and V for the next.
+// What an event of a run leaves: the scalars, and O and V for the next.
 struct Turn {
-    desk: Desk,
+    scalars: Scalars,
     figures: Figures,
 }
 
@@ -29,7 +29,7 @@ struct Turn {
 fn run_event(
     calendar: &[u32],
     bytes: &[u8],
-    desk: Desk,
+    scalars: Scalars,
     held: &mut [u64],
     kinds: &mut [u8],
     units: &mut [u64],
@@ -39,22 +39,22 @@ fn run_event(
     at: usize,
 ) -> Turn
     requires { let trades = tradesOf (now table) in
-        ⌜ (FitsWhole (now calendar) desk (now held) (now kinds) (now units) trades)
-        × (figures ≡ figuresAt desk (now held) trades)
+        ⌜ (FitsWhole (now calendar) scalars (now held) (now kinds) (now units) trades)
+        × (figures ≡ figuresAt scalars (now held) trades)
         × (at + lineNumbers ≤ length (now lines)) ⌝ }
     ensures { λ r.
-        let book = bookOf desk (rowsOf (now (held .entry)) (now (kinds .entry)) (now (units .entry))) in
+        let book = bookOf scalars (rowsOf (now (held .entry)) (now (kinds .entry)) (now (units .entry))) in
         let trades = tradesOf (now (table .entry)) in
         let next = step (now (calendar .entry)) book trades (decoded (now (bytes .entry))) in
-        ⌜ (bookOf (r .desk) (rowsOf (now (held .exit)) (now (kinds .exit)) (now (units .exit))) ≡ next .book)
+        ⌜ (bookOf (r .scalars) (rowsOf (now (held .exit)) (now (kinds .exit)) (now (units .exit))) ≡ next .book)
         × (tradesOf (now (table .exit)) ≡ next .table)
         × (now (lines .exit) ≡ sets (now (lines .entry)) at (lineOf next))
-        × (r .figures ≡ figuresAt (r .desk) (now (held .exit)) (tradesOf (now (table .exit)))) ⌝ }
+        × (r .figures ≡ figuresAt (r .scalars) (now (held .exit)) (tradesOf (now (table .exit)))) ⌝ }
 {
     let entry = decoder::entry::decode(bytes);
     let done = dispatch::entry_on(
         calendar,
-        desk,
+        scalars,
         held,
         kinds,
         units,
@@ -66,7 +66,7 @@ fn run_event(
         entry,
     );
     let answer = done.answer;
-    let after = done.desk;
+    let after = done.scalars;
     let next = figures::figures_after(
         calendar,
         figures,
@@ -79,7 +79,7 @@ fn run_event(
     let cover = cover::cover_from(after.size.0, next);
     line::write_line(lines, at, answer.number, cover, after.cash, after.guarantee);
     Turn {
-        desk: after,
+        scalars: after,
         figures: next,
     }
 }
@@ -87,18 +87,18 @@ fn run_event(
 // The events in order on a fit book.
 pub fn run_events(
     calendar: &[u32],
-    desk: Desk,
+    scalars: Scalars,
     held: &mut [u64],
     kinds: &mut [u8],
     units: &mut [u64],
     table: &mut [u64],
     events: &[u8],
     lines: &mut [u64],
-) -> Desk
-    requires { ⌜ (FitsWhole (now calendar) desk (now held) (now kinds) (now units) (tradesOf (now table)))
+) -> Scalars
+    requires { ⌜ (FitsWhole (now calendar) scalars (now held) (now kinds) (now units) (tradesOf (now table)))
         × (lineNumbers * (length (now events) / eventBytes) ≤ length (now lines)) ⌝ }
     ensures { λ r.
-        let book = bookOf desk (rowsOf (now (held .entry)) (now (kinds .entry)) (now (units .entry))) in
+        let book = bookOf scalars (rowsOf (now (held .entry)) (now (kinds .entry)) (now (units .entry))) in
         let trades = tradesOf (now (table .entry)) in
         let ended = runDone (now (calendar .entry)) book trades (now (events .entry)) (now (lines .entry)) in
         ⌜ (bookOf r (rowsOf (now (held .exit)) (now (kinds .exit)) (now (units .exit))) ≡ ended .ran .book)
@@ -106,15 +106,15 @@ pub fn run_events(
         × (now (lines .exit) ≡ ended .lines) ⌝ }
 {
     let count = events.len() / EVENT_BYTES;
-    let figures = figures::figures_of(calendar, desk, &*held, &*table);
-    let mut turn = Turn { desk, figures };
+    let figures = figures::figures_of(calendar, scalars, &*held, &*table);
+    let mut turn = Turn { scalars, figures };
     let mut k = 0;
     while k < count {
         let bytes = &events[k * EVENT_BYTES..k * EVENT_BYTES + EVENT_BYTES];
         turn = run_event(
             calendar,
             bytes,
-            turn.desk,
+            turn.scalars,
             held,
             kinds,
             units,
@@ -125,5 +125,5 @@ pub fn run_events(
         );
         k += 1;
     }
-    turn.desk
+    turn.scalars
 }

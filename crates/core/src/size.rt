@@ -7,11 +7,11 @@ ghost use Rattle.rules.specs.Size.{sizeCauses, sized};
 ghost use Rattle.core.specs.Types.{Book, Trade};
 ghost use Rattle.core.specs.Flat.{Rows, bookOf, appliedBy, appliedAt};
 ghost use Rattle.core.specs.Figures.{outstandingAt};
-use desk::done;
-use desk::done::Done;
-use desk::state::Desk;
 use money::units::Sheets;
 use rules::limits::SIZE_LIMIT;
+use scalars::done;
+use scalars::done::Done;
+use scalars::state::Scalars;
 
 fn size_refusal(outstanding: u64, size: Sheets) -> u8
     ensures { λ r.
@@ -27,18 +27,18 @@ fn size_refusal(outstanding: u64, size: Sheets) -> u8
     0
 }
 
-pub fn set_size(desk: Desk, outstanding: u64, size: Sheets) -> Done
+pub fn set_size(scalars: Scalars, outstanding: u64, size: Sheets) -> Done
     ensures { λ r.
         ⌜ ((rows : Rows) (table : List Trade) →
-        let book = bookOf desk rows in
-        outstanding ≡ outstandingAt desk table
+        let book = bookOf scalars rows in
+        outstanding ≡ outstandingAt scalars table
         → appliedAt r rows ≡ appliedBy (firstOf (sizeCauses book table size)) book (sized book size)) ⌝ }
 {
     let refusal = size_refusal(outstanding, size);
     if refusal != 0 {
-        return done::answered(refusal, desk);
+        return done::answered(refusal, scalars);
     }
-    let mut next = desk;
+    let mut next = scalars;
     next.size = size;
     done::answered(0, next)
 }

@@ -1,23 +1,23 @@
-// A book taken apart into a desk and rows, and put together again: once a call, not once an event.
+// A book taken apart into scalars and rows, and put together again: once a call, not once an event.
 ghost use mathlib.Core.Path.{_≡_};
 ghost use lib.ListN.{length};
-ghost use Rattle.core.specs.Flat.{securitiesOf, deskOf, rowsOf, bookOf, heldLength};
+ghost use Rattle.core.specs.Flat.{securitiesOf, scalarsOf, rowsOf, bookOf, heldLength};
 use crate::held;
-use desk::state::Desk;
 use rules::book::Book;
 use rules::book::Security;
 use rules::book::Vault;
 use rules::book::Withdrawals;
+use scalars::state::Scalars;
 
-pub fn desk_of(book: Book) -> Desk
-    ensures { λ r. ⌜ r ≡ deskOf book ⌝ }
+pub fn scalars_of(book: Book) -> Scalars
+    ensures { λ r. ⌜ r ≡ scalarsOf book ⌝ }
 {
     let nets = book.nets;
     let cash = book.cash;
     let guarantee = book.vault.guarantee;
     let size = book.size;
     let standing = book.standing;
-    Desk {
+    Scalars {
         nets,
         cash,
         guarantee,
@@ -76,14 +76,14 @@ fn securities_from(held: &[u64; 128]) -> [Security; 32]
     securities
 }
 
-pub fn book_of(desk: Desk, held: &[u64; 128], kinds: [u8; 128], units: [u64; 128]) -> Book
-    ensures { λ r. ⌜ r ≡ bookOf desk (rowsOf (now (held .entry)) kinds units) ⌝ }
+pub fn book_of(scalars: Scalars, held: &[u64; 128], kinds: [u8; 128], units: [u64; 128]) -> Book
+    ensures { λ r. ⌜ r ≡ bookOf scalars (rowsOf (now (held .entry)) kinds units) ⌝ }
 {
-    let nets = desk.nets;
-    let cash = desk.cash;
-    let guarantee = desk.guarantee;
-    let size = desk.size;
-    let standing = desk.standing;
+    let nets = scalars.nets;
+    let cash = scalars.cash;
+    let guarantee = scalars.guarantee;
+    let size = scalars.size;
+    let standing = scalars.standing;
     Book {
         nets,
         cash,
@@ -96,8 +96,8 @@ pub fn book_of(desk: Desk, held: &[u64; 128], kinds: [u8; 128], units: [u64; 128
         withdrawals: Withdrawals {
             kinds,
             units,
-            count: desk.applications,
+            count: scalars.applications,
         },
-        trades: desk.trades,
+        trades: scalars.trades,
     }
 }

@@ -8,47 +8,47 @@ ghost use Rattle.rules.specs.Vault.{effectiveOf, frozenOf};
 ghost use Rattle.rules.specs.Withdraw.{applied, withdrawCauses, withdrawn};
 ghost use Rattle.core.specs.Flat.{RowsFit, rowsOf, bookOf, appliedBy, appliedAt};
 use crate::vault;
-use desk::done;
-use desk::done::Done;
-use desk::standing;
-use desk::state::Desk;
 use rules::limits::APPLICATION_LIMIT;
+use scalars::done;
+use scalars::done::Done;
+use scalars::standing;
+use scalars::state::Scalars;
 
 // Whether the units, with those frozen and applied for, are above the effective. The units are tested first: any number may be applied for,
 // and the sum of the three is then below 2^64.
-fn lacks(desk: Desk, held: &[u64], kinds: &[u8], units: &[u64], kind: u8, amount: u64) -> bool
-    requires { ⌜ (RowsFit desk (now held) (now kinds) (now units)) × (kind ≤ 32) ⌝ }
+fn lacks(scalars: Scalars, held: &[u64], kinds: &[u8], units: &[u64], kind: u8, amount: u64) -> bool
+    requires { ⌜ (RowsFit scalars (now held) (now kinds) (now units)) × (kind ≤ 32) ⌝ }
     ensures { λ r.
-        let book = bookOf desk (rowsOf (now (held .entry)) (now (kinds .entry)) (now (units .entry))) in
+        let book = bookOf scalars (rowsOf (now (held .entry)) (now (kinds .entry)) (now (units .entry))) in
         ⌜ r ≡ ltb (effectiveOf (book .vault) kind) (amount + frozenOf (book .vault) kind + applied (book .withdrawals) kind) ⌝ }
 {
-    let guarantee = desk.guarantee;
+    let guarantee = scalars.guarantee;
     let effective = vault::effective_of(held, guarantee, kind);
     if effective < amount {
         return true;
     }
     let frozen = vault::frozen_of(held, guarantee, kind);
-    effective < amount + frozen + vault::applied_of(kinds, units, desk.applications, kind)
+    effective < amount + frozen + vault::applied_of(kinds, units, scalars.applications, kind)
 }
 
 fn withdraw_refusal(
-    desk: Desk,
+    scalars: Scalars,
     held: &[u64],
     kinds: &[u8],
     units: &[u64],
     kind: u8,
     amount: u64,
 ) -> u8
-    requires { ⌜ RowsFit desk (now held) (now kinds) (now units) ⌝ }
+    requires { ⌜ RowsFit scalars (now held) (now kinds) (now units) ⌝ }
     ensures { λ r.
-        let book = bookOf desk (rowsOf (now (held .entry)) (now (kinds .entry)) (now (units .entry))) in
+        let book = bookOf scalars (rowsOf (now (held .entry)) (now (kinds .entry)) (now (units .entry))) in
         let cause = firstOf (withdrawCauses book kind amount) in
         ⌜ r ≡ numberOf cause ⌝ }
 {
     if kind > 32 {
         return 3;
     }
-    let standing = desk.standing;
+    let standing = scalars.standing;
     if !standing::is_trading(standing) {
         return 4;
     }
@@ -58,37 +58,37 @@ fn withdraw_refusal(
     if amount == 0 {
         return 7;
     }
-    if lacks(desk, held, kinds, units, kind, amount) {
+    if lacks(scalars, held, kinds, units, kind, amount) {
         return 13;
     }
-    if desk.applications >= APPLICATION_LIMIT {
+    if scalars.applications >= APPLICATION_LIMIT {
         return 17;
     }
     0
 }
 
 pub fn withdraw(
-    desk: Desk,
+    scalars: Scalars,
     held: &[u64],
     kinds: &mut [u8],
     units: &mut [u64],
     kind: u8,
     amount: u64,
 ) -> Done
-    requires { ⌜ RowsFit desk (now held) (now kinds) (now units) ⌝ }
+    requires { ⌜ RowsFit scalars (now held) (now kinds) (now units) ⌝ }
     ensures { λ r.
-        let book = bookOf desk (rowsOf (now (held .entry)) (now (kinds .entry)) (now (units .entry))) in
+        let book = bookOf scalars (rowsOf (now (held .entry)) (now (kinds .entry)) (now (units .entry))) in
         ⌜ appliedAt r (rowsOf (now (held .entry)) (now (kinds .exit)) (now (units .exit)))
         ≡ appliedBy (firstOf (withdrawCauses book kind amount)) book (withdrawn book kind amount) ⌝ }
 {
-    let refusal = withdraw_refusal(desk, held, &*kinds, &*units, kind, amount);
+    let refusal = withdraw_refusal(scalars, held, &*kinds, &*units, kind, amount);
     if refusal != 0 {
-        return done::answered(refusal, desk);
+        return done::answered(refusal, scalars);
     }
-    let at = desk.applications;
+    let at = scalars.applications;
     kinds[at] = kind;
     units[at] = amount;
-    let mut next = desk;
+    let mut next = scalars;
     next.applications = at + 1;
     done::answered(0, next)
 }

@@ -1,4 +1,4 @@
--- Scalars that go out and come back are as they were: first a desk's, then what is well-formed.
+-- Scalars that go out and come back are as they were: first a book's, then what is well-formed.
 -- For the calls on a book in lent numbers. Assumes nothing.
 use mathlib.Core.Path.{_≡_, refl, sym}
 use mathlib.Core.Bool.{Bool, true, false, _||_}
@@ -16,7 +16,7 @@ use Rattle.rules.specs.declared.book.FailedRun.{FailedRun}
 use Rattle.rules.specs.declared.book.FailedRun.the-variants.{NotFailed, FailedOnce, FailedTwice}
 use Rattle.rules.specs.declared.book.ShortRun.{ShortRun}
 use Rattle.rules.specs.declared.book.ShortRun.the-variants.{NotShort, ShortOnce, ShortTwice, ShortThrice}
-use Rattle.desk.specs.declared.state.Desk.{Desk}
+use Rattle.scalars.specs.declared.state.Scalars.{Scalars}
 use Rattle.rules.specs.Days.{dayNumber}
 use Rattle.rules.proofs.FoldLaws.{every-holds}
 use Rattle.exports.specs.declared.codes.Codes.{Codes}
@@ -24,7 +24,7 @@ use Rattle.exports.specs.declared.raw.RawScalars.{RawScalars}
 use Rattle.exports.specs.Codes.{isWellFormed, dayAt, phaseAt, statusAt, failedAt, shortAt, standingAt, isDated, phaseNumber, statusNumber, failedNumber, shortNumber, codesOf}
 use Rattle.exports.specs.Raw.{scalarsFrom, rawOf}
 
--- ---- a desk's scalars
+-- ---- a book's scalars
 
 day-back : (day : Day) → dayAt (isDated day) (dayNumber day) ≡ day
 unfolding dayAt
@@ -56,10 +56,10 @@ short-back ShortOnce = refl
 short-back ShortTwice = refl
 short-back ShortThrice = refl
 
-pub desk-back : (desk : Desk) → scalarsFrom (rawOf desk) ≡ desk
+pub scalars-back : (scalars : Scalars) → scalarsFrom (rawOf scalars) ≡ scalars
 unfolding scalarsFrom rawOf
-desk-back desk =
-    let standing = desk .standing in
+scalars-back scalars =
+    let standing = scalars .standing in
     rw (day-back (standing .day), phase-back (standing .phase), status-back (standing .status), failed-back (standing .failed), short-back (standing .short)) refl
 
 -- ---- what is well-formed: shows what the promises mean, and no proof cites it

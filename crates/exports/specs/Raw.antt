@@ -1,13 +1,13 @@
 -- A book's scalars as C has them, for the calls on a book that is changed in place: they stand beside its lent rows.
 -- Assumes nothing.
 use Rattle.rules.specs.Book.{answer}
-use Rattle.desk.specs.declared.state.Desk.{Desk}
+use Rattle.scalars.specs.declared.state.Scalars.{Scalars}
 use Rattle.exports.specs.Codes.{standingAt, codesOf}
 use Rattle.exports.specs.declared.raw.RawScalars.{RawScalars}
 use Rattle.exports.specs.declared.raw.RawDone.{RawDone}
 use Rattle.exports.specs.declared.raw.RawEnded.{RawEnded}
 
-unfoldable pub scalarsFrom : RawScalars → Desk
+unfoldable pub scalarsFrom : RawScalars → Scalars
 scalarsFrom raw = record {
   nets = raw .nets;
   cash = raw .cash;
@@ -18,15 +18,15 @@ scalarsFrom raw = record {
   trades = raw .trades;
 }
 
-unfoldable pub rawOf : Desk → RawScalars
-rawOf desk = record {
-  nets = desk .nets;
-  cash = desk .cash;
-  guarantee = desk .guarantee;
-  size = desk .size;
-  codes = codesOf (desk .standing);
-  applications = desk .applications;
-  trades = desk .trades;
+unfoldable pub rawOf : Scalars → RawScalars
+rawOf scalars = record {
+  nets = scalars .nets;
+  cash = scalars .cash;
+  guarantee = scalars .guarantee;
+  size = scalars .size;
+  codes = codesOf (scalars .standing);
+  applications = scalars .applications;
+  trades = scalars .trades;
 }
 
 -- ---- what is not well-formed is no fit book: 1, and the scalars as they were

@@ -3,7 +3,7 @@ ghost use mathlib.Core.Path.{_≡_};
 ghost use mathlib.Core.Bool.{true, false, cond};
 ghost use Rattle.rules.specs.Entry.{decoded};
 ghost use Rattle.rules.specs.Step.{outcome};
-ghost use Rattle.rules.specs.Cover.{uncounted};
+ghost use Rattle.rules.specs.Cover.{coverRefused};
 ghost use Rattle.core.specs.Lent.{lent, bookIn, tableIn, isWhole, stepIn, coverIn, runIn};
 ghost use Rattle.exports.specs.Codes.{isWellFormed};
 ghost use Rattle.exports.specs.Raw.{scalarsFrom, rawOf, refused, refusedRun};
@@ -13,6 +13,7 @@ use crate::raw::RawDone;
 use crate::raw::RawEnded;
 use crate::raw::RawScalars;
 use rules::answer::Cover;
+use scalars::headroom;
 
 // One event, as its 40 bytes.
 #[no_mangle]
@@ -37,9 +38,9 @@ pub extern "C" fn lent_apply(
     if !codes::is_well_formed(raw.codes) {
         return raw::refused(raw);
     }
-    let desk = raw::scalars_from(raw);
+    let scalars = raw::scalars_from(raw);
     let entry = decoder::entry::decode(event);
-    let done = core::lent::apply(calendar, desk, held, kinds, units, table, entry);
+    let done = core::lent::apply(calendar, scalars, held, kinds, units, table, entry);
     raw::of_done(done)
 }
 
@@ -55,10 +56,10 @@ pub extern "C" fn lent_cover(
 ) -> Cover
     ensures { λ r.
         let before = lent (scalarsFrom raw) (now (held .entry)) (now (kinds .entry)) (now (units .entry)) (now (table .entry)) in
-        ⌜ r ≡ cond (isWellFormed (raw .codes)) (coverIn (now (calendar .entry)) before) uncounted ⌝ }
+        ⌜ r ≡ cond (isWellFormed (raw .codes)) (coverIn (now (calendar .entry)) before) coverRefused ⌝ }
 {
     if !codes::is_well_formed(raw.codes) {
-        return raw::uncounted();
+        return headroom::cover_refused();
     }
     core::lent::cover(calendar, raw::scalars_from(raw), held, kinds, units, table)
 }
@@ -88,7 +89,7 @@ pub extern "C" fn lent_run(
     if !codes::is_well_formed(raw.codes) {
         return raw::refused_run(raw);
     }
-    let desk = raw::scalars_from(raw);
-    let ended = core::lent::run(calendar, desk, held, kinds, units, table, events, lines);
+    let scalars = raw::scalars_from(raw);
+    let ended = core::lent::run(calendar, scalars, held, kinds, units, table, events, lines);
     raw::of_ended(ended)
 }

@@ -1,19 +1,17 @@
 // A book's scalars as C has them: its securities, its applications and its table are lent as rows of numbers.
 ghost use mathlib.Core.Path.{_≡_};
-ghost use Rattle.rules.specs.Cover.{uncounted};
 ghost use Rattle.exports.specs.Raw.{scalarsFrom, rawOf, refused, refusedRun};
 use crate::codes;
 use crate::codes::Codes;
 use core::lent::Ended;
-use desk::done;
-use desk::done::Done;
-use desk::state::Desk;
 use money::units::Sheets;
 use rules::answer::Answer;
-use rules::answer::Cover;
 use rules::book::Cash;
 use rules::book::Guarantee;
 use rules::book::Nets;
+use scalars::done;
+use scalars::done::Done;
+use scalars::state::Scalars;
 
 // `applications` is how many stand for the evening, `trades` how many slots of the table are in use.
 #[repr(C)]
@@ -41,14 +39,14 @@ pub struct RawEnded {
     pub raw: RawScalars,
 }
 
-pub fn scalars_from(raw: RawScalars) -> Desk
+pub fn scalars_from(raw: RawScalars) -> Scalars
     ensures { λ r. ⌜ r ≡ scalarsFrom raw ⌝ }
 {
     let nets = raw.nets;
     let cash = raw.cash;
     let guarantee = raw.guarantee;
     let size = raw.size;
-    Desk {
+    Scalars {
         nets,
         cash,
         guarantee,
@@ -59,40 +57,40 @@ pub fn scalars_from(raw: RawScalars) -> Desk
     }
 }
 
-fn raw_of(desk: Desk) -> RawScalars
-    ensures { λ r. ⌜ r ≡ rawOf desk ⌝ }
+fn raw_of(scalars: Scalars) -> RawScalars
+    ensures { λ r. ⌜ r ≡ rawOf scalars ⌝ }
 {
-    let nets = desk.nets;
-    let cash = desk.cash;
-    let guarantee = desk.guarantee;
-    let size = desk.size;
+    let nets = scalars.nets;
+    let cash = scalars.cash;
+    let guarantee = scalars.guarantee;
+    let size = scalars.size;
     RawScalars {
         nets,
         cash,
         guarantee,
         size,
-        codes: codes::codes_of(desk.standing),
-        applications: desk.applications,
-        trades: desk.trades,
+        codes: codes::codes_of(scalars.standing),
+        applications: scalars.applications,
+        trades: scalars.trades,
     }
 }
 
 pub fn of_done(done: Done) -> RawDone
-    ensures { λ r. ⌜ r ≡ record { answer = done .answer; raw = rawOf (done .desk) } ⌝ }
+    ensures { λ r. ⌜ r ≡ record { answer = done .answer; raw = rawOf (done .scalars) } ⌝ }
 {
     let answer = done.answer;
     RawDone {
         answer,
-        raw: raw_of(done.desk),
+        raw: raw_of(done.scalars),
     }
 }
 
 pub fn of_ended(ended: Ended) -> RawEnded
-    ensures { λ r. ⌜ r ≡ record { number = ended .number; raw = rawOf (ended .desk) } ⌝ }
+    ensures { λ r. ⌜ r ≡ record { number = ended .number; raw = rawOf (ended .scalars) } ⌝ }
 {
     RawEnded {
         number: ended.number,
-        raw: raw_of(ended.desk),
+        raw: raw_of(ended.scalars),
     }
 }
 
@@ -100,23 +98,14 @@ pub fn of_ended(ended: Ended) -> RawEnded
 pub fn refused(raw: RawScalars) -> RawDone
     ensures { λ r. ⌜ r ≡ refused raw ⌝ }
 {
-    let done = done::answered(1, scalars_from(raw));
-    let answer = done.answer;
-    RawDone { answer, raw }
+    RawDone {
+        answer: done::answer_of(1),
+        raw,
+    }
 }
 
 pub fn refused_run(raw: RawScalars) -> RawEnded
     ensures { λ r. ⌜ r ≡ refusedRun raw ⌝ }
 {
     RawEnded { number: 1, raw }
-}
-
-pub fn uncounted() -> Cover
-    ensures { λ r. ⌜ r ≡ uncounted ⌝ }
-{
-    Cover {
-        number: 1,
-        headroom: 0,
-        outstanding: Sheets(0),
-    }
 }

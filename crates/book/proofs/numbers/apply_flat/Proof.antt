@@ -9,8 +9,8 @@ use Rattle.core.proofs.SplitLaws.{whole}
 use Rattle.book.proofs.numbers.apply_flat.Statement.{statement}
 use Rattle.book.proofs.numbers.apply_flat.Tie as tie
 
-desk-of-requires : tie.Need-desk-of-requires
-desk-of-requires c κs = search needs
+scalars-of-requires : tie.Need-scalars-of-requires
+scalars-of-requires c κs = search needs
 
 held-of-requires : tie.Need-held-of-requires
 held-of-requires c κs = search needs
@@ -44,12 +44,12 @@ returns c =
     let units-row = c .before .before .before .before .before .before .before .before .before .before .before .before .before .before .units-of in
     let kinds-row = c .before .before .before .before .before .before .before .before .before .before .before .before .before .before .before .kinds-of in
     let held-row = c .before .before .before .before .before .before .before .before .before .before .before .before .before .before .before .before .held-of in
-    let desk = c .before .before .before .before .before .before .before .before .before .before .before .before .before .before .before .before .before .desk-of in
+    let scalars = c .before .before .before .before .before .before .before .before .before .before .before .before .before .before .before .before .before .scalars-of in
     let start = c .before .before .before .before .before .before .before .before .before .before .before .before .before .before .before .before .before .before .before .before .before .before in
     let a = start .args in
-    let l : Lent = lent (desk .result) (held-row .result) (kinds-row .result) (units-row .result) (a .table .now) in
+    let l : Lent = lent (scalars .result) (held-row .result) (kinds-row .result) (units-row .result) (a .table .now) in
     let long : Lengths l = record { held = search needs; kinds = search needs; units = search needs; table = start .pre } in
-    let same = whole (a .book) (held-row .result) (desk .ensures) (held-row .ensures) (kinds-row .ensures) (units-row .ensures) in
+    let same = whole (a .book) (held-row .result) (scalars .ensures) (held-row .ensures) (kinds-row .ensures) (units-row .ensures) in
     let told = c .before .before .before .before .before .before .before .before .before .apply .ensures .0 ∙ by-step (a .calendar .now) l (all-whole l long) (a .entry) ∙ ap (λ (book : Book). step (a .calendar .now) book (tradesOf (a .table .now)) (a .entry)) same in
     (rw (c .book-of .ensures) (ap (λ (o : Outcome). appliedOf o) told), ap (λ (o : Outcome). o .table) told)
 
@@ -57,7 +57,7 @@ pub apply-flat-spec : {M : Type 1} → statement M
 apply-flat-spec =
     tie.close
     (tie.spec
-    desk-of-requires
+    scalars-of-requires
     held-of-requires
     kinds-of-requires
     units-of-requires

@@ -26,7 +26,7 @@ module _ (s : tie.Start) where
   rows = rowsOf (s .args .held .now) (s .args .kinds .now) (s .args .units .now)
 
   abbrev book : Book
-  book = bookOf (s .args .desk) rows
+  book = bookOf (s .args .scalars) rows
 
   abbrev trades : List Trade
   trades = tradesOf (s .args .table .now)
@@ -63,10 +63,10 @@ past-first c = search needs
 abbrev paid-on : tie.After-day-number → tie.After-payment-day
 paid-on c = search needs
 
-redeemable : (c : tie.After-day-number) → Redeemable (from-day c .args .table .now) (from-day c .args .desk .trades) (paid-on c .payment-day .result)
+redeemable : (c : tie.After-day-number) → Redeemable (from-day c .args .table .now) (from-day c .args .scalars .trades) (paid-on c .payment-day .result)
 redeemable c =
     let s = from-day c in
-    subst (λ (day : ℕ). Redeemable (s .args .table .now) (s .args .desk .trades) day) (sym (paid-on c .payment-day .ensures))
+    subst (λ (day : ℕ). Redeemable (s .args .table .now) (s .args .scalars .trades) day) (sym (paid-on c .payment-day .ensures))
     (fit-redeemable (s .args .calendar .now) (book s) (s .args .table .now) (s .pre .fits) (s .pre .few))
 
 -- the plan is what matures
@@ -87,9 +87,9 @@ module _ (c : tie.After-maturity-plan) where
 
 -- today's net as (b) begins, and the cleared net after it
 with-matured : (c : tie.After-today-plus)
-    → c .today-plus .result ≡ record { today = today-net (from-plan (c .before)); cleared = from-plan (c .before) .args .desk .nets .cleared }
+    → c .today-plus .result ≡ record { today = today-net (from-plan (c .before)); cleared = from-plan (c .before) .args .scalars .nets .cleared }
 with-matured c =
-    let nets = from-plan (c .before) .args .desk .nets in
+    let nets = from-plan (c .before) .args .scalars .nets in
     c .today-plus .ensures ∙ ap (λ (amount : Fen). record { today = nets .today +ℤ pos (amount .0); cleared = nets .cleared }) (amount-matured (c .before))
 
 all-joined : (c : tie.After-joined)
@@ -102,7 +102,7 @@ all-joined c =
 abbrev from-first : tie.Else1 → tie.Start
 from-first c = search needs
 
-may-go-on : (c : tie.Else1) → not (mayClose (from-first c .args .desk .standing)) ≡ false
+may-go-on : (c : tie.Else1) → not (mayClose (from-first c .args .scalars .standing)) ≡ false
 may-go-on c = denied-not (c .before .may-close .ensures) (c .if1 .left)
 
 today-asked : (c : tie.After-today-fit)
@@ -123,7 +123,7 @@ returns : tie.Need-returns
 returns c =
     let at-may-close : tie.After-may-close = search needs in
     let s : tie.Start = search needs in
-    close-refused (s .args .calendar .now) (s .args .desk) (rows s) (left-of s) (trades s) 4 _
+    close-refused (s .args .calendar .now) (s .args .scalars) (rows s) (left-of s) (trades s) 4 _
     (not-now (s .args .calendar .now) (book s) (trades s) (denied (at-may-close .may-close .ensures) (c .before .if1 .taken)))
     (c .answered .ensures)
 
@@ -140,7 +140,7 @@ today-plus-requires : tie.Need-today-plus-requires
 today-plus-requires c κs =
     let s = from-plan c in
     let nets = fit-parts (s .args .calendar .now) (book s) (trades s) (s .pre .fits) .nets in
-    (le-leb (natAbs (s .args .desk .nets .today)) netLimit (nets .today), rw (c .maturity-plan .ensures) (maturity-bound _ _ _ (redeemable (c .before)) _))
+    (le-leb (natAbs (s .args .scalars .nets .today)) netLimit (nets .today), rw (c .maturity-plan .ensures) (maturity-bound _ _ _ (redeemable (c .before)) _))
 
 today-fit-requires : tie.Need-today-fit-requires
 today-fit-requires c κs = search needs
@@ -156,7 +156,7 @@ returns-2 c =
     let at-today-fit : tie.After-today-fit = search needs in
     let past1 : tie.Else1 = search needs in
     let s = from-today at-today-fit in
-    close-refused (s .args .calendar .now) (s .args .desk) (rows s) (left-of s) (trades s) 14 _
+    close-refused (s .args .calendar .now) (s .args .scalars) (rows s) (left-of s) (trades s) 14 _
     (today-outside (s .args .calendar .now) (book s) (trades s) (may-go-on past1) (denied (today-asked at-today-fit) (c .before .if2 .taken)))
     (c .answered2 .ensures)
 
@@ -165,7 +165,7 @@ joined-requires c κs =
     let at-today-plus : tie.After-today-plus = search needs in
     let s = from-today (c .before) in
     let nets = fit-parts (s .args .calendar .now) (book s) (trades s) (s .pre .fits) .nets in
-    (sym (c .before .today-fit .ensures) ∙ holds _ (c .if2 .left), rw (with-matured at-today-plus) (le-leb (natAbs (s .args .desk .nets .cleared)) netLimit (nets .cleared)))
+    (sym (c .before .today-fit .ensures) ∙ holds _ (c .if2 .left), rw (with-matured at-today-plus) (le-leb (natAbs (s .args .scalars .nets .cleared)) netLimit (nets .cleared)))
 
 cleared-fit-requires : tie.Need-cleared-fit-requires
 cleared-fit-requires c κs = search needs
@@ -183,7 +183,7 @@ returns-3 c =
     let at-today-fit : tie.After-today-fit = search needs in
     let past2 : tie.Else2 = search needs in
     let s = from-cleared at-cleared-fit in
-    close-refused (s .args .calendar .now) (s .args .desk) (rows s) (left-of s) (trades s) 14 _
+    close-refused (s .args .calendar .now) (s .args .scalars) (rows s) (left-of s) (trades s) 14 _
     (cleared-outside (s .args .calendar .now) (book s) (trades s) (may-go-on past1) (denied-not (today-asked at-today-fit) (past2 .if2 .left)) (denied (cleared-asked at-cleared-fit) (c .before .if3 .taken)))
     (c .answered3 .ensures)
 
@@ -198,7 +198,7 @@ closed-requires c κs =
         units-long = s .pre .units-long;
         withdrawals = fit-withdrawals (book s .withdrawals) (fits .withdrawals);
         securities = fit-securities (book s .vault) (fits .securities);
-        cash = fits-cash (s .args .desk .cash) (s .args .desk .guarantee) (fits .cash);
+        cash = fits-cash (s .args .scalars .cash) (s .args .scalars .guarantee) (fits .cash);
       },
       fit-keeps (s .args .calendar .now) (book s) (s .args .table .now) (s .pre .fits),
     )

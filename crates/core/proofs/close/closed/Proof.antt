@@ -13,7 +13,7 @@ use Rattle.core.proofs.close.closed.Tie as tie
 -- the definitions at the arguments: the book, and the trades after maturity
 module _ (s : tie.Start) where
   abbrev book : Book
-  book = bookOf (s .args .desk) (rowsOf (s .args .held .now) (s .args .kinds .now) (s .args .units .now))
+  book = bookOf (s .args .scalars) (rowsOf (s .args .held .now) (s .args .kinds .now) (s .args .units .now))
 
   abbrev trades : List Trade
   trades = tradesOf (s .args .table .now)
@@ -42,7 +42,7 @@ module _ (c : tie.After-outstanding-of) where
   abbrev from-count : tie.Start
   from-count = search needs
 
-  trades-left : tradesTo (redeemed c .redeem-due .last .0) (from-count .args .desk .trades) ≡ left-of from-count
+  trades-left : tradesTo (redeemed c .redeem-due .last .0) (from-count .args .scalars .trades) ≡ left-of from-count
   trades-left =
       let due = redeemed c in
       trades-after-maturity (book from-count) _ _ _ (due .before .day-number .ensures) (from-count .pre .1) (due .redeem-due .kept .0) (due .redeem-due .ensures)
@@ -81,8 +81,8 @@ clear-requires c κs =
     let at-evening-end : tie.After-evening-end = search needs in
     let s = from-evening at-evening-end in (s .pre .0 .kinds-long, s .pre .0 .units-long)
 
-closed-desk-requires : tie.Need-closed-desk-requires
-closed-desk-requires c κs = search needs
+closed-scalars-requires : tie.Need-closed-scalars-requires
+closed-scalars-requires c κs = search needs
 
 of-close-requires : tie.Need-of-close-requires
 of-close-requires c κs = search needs
@@ -108,13 +108,13 @@ returns c =
     let count = counted end in
     let due = redeemed count in
     let s = from-count count in
-    let desk = c .before .closed-desk in (
+    let scalars = c .before .closed-scalars in (
       (λ calendar matured nets.
           let kept = pack .ensures .0 ∙ ap (λ l. length (remaining l)) (trades-left count) in
-          let next = desk .ensures calendar _ _ (left-of s) (trades s) nets (evening-over end) (end .evening-end .ensures .1) (sheets-left count) kept in
+          let next = scalars .ensures calendar _ _ (left-of s) (trades s) nets (evening-over end) (end .evening-end .ensures .1) (sheets-left count) kept in
           rw (c .of-close .ensures)
           (close-done calendar (book s) (left-of s) (trades s) (s .args .matured) (end .evening-end .result) (securitiesOf (end .evening-end .last .1 .0))
-          (desk .result) (rowsOf (end .evening-end .last .1 .0) (clear .last .0) (clear .last .1 .0)) matured (evening-over end) (rows-cleared _ _ (clear .ensures .0) (clear .ensures .1) next))),
+          (scalars .result) (rowsOf (end .evening-end .last .1 .0) (clear .last .0) (clear .last .1 .0)) matured (evening-over end) (rows-cleared _ _ (clear .ensures .0) (clear .ensures .1) next))),
       pack .ensures .1 ∙ packed-after-maturity (book s) _ _ _ (due .before .day-number .ensures) (s .pre .1) (due .redeem-due .kept .0) (due .redeem-due .ensures),
     )
 
@@ -128,7 +128,7 @@ closed-spec =
     pack-requires
     evening-end-requires
     clear-requires
-    closed-desk-requires
+    closed-scalars-requires
     of-close-requires
     same-length
     same-length-2

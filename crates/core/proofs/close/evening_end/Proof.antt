@@ -11,7 +11,7 @@ use Rattle.core.proofs.close.evening_end.Statement.{statement}
 use Rattle.core.proofs.close.evening_end.Tie as tie
 
 abbrev book : tie.Start → Book
-book s = bookOf (s .args .desk) (rowsOf (s .args .held .now) (s .args .kinds .now) (s .args .units .now))
+book s = bookOf (s .args .scalars) (rowsOf (s .args .held .now) (s .args .kinds .now) (s .args .units .now))
 
 all-arrived-requires : tie.Need-all-arrived-requires
 all-arrived-requires c κs = search needs

@@ -12,7 +12,7 @@ use Rattle.core.proofs.StepLaws.{leaves-table, changes-table}
 use Rattle.core.proofs.dispatch.event_on.Statement.{statement}
 use Rattle.core.proofs.dispatch.event_on.Tie as tie
 
--- the book that stands in the desk and the rows, and the groups of its fitness
+-- the book that stands in the scalars and the rows, and the groups of its fitness
 module _ (s : tie.Start) where
   abbrev calendar : Calendar
   calendar = s .args .calendar .now
@@ -21,7 +21,7 @@ module _ (s : tie.Start) where
   rows = rowsOf (s .args .held .now) (s .args .kinds .now) (s .args .units .now)
 
   abbrev book : Book
-  book = bookOf (s .args .desk) rows
+  book = bookOf (s .args .scalars) rows
 
   abbrev table : List Trade
   table = tradesOf (s .args .table .now)

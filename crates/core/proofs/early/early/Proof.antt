@@ -14,8 +14,8 @@ use Rattle.core.proofs.early.early.Statement.{statement}
 use Rattle.core.proofs.early.early.Tie as tie
 
 -- the trades in use stand in the table, within their limits
-kept : (s : tie.Start) → Kept (s .args .table .now) (s .args .desk .trades)
-kept s = fit-keeps (s .args .calendar .now) (bookOf (s .args .desk) (s .pre .rows)) (s .args .table .now) (s .pre .fits)
+kept : (s : tie.Start) → Kept (s .args .table .now) (s .args .scalars .trades)
+kept s = fit-keeps (s .args .calendar .now) (bookOf (s .args .scalars) (s .pre .rows)) (s .args .table .now) (s .pre .fits)
 
 abbrev start-of : tie.Else1 → tie.Start
 start-of c = search needs
@@ -23,15 +23,15 @@ start-of c = search needs
 abbrev placed : tie.Else1 → tie.After-place-of
 placed c = search needs
 
-clear : (c : tie.Else1) (rows : Rows) → (let s = start-of c .args in firstOf (earlyCauses (s .calendar .now) (bookOf (s .desk) rows) (tradesOf (s .table .now)) (s .contract) (s .count) (s .price)) ≡ none)
+clear : (c : tie.Else1) (rows : Rows) → (let s = start-of c .args in firstOf (earlyCauses (s .calendar .now) (bookOf (s .scalars) rows) (tradesOf (s .table .now)) (s .contract) (s .count) (s .price)) ≡ none)
 clear c rows =
     let s = start-of c .args in
-    early-clear (s .calendar .now) (bookOf (s .desk) rows) _ _ _ _ _ (c .before .early-refusal .ensures rows) (c .if1 .left)
+    early-clear (s .calendar .now) (bookOf (s .scalars) rows) _ _ _ _ _ (c .before .early-refusal .ensures rows) (c .if1 .left)
 
-redeems : (c : tie.Else1) → (let s = start-of c .args in Redeems (s .table .now) (s .desk .trades) (placed c .place-of .result) (s .count) (s .price))
+redeems : (c : tie.Else1) → (let s = start-of c .args in Redeems (s .table .now) (s .scalars .trades) (placed c .place-of .result) (s .count) (s .price))
 redeems c =
     let start : tie.Start = search needs in
-    early-redeems (start .args .calendar .now) (bookOf (start .args .desk) (start .pre .rows)) _ _ _ _ _ (start .pre .fits) (placed c .place-of .ensures) (clear c (start .pre .rows))
+    early-redeems (start .args .calendar .now) (bookOf (start .args .scalars) (start .pre .rows)) _ _ _ _ _ (start .pre .fits) (placed c .place-of .ensures) (clear c (start .pre .rows))
 
 place-of-requires : tie.Need-place-of-requires
 place-of-requires c κs =
@@ -52,7 +52,7 @@ returns c rows =
     let at-early-refusal : tie.After-early-refusal = search needs in
     let s′ : tie.Start = search needs in
     let s = s′ .args in
-    let causes = earlyCauses (s .calendar .now) (bookOf (s .desk) rows) (tradesOf (s .table .now)) (s .contract) (s .count) (s .price) in
+    let causes = earlyCauses (s .calendar .now) (bookOf (s .scalars) rows) (tradesOf (s .table .now)) (s .contract) (s .count) (s .price) in
     let refusal = refused (firstOf causes) _ (at-early-refusal .early-refusal .ensures rows) (c .before .if1 .taken) in
     (turned-down causes _ rows _ _ (at-early-refusal .early-refusal .ensures rows) (c .before .if1 .taken) (c .answered .ensures) refl, rw refusal)
 
@@ -89,7 +89,7 @@ today-plus-requires c κs =
     let start : tie.Start = search needs in
     let s = start .args in
     let r = redeems past1 in
-    let book = bookOf (s .desk) (start .pre .rows) in
+    let book = bookOf (s .scalars) (start .pre .rows) in
     let most = early-at-most (s .calendar .now) book (tradesOf (s .table .now)) (s .contract) (s .count) (s .price) (start .pre .few) (r .few) (r .cheap) in
     (fit-net (s .calendar .now) book (s .table .now) (start .pre .fits), rw (at-early-plan .early-plan .ensures (start .pre .rows)) most)
 

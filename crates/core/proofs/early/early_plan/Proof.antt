@@ -13,7 +13,7 @@ payment-day-requires c κs = search needs
 redeemed-for-requires : tie.Need-redeemed-for-requires
 redeemed-for-requires c κs =
     let start : tie.Start = search needs in
-    let redeemable = fit-redeemable (start .args .calendar .now) (bookOf (start .args .desk) (start .pre .0 .named .book .rows)) (start .args .table .now) (start .pre .0 .named .book .fits) (start .pre .0 .named .book .few) in
+    let redeemable = fit-redeemable (start .args .calendar .now) (bookOf (start .args .scalars) (start .pre .0 .named .book .rows)) (start .args .table .now) (start .pre .0 .named .book .fits) (start .pre .0 .named .book .few) in
     let begun = begun-before _ _ _ redeemable _ (start .pre .0 .below) in (
       (omega (arith, redeemable .kept .room, start .pre .0 .below), start .pre .1, start .pre .0 .cheap),
       rw (c .payment-day .ensures) (begun, redeemable .term),
@@ -22,7 +22,7 @@ redeemed-for-requires c κs =
 returns : tie.Need-returns
 returns c rows =
     let start : tie.Start = search needs in
-    let own = trade-here _ _ _ _ (fit-keeps (start .args .calendar .now) (bookOf (start .args .desk) (start .pre .0 .named .book .rows)) (start .args .table .now) (start .pre .0 .named .book .fits) .room) (start .pre .0 .named .stands) (start .pre .0 .below) in
+    let own = trade-here _ _ _ _ (fit-keeps (start .args .calendar .now) (bookOf (start .args .scalars) (start .pre .0 .named .book .rows)) (start .args .table .now) (start .pre .0 .named .book .fits) .room) (start .pre .0 .named .stands) (start .pre .0 .below) in
     rw (c .redeemed-for .ensures, c .before .payment-day .ensures, own)
 
 pub early-plan-spec : {M : Type 1} → statement M

@@ -10,8 +10,8 @@ use Rattle.core.proofs.ContractLaws.{below-where-on}
 use Rattle.core.proofs.early.early_refusal.Statement.{statement}
 use Rattle.core.proofs.early.early_refusal.Tie as tie
 
-kept : (s : tie.Start) → Kept (s .args .table .now) (s .args .desk .trades)
-kept s = fit-keeps (s .args .calendar .now) (bookOf (s .args .desk) (s .pre .book .rows)) (s .args .table .now) (s .pre .book .fits)
+kept : (s : tie.Start) → Kept (s .args .table .now) (s .args .scalars .trades)
+kept s = fit-keeps (s .args .calendar .now) (bookOf (s .args .scalars) (s .pre .book .rows)) (s .args .table .now) (s .pre .book .fits)
 
 order-refusal-requires : tie.Need-order-refusal-requires
 order-refusal-requires c κs = search needs

@@ -11,8 +11,8 @@ use Rattle.core.proofs.EarlyLaws.{early-at-most}
 use Rattle.core.proofs.early.take_refusal.Statement.{statement}
 use Rattle.core.proofs.early.take_refusal.Tie as tie
 
-kept : (s : tie.Start) → Kept (s .args .table .now) (s .args .desk .trades)
-kept s = fit-keeps (s .args .calendar .now) (bookOf (s .args .desk) (s .pre .named .book .rows)) (s .args .table .now) (s .pre .named .book .fits)
+kept : (s : tie.Start) → Kept (s .args .table .now) (s .args .scalars .trades)
+kept s = fit-keeps (s .args .calendar .now) (bookOf (s .args .scalars) (s .pre .named .book .rows)) (s .args .table .now) (s .pre .named .book .fits)
 
 -- the sheets are a trade's
 module _ (c : tie.Else1) where
@@ -44,7 +44,7 @@ over-plus-requires c κs =
     let past1 : tie.Else1 = search needs in
     let s = start past1 in
     let rows = s .pre .named .book .rows in
-    let book = bookOf (s .args .desk) rows in
+    let book = bookOf (s .args .scalars) rows in
     let fits = s .pre .named .book in
     let most = early-at-most (s .args .calendar .now) book (tradesOf (s .args .table .now)) (s .args .contract) (s .args .count) (s .args .price) (fits .few) (few past1) (s .pre .cheap) in
     (fit-net (s .args .calendar .now) book (s .args .table .now) (fits .fits), rw (c .early-plan .ensures rows) most)

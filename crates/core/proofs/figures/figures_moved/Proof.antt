@@ -17,7 +17,7 @@ less a b c e = omega arith
 module _ (s : tie.Start) where
   -- O and V as they are now
   abbrev now : Figures
-  now = figuresAt (s .args .desk) (s .args .held .now) (tradesOf (s .args .table .now))
+  now = figuresAt (s .args .scalars) (s .args .held .now) (tradesOf (s .args .table .now))
 
   -- what the event tells of them, once it is known
   told : {event : Event} → s .args .event ≡ event → Moved event (s .args .before) now

@@ -12,7 +12,7 @@ returns : tie.Need-returns
 returns c =
     let s : tie.Start = search needs in
     let capacity = s .pre .1 in
-    let row = c .before .securities-fit .ensures (s .args .desk .guarantee) in
+    let row = c .before .securities-fit .ensures (s .args .scalars .guarantee) in
     by-flat-tests _ _ _ _ (search fitting depth 12)
 
 cash-fit-requires : tie.Need-cash-fit-requires
@@ -23,7 +23,7 @@ returns-2 c =
     let at-securities-fit : tie.After-securities-fit = search needs in
     let s : tie.Start = search needs in
     let capacity = s .pre .1 in
-    let row = at-securities-fit .securities-fit .ensures (s .args .desk .guarantee) in
+    let row = at-securities-fit .securities-fit .ensures (s .args .scalars .guarantee) in
     by-flat-tests _ _ _ _ (search fitting depth 12)
 
 returns-3 : tie.Need-returns-3
@@ -31,7 +31,7 @@ returns-3 c =
     let at-securities-fit : tie.After-securities-fit = search needs in
     let s : tie.Start = search needs in
     let capacity = s .pre .1 in
-    let row = at-securities-fit .securities-fit .ensures (s .args .desk .guarantee) in
+    let row = at-securities-fit .securities-fit .ensures (s .args .scalars .guarantee) in
     let each = summary-where _ _ (s .pre .2) .0 in
     by-flat-tests _ _ _ _ (search fitting depth 12)
 
@@ -43,7 +43,7 @@ returns-4 c =
     let at-securities-fit : tie.After-securities-fit = search needs in
     let s : tie.Start = search needs in
     let capacity = s .pre .1 in
-    let row = at-securities-fit .securities-fit .ensures (s .args .desk .guarantee) in
+    let row = at-securities-fit .securities-fit .ensures (s .args .scalars .guarantee) in
     let summary = summary-where _ _ (s .pre .2) in
     let each = upheld (summary .0) (c .before .before .if3 .left) in
     let size = rw (summary .1 each .0) at (c .before .size-fit .ensures) in
@@ -65,7 +65,7 @@ rows-asked c = search needs
 returns-5 : tie.Need-returns-5
 returns-5 c =
     let capacity = start c .pre .1 in
-    let row = rows-asked c .securities-fit .ensures (start c .args .desk .guarantee) in
+    let row = rows-asked c .securities-fit .ensures (start c .args .scalars .guarantee) in
     let summary = summary-where _ _ (start c .pre .2) in
     let each = upheld (summary .0) (c .before .before .before .if3 .left) in
     let size = rw (summary .1 each .0) at (c .before .before .size-fit .ensures) in

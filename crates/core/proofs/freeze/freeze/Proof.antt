@@ -19,11 +19,11 @@ use Rattle.core.proofs.freeze.freeze.Tie as tie
 abbrev start : tie.Else1 → tie.Start
 start c = search needs
 
-none-applies : (c : tie.Else1) (kinds amounts : List ℕ) → (let a = start c .args in firstOf (freezeCauses (bookOf (a .desk) (rowsOf (a .held .now) kinds amounts)) (a .kind) (a .units)) ≡ none)
+none-applies : (c : tie.Else1) (kinds amounts : List ℕ) → (let a = start c .args in firstOf (freezeCauses (bookOf (a .scalars) (rowsOf (a .held .now) kinds amounts)) (a .kind) (a .units)) ≡ none)
 unfolding eventCauses
 none-applies c kinds amounts =
     let a = start c .args in
-    done [] (bookOf (a .desk) (rowsOf (a .held .now) kinds amounts)) [] (Freeze (a .kind) (a .units)) _ (c .before .freeze-refusal .ensures kinds amounts) (c .if1 .left)
+    done [] (bookOf (a .scalars) (rowsOf (a .held .now) kinds amounts)) [] (Freeze (a .kind) (a .units)) _ (c .before .freeze-refusal .ensures kinds amounts) (c .if1 .left)
 
 known-kind : (book : Book) (kind units : ℕ) → firstOf (freezeCauses book kind units) ≡ none → kind ≤ 32
 unfolding freezeCauses
@@ -74,7 +74,7 @@ unfolding frozen
 returns-3 c kinds amounts =
     let q : tie.Else2 = search needs in
     let a = start (q .before) .args in
-    let row = security-at-row (a .held .now) (a .desk .guarantee) (a .kind) (security-kind q) in
+    let row = security-at-row (a .held .now) (a .scalars .guarantee) (a .kind) (security-kind q) in
     carried-out _ _ (rowsOf (a .held .now) kinds amounts) _ _ (none-applies (q .before) kinds amounts) (c .answered3 .ensures)
     (rw (c .before .before .before .put-frozen .ensures, ne-eqb _ _ (q .if2 .left), row))
 

@@ -18,11 +18,11 @@ use Rattle.core.proofs.Refusing.{noRows, turned-down, carried-out, done
 use Rattle.core.proofs.funds.fund_in.Statement.{statement}
 use Rattle.core.proofs.funds.fund_in.Tie as tie
 
-none-applies : (c : tie.Else1) (rows : Rows) → firstOf (fundInCauses (bookOf (c .before .before .args .desk) rows) (c .before .before .args .account) (c .before .before .args .amount)) ≡ none
+none-applies : (c : tie.Else1) (rows : Rows) → firstOf (fundInCauses (bookOf (c .before .before .args .scalars) rows) (c .before .before .args .account) (c .before .before .args .amount)) ≡ none
 unfolding eventCauses
 none-applies c rows =
     let a = c .before .before .args in
-    done [] (bookOf (a .desk) rows) [] (FundIn (a .account) (a .amount)) _ (c .before .fund-in-refusal .ensures rows) (c .if1 .left)
+    done [] (bookOf (a .scalars) rows) [] (FundIn (a .account) (a .amount)) _ (c .before .fund-in-refusal .ensures rows) (c .if1 .left)
 
 -- an account holds at most all cash, so that there is room for the amount
 room : (book : Book) (account : Account) (amount : Fen) → firstOf (fundInCauses book account amount) ≡ none → holds account (book .cash) + amount .0 ≤ cashLimit
@@ -49,7 +49,7 @@ add-with-account : tie.Need-add-with-account
 add-with-account c =
     let q = c .before .before .before in
     let a = q .before .before .args in
-    omega (arith, c .before .balance .ensures, room (bookOf (a .desk) noRows) (a .account) (a .amount) (none-applies q noRows))
+    omega (arith, c .before .balance .ensures, room (bookOf (a .scalars) noRows) (a .account) (a .amount) (none-applies q noRows))
 
 with-account-requires : tie.Need-with-account-requires
 with-account-requires c κs = search needs

@@ -10,7 +10,7 @@ use Rattle.core.proofs.funds.fund_in_refusal.Statement.{statement}
 use Rattle.core.proofs.funds.fund_in_refusal.Tie as tie
 
 -- all cash together is within its limit, so that its sum does not wrap
-cash-within : (c : tie.Start) → allCash (c .args .desk .cash) (c .args .desk .guarantee) ≤ cashLimit
+cash-within : (c : tie.Start) → allCash (c .args .scalars .cash) (c .args .scalars .guarantee) ≤ cashLimit
 cash-within c = cash-fits _ _ (c .pre) .sum
 
 returns : tie.Need-returns
@@ -39,14 +39,14 @@ returns-2 : tie.Need-returns-2
 unfolding fundInCauses
 returns-2 c rows =
     let s : tie.Start = search needs in
-    let over : cashLimit < allCash (s .args .desk .cash) (s .args .desk .guarantee) + s .args .amount .0 = omega (arith, cash-within s) in
+    let over : cashLimit < allCash (s .args .scalars .cash) (s .args .scalars .guarantee) + s .args .amount .0 = omega (arith, cash-within s) in
     search column
 
 returns-3 : tie.Need-returns-3
 unfolding fundInCauses
 returns-3 c rows =
     let s : tie.Start = search needs in
-    let room : allCash (s .args .desk .cash) (s .args .desk .guarantee) + s .args .amount .0 ≤ cashLimit = omega (arith, cash-within s) in
+    let room : allCash (s .args .scalars .cash) (s .args .scalars .guarantee) + s .args .amount .0 ≤ cashLimit = omega (arith, cash-within s) in
     search column
 
 pub fund-in-refusal-spec : {M : Type 1} → statement M

@@ -16,11 +16,11 @@ use Rattle.core.proofs.Refusing.{noRows, turned-down, carried-out, done
 use Rattle.core.proofs.funds.fund_out.Statement.{statement}
 use Rattle.core.proofs.funds.fund_out.Tie as tie
 
-none-applies : (c : tie.Else1) (rows : Rows) → firstOf (fundOutCauses (bookOf (c .before .before .args .desk) rows) (c .before .before .args .account) (c .before .before .args .amount)) ≡ none
+none-applies : (c : tie.Else1) (rows : Rows) → firstOf (fundOutCauses (bookOf (c .before .before .args .scalars) rows) (c .before .before .args .account) (c .before .before .args .amount)) ≡ none
 unfolding eventCauses
 none-applies c rows =
     let a = c .before .before .args in
-    done [] (bookOf (a .desk) rows) [] (FundOut (a .account) (a .amount)) _ (c .before .fund-out-refusal .ensures rows) (c .if1 .left)
+    done [] (bookOf (a .scalars) rows) [] (FundOut (a .account) (a .amount)) _ (c .before .fund-out-refusal .ensures rows) (c .if1 .left)
 
 covered : (book : Book) (account : Account) (amount : Fen) → firstOf (fundOutCauses book account amount) ≡ none → amount .0 ≤ holds account (book .cash)
 unfolding fundOutCauses
@@ -42,7 +42,7 @@ sub-with-account : tie.Need-sub-with-account
 sub-with-account c =
     let q = c .before .before .before in
     let a = q .before .before .args in
-    omega (arith, c .before .balance .ensures, covered (bookOf (a .desk) noRows) (a .account) (a .amount) (none-applies q noRows))
+    omega (arith, c .before .balance .ensures, covered (bookOf (a .scalars) noRows) (a .account) (a .amount) (none-applies q noRows))
 
 with-account-requires : tie.Need-with-account-requires
 with-account-requires c κs = search needs

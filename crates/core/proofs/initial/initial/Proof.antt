@@ -17,10 +17,10 @@ use Rattle.core.proofs.initial.initial.Tie as tie
 abbrev start : tie.Else1 → tie.Start
 start c = search needs
 
-clear : (c : tie.Else1) (kinds units : List ℕ) → (let a = start c .args in firstOf (initialCauses (a .calendar .now) (bookOf (a .desk) (rowsOf (a .held .now) kinds units)) (tradesOf (a .table .now)) (a .terms)) ≡ none)
+clear : (c : tie.Else1) (kinds units : List ℕ) → (let a = start c .args in firstOf (initialCauses (a .calendar .now) (bookOf (a .scalars) (rowsOf (a .held .now) kinds units)) (tradesOf (a .table .now)) (a .terms)) ≡ none)
 clear c kinds units = initial-clear _ _ _ _ _ (c .before .initial-refusal .ensures kinds units) (c .if1 .left)
 
-begins : (c : tie.Else1) → (let a = start c .args in Begins (a .calendar .now) (bookOf (a .desk) (rowsOf (a .held .now) [] [])) (a .table .now) (a .terms))
+begins : (c : tie.Else1) → (let a = start c .args in Begins (a .calendar .now) (bookOf (a .scalars) (rowsOf (a .held .now) [] [])) (a .table .now) (a .terms))
 begins c = initial-begins _ _ _ _ (clear c [] [])
 
 initial-refusal-requires : tie.Need-initial-refusal-requires
@@ -37,9 +37,9 @@ returns c kinds units =
     let at-initial-refusal : tie.After-initial-refusal = search needs in
     let s : tie.Start = search needs in
     let a = s .args in
-    let causes = initialCauses (a .calendar .now) (bookOf (a .desk) (rowsOf (a .held .now) kinds units)) (tradesOf (a .table .now)) (a .terms) in
+    let causes = initialCauses (a .calendar .now) (bookOf (a .scalars) (rowsOf (a .held .now) kinds units)) (tradesOf (a .table .now)) (a .terms) in
     let said = at-initial-refusal .initial-refusal .ensures kinds units in
-    (turned-down causes (a .desk) (rowsOf (a .held .now) kinds units) _ _ said (c .before .if1 .taken) (c .answered .ensures) refl, rw (refused (firstOf causes) _ said (c .before .if1 .taken)) refl)
+    (turned-down causes (a .scalars) (rowsOf (a .held .now) kinds units) _ _ said (c .before .if1 .taken) (c .answered .ensures) refl, rw (refused (firstOf causes) _ said (c .before .if1 .taken)) refl)
 
 begun-trade-requires : tie.Need-begun-trade-requires
 begun-trade-requires c κs = search needs

@@ -19,7 +19,7 @@ module _ (c : tie.Else2) where
   start = search needs
 
   past-count : (bs : List Cause) (n : ℕ) → n ≡ numberOf (firstOf bs)
-      → n ≡ numberOf (firstOf (timeCauses (bookOf (start .args .desk) noRows) ++ (countCauses (start .args .terms) ++ bs)))
+      → n ≡ numberOf (firstOf (timeCauses (bookOf (start .args .scalars) noRows) ++ (countCauses (start .args .terms) ++ bs)))
   past-count bs n e =
       let at-time-refusal : tie.After-time-refusal = search needs in
       let past1 : tie.Else1 = search needs in

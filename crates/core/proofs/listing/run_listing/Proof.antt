@@ -24,8 +24,8 @@ returns c =
     let s = at-start (c .before) .args in
     rw (refused (firstOf (listingCauses (length (s .calendar .now)) (length (s .events .now)) (length (s .lines .now)))) (c .before .listing-refusal .result) (c .before .listing-refusal .ensures) (c .if1 .taken)) (refl, refl)
 
-fresh-desk-requires : tie.Need-fresh-desk-requires
-fresh-desk-requires c κs = search needs
+fresh-scalars-requires : tie.Need-fresh-scalars-requires
+fresh-scalars-requires c κs = search needs
 
 slice-aggregate-run-events : tie.Need-slice-aggregate-run-events
 slice-aggregate-run-events c = search needs
@@ -42,7 +42,7 @@ slice-aggregate-run-events-4 c = search needs
 run-events-requires : tie.Need-run-events-requires
 run-events-requires c κs =
     let passed : tie.Else1 = search needs in
-    let fresh : tie.After-fresh-desk = search needs in
+    let fresh : tie.After-fresh-scalars = search needs in
     let s = at-start (passed .before) .args in
     let e = clear passed in (
       record {
@@ -50,7 +50,7 @@ run-events-requires c κs =
         kinds-long = search needs;
         units-long = search needs;
         few = words-within _ _ _ e;
-        fits = rw (fresh .fresh-desk .ensures, fresh-in-rows, journal-starts-empty) (fresh-fits (s .calendar .now));
+        fits = rw (fresh .fresh-scalars .ensures, fresh-in-rows, journal-starts-empty) (fresh-fits (s .calendar .now));
       },
       lines-fit _ _ (lengths-none _ _ _ e),
     )
@@ -61,10 +61,10 @@ same-length c = search needs
 returns-2 : tie.Need-returns-2
 returns-2 c =
     let passed : tie.Else1 = search needs in
-    let fresh : tie.After-fresh-desk = search needs in
+    let fresh : tie.After-fresh-scalars = search needs in
     let ran : tie.After-run-events = search needs in
     let s = at-start (passed .before) .args in
-    rw (clear passed) (refl, rw (fresh .fresh-desk .ensures, fresh-in-rows, journal-starts-empty, fresh-listing (s .calendar .now) (s .events .now) (s .lines .now)) at (ran .run-events .ensures .2))
+    rw (clear passed) (refl, rw (fresh .fresh-scalars .ensures, fresh-in-rows, journal-starts-empty, fresh-listing (s .calendar .now) (s .events .now) (s .lines .now)) at (ran .run-events .ensures .2))
 
 pub run-listing-spec : {M : Type 1} → statement M
 run-listing-spec =
@@ -72,7 +72,7 @@ run-listing-spec =
     (tie.spec
     listing-refusal-requires
     returns
-    fresh-desk-requires
+    fresh-scalars-requires
     slice-aggregate-run-events
     slice-aggregate-run-events-2
     slice-aggregate-run-events-3

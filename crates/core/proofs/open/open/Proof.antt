@@ -14,11 +14,11 @@ use Rattle.core.proofs.open.open.Tie as tie
 
 -- past the first two tests
 
-closed : (c : tie.Else1) → isClosed (c .before .before .before .before .before .args .desk .standing .phase) ≡ true
+closed : (c : tie.Else1) → isClosed (c .before .before .before .before .before .args .scalars .standing .phase) ≡ true
 closed c = sym (c .before .is-closed .ensures) ∙ not-false _ (c .if1 .left)
 
 abbrev hasNext : tie.Start → Bool
-hasNext s = followed (now (s .args .calendar)) (following (now (s .args .calendar)) (s .args .desk .standing .day))
+hasNext s = followed (now (s .args .calendar)) (following (now (s .args .calendar)) (s .args .scalars .standing .day))
 
 follows : (c : tie.Else2) → hasNext (c .before .before .before .before .before .before .before) ≡ true
 follows c = sym (c .before .opens .ensures) ∙ not-false _ (c .if2 .left)
@@ -33,7 +33,7 @@ returns : tie.Need-returns
 returns c rows =
     let at-is-closed : tie.After-is-closed = search needs in
     let s : tie.Start = search needs in
-    let e = not-closed (now (s .args .calendar)) (bookOf (s .args .desk) rows) (tradesOf (now (s .args .table))) (sym (at-is-closed .is-closed .ensures) ∙ not-true _ (c .before .if1 .taken)) in
+    let e = not-closed (now (s .args .calendar)) (bookOf (s .args .scalars) rows) (tradesOf (now (s .args .table))) (sym (at-is-closed .is-closed .ensures) ∙ not-true _ (c .before .if1 .taken)) in
     (rw (c .answered .ensures, e), rw e)
 
 opens-requires : tie.Need-opens-requires
@@ -46,7 +46,7 @@ returns-2 : tie.Need-returns-2
 returns-2 c rows =
     let q : tie.After-opens = search needs in
     let s : tie.Start = search needs in
-    let e = no-day-to-open (now (s .args .calendar)) (bookOf (s .args .desk) rows) (tradesOf (now (s .args .table))) (closed (q .before)) (sym (q .opens .ensures) ∙ not-true _ (c .before .if2 .taken)) in
+    let e = no-day-to-open (now (s .args .calendar)) (bookOf (s .args .scalars) rows) (tradesOf (now (s .args .table))) (closed (q .before)) (sym (q .opens .ensures) ∙ not-true _ (c .before .if2 .taken)) in
     (rw (c .answered2 .ensures, e), rw e)
 
 opened-standing-requires : tie.Need-opened-standing-requires
@@ -84,7 +84,7 @@ returns-4 c rows =
     let q : tie.Else2 = search needs in
     let s : tie.Start = search needs in
     let stays = sym (t .turns-terminated .ensures) ∙ c .before .if3 .left in
-    let e = none-unless-ended (now (s .args .calendar)) (bookOf (s .args .desk) rows) (tradesOf (now (s .args .table))) (closed past1) (follows q) stays in
+    let e = none-unless-ended (now (s .args .calendar)) (bookOf (s .args .scalars) rows) (tradesOf (now (s .args .table))) (closed past1) (follows q) stays in
     (rw (c .answered3 .ensures, e, t .before .opened-standing .ensures, stays), rw (e, stays))
 
 pub open-spec : {M : Type 1} → statement M

@@ -13,12 +13,12 @@ use Rattle.core.proofs.OpenLaws.{net-too-large, none-within-net}
 use Rattle.core.proofs.open.terminated.Statement.{statement}
 use Rattle.core.proofs.open.terminated.Tie as tie
 
--- the book that the desk is fit as
+-- the book that the scalars are fit as
 abbrev book : tie.Start → Book
-book s = bookOf (s .args .desk) (s .pre .opening .book .rows)
+book s = bookOf (s .args .scalars) (s .pre .opening .book .rows)
 
 abbrev net : tie.Start → Rows → ℤ
-net s rows = netWithFallbacks (now (s .args .calendar)) (bookOf (s .args .desk) rows) (tradesOf (now (s .args .table)))
+net s rows = netWithFallbacks (now (s .args .calendar)) (bookOf (s .args .scalars) rows) (tradesOf (now (s .args .table)))
 
 -- the code's test is of the net with every trade redeemed
 net-tested : (c : tie.After-cleared-fit) (rows : Rows) → netFit (net (c .before .before .before .before .before) rows) ≡ c .cleared-fit .result
@@ -40,7 +40,7 @@ returns : tie.Need-returns
 returns c rows =
     let q : tie.After-cleared-fit = search needs in
     let s : tie.Start = search needs in
-    let e = net-too-large (now (s .args .calendar)) (bookOf (s .args .desk) rows) (tradesOf (now (s .args .table))) (s .pre .closed) (s .pre .opening .follows) (s .pre .ended) (net-tested q rows ∙ not-true _ (c .before .if1 .taken)) in
+    let e = net-too-large (now (s .args .calendar)) (bookOf (s .args .scalars) rows) (tradesOf (now (s .args .table))) (s .pre .closed) (s .pre .opening .follows) (s .pre .ended) (net-tested q rows ∙ not-true _ (c .before .if1 .taken)) in
     (rw (c .answered .ensures, e), rw e)
 
 redeem-due-requires : tie.Need-redeem-due-requires
@@ -64,9 +64,9 @@ returns-2 c rows =
     let calendar = now (s .args .calendar) in
     let table = now (s .args .table) in
     let ended = s .pre .ended in
-    let e = none-within-net calendar (bookOf (s .args .desk) rows) (tradesOf table) (s .pre .closed) (s .pre .opening .follows) ended (net-tested q rows ∙ not-false _ (past1 .if1 .left)) in (
+    let e = none-within-net calendar (bookOf (s .args .scalars) rows) (tradesOf table) (s .pre .closed) (s .pre .opening .follows) ended (net-tested q rows ∙ not-false _ (past1 .if1 .left)) in (
       rw (c .answered2 .ensures, e, q .before .with-fallbacks .ensures rows, s .pre .opening .opened, ended),
-      r .redeem-due .ensures ∙ rw (e, ended, fit-in-use calendar (book s) table (s .pre .opening .book .fits), all-due table (s .args .desk .trades)),
+      r .redeem-due .ensures ∙ rw (e, ended, fit-in-use calendar (book s) table (s .pre .opening .book .fits), all-due table (s .args .scalars .trades)),
     )
 
 pub terminated-spec : {M : Type 1} → statement M

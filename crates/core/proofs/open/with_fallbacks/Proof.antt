@@ -12,12 +12,12 @@ use Rattle.core.proofs.OpenLaws.{redeemable-next-day}
 use Rattle.core.proofs.open.with_fallbacks.Statement.{statement}
 use Rattle.core.proofs.open.with_fallbacks.Tie as tie
 
--- the book that the desk is fit as
+-- the book that the scalars are fit as
 abbrev book : tie.Start → Book
-book s = bookOf (s .args .desk) (s .pre .book .rows)
+book s = bookOf (s .args .scalars) (s .pre .book .rows)
 
 -- the trades in use can be redeemed on the payment day of the day opened
-redeemable : (s : tie.Start) → Redeemable (now (s .args .table)) (s .args .desk .trades) (paymentDay (now (s .args .calendar)) (s .args .after .day))
+redeemable : (s : tie.Start) → Redeemable (now (s .args .table)) (s .args .scalars .trades) (paymentDay (now (s .args .calendar)) (s .args .after .day))
 redeemable s =
     rw (s .pre .opened) (redeemable-next-day (now (s .args .calendar)) (book s) (now (s .args .table)) (s .pre .book .fits) (s .pre .follows) (s .pre .book .few))
 

@@ -17,9 +17,9 @@ use Rattle.core.proofs.Refusing.{refused, done}
 use Rattle.core.proofs.pay.pay.Statement.{statement}
 use Rattle.core.proofs.pay.pay.Tie as tie
 
-none-applies : (c : tie.Else1) (rows : Rows) → firstOf (payCauses (bookOf (c .before .before .args .desk) rows)) ≡ none
+none-applies : (c : tie.Else1) (rows : Rows) → firstOf (payCauses (bookOf (c .before .before .args .scalars) rows)) ≡ none
 unfolding eventCauses
-none-applies c rows = done [] (bookOf (c .before .before .args .desk) rows) [] Pay _ (c .before .pay-refusal .ensures rows) (c .if1 .left)
+none-applies c rows = done [] (bookOf (c .before .before .args .scalars) rows) [] Pay _ (c .before .pay-refusal .ensures rows) (c .if1 .left)
 
 cleared-fits : (nets : Nets) → netsFit nets ≡ true → netFit (nets .cleared) ≡ true
 unfolding netsFit
@@ -32,7 +32,7 @@ answered-requires : tie.Need-answered-requires
 answered-requires c κs = search needs
 
 returns : tie.Need-returns
-returns c rows = rw (c .answered .ensures, refused (firstOf (payCauses (bookOf (c .before .before .before .args .desk) rows))) _ (c .before .before .pay-refusal .ensures rows) (c .before .if1 .taken))
+returns c rows = rw (c .answered .ensures, refused (firstOf (payCauses (bookOf (c .before .before .before .args .scalars) rows))) _ (c .before .before .pay-refusal .ensures rows) (c .before .if1 .taken))
 
 falls-short-requires : tie.Need-falls-short-requires
 falls-short-requires c κs =

@@ -22,11 +22,11 @@ use Rattle.core.proofs.pledge.pledge.Tie as tie
 abbrev start : tie.Else1 → tie.Start
 start c = search needs
 
-none-applies : (c : tie.Else1) (kinds amounts : List ℕ) → (let a = start c .args in firstOf (pledgeCauses (bookOf (a .desk) (rowsOf (a .held .now) kinds amounts)) (a .kind) (a .units)) ≡ none)
+none-applies : (c : tie.Else1) (kinds amounts : List ℕ) → (let a = start c .args in firstOf (pledgeCauses (bookOf (a .scalars) (rowsOf (a .held .now) kinds amounts)) (a .kind) (a .units)) ≡ none)
 unfolding eventCauses
 none-applies c kinds amounts =
     let a = start c .args in
-    done [] (bookOf (a .desk) (rowsOf (a .held .now) kinds amounts)) [] (Pledge (a .kind) (a .units)) _ (c .before .pledge-refusal .ensures kinds amounts) (c .if1 .left)
+    done [] (bookOf (a .scalars) (rowsOf (a .held .now) kinds amounts)) [] (Pledge (a .kind) (a .units)) _ (c .before .pledge-refusal .ensures kinds amounts) (c .if1 .left)
 
 -- what no cause leaves: a known kind, own cash for cash, and room for a security
 module _ (book : Book) (kind units : ℕ) (e : firstOf (pledgeCauses book kind units) ≡ none) where
@@ -44,16 +44,16 @@ module _ (book : Book) (kind units : ℕ) (e : firstOf (pledgeCauses book kind u
       let security = securityAt (book .vault) kind in
       ltb-false unitLimit (security .effective + security .arriving + units) (rw (ne-eqb kind 32 other) at (all-clear (pledgeCauses book kind units) e 14))
 
-covered : (c : tie.Then2) → (let a = start (c .before) .args in a .units ≤ a .desk .cash .own .0)
+covered : (c : tie.Then2) → (let a = start (c .before) .args in a .units ≤ a .scalars .cash .own .0)
 covered c =
     let a = start (c .before) .args in
-    owned (bookOf (a .desk) (rowsOf (a .held .now) [] [])) (a .kind) (a .units) (none-applies (c .before) [] []) (c .if2 .taken)
+    owned (bookOf (a .scalars) (rowsOf (a .held .now) [] [])) (a .kind) (a .units) (none-applies (c .before) [] []) (c .if2 .taken)
 
 -- a kind that is not cash is a security, and its row has what the vault has
 security-kind : (c : tie.Else2) → start (c .before) .args .kind < 32
 security-kind c =
     let a = start (c .before) .args in
-    omega (arith, known-kind (bookOf (a .desk) (rowsOf (a .held .now) [] [])) (a .kind) (a .units) (none-applies (c .before) [] []), c .if2 .left)
+    omega (arith, known-kind (bookOf (a .scalars) (rowsOf (a .held .now) [] [])) (a .kind) (a .units) (none-applies (c .before) [] []), c .if2 .left)
 
 pledge-refusal-requires : tie.Need-pledge-refusal-requires
 pledge-refusal-requires c κs = search needs
@@ -91,8 +91,8 @@ put-arrived-requires : tie.Need-put-arrived-requires
 put-arrived-requires c κs =
     let q = c .before in
     let a = start (q .before) .args in
-    let row = security-at-row (a .held .now) (a .desk .guarantee) (a .kind) (security-kind q) in
-    let fits = rw row at (room (bookOf (a .desk) (rowsOf (a .held .now) [] [])) (a .kind) (a .units) (none-applies (q .before) [] []) (q .if2 .left)) in
+    let row = security-at-row (a .held .now) (a .scalars .guarantee) (a .kind) (security-kind q) in
+    let fits = rw row at (room (bookOf (a .scalars) (rowsOf (a .held .now) [] [])) (a .kind) (a .units) (none-applies (q .before) [] []) (q .if2 .left)) in
     (security-kind q, start (q .before) .pre .0, omega (arith, fits))
 
 answered-requires-3 : tie.Need-answered-requires-3
@@ -106,7 +106,7 @@ unfolding pledged
 returns-3 c kinds amounts =
     let q : tie.Else2 = search needs in
     let a = start (q .before) .args in
-    let row = security-at-row (a .held .now) (a .desk .guarantee) (a .kind) (security-kind q) in
+    let row = security-at-row (a .held .now) (a .scalars .guarantee) (a .kind) (security-kind q) in
     carried-out _ _ (rowsOf (a .held .now) kinds amounts) _ _ (none-applies (q .before) kinds amounts) (c .answered3 .ensures)
     (rw (c .before .before .before .put-arrived .ensures, ne-eqb _ _ (q .if2 .left), row))
 

@@ -16,7 +16,7 @@ within : (c : tie.After-units-of) → c .units-of .result ≤ unitLimit
 within c =
     let s : tie.Start = search needs in
     let known : s .args .kind < 32 = omega arith in
-    omega (arith, c .units-of .ensures, row-fits (s .args .held .now) (s .args .desk .guarantee) (s .pre .1) (s .args .kind) known .units)
+    omega (arith, c .units-of .ensures, row-fits (s .args .held .now) (s .args .scalars .guarantee) (s .pre .1) (s .args .kind) known .units)
 
 returns : tie.Need-returns
 unfolding pledgeCauses
@@ -53,8 +53,8 @@ returns-6 c kinds amounts =
     let s : tie.Start = search needs in
     let a = s .args in
     let known : a .kind < 32 = omega arith in
-    let row = security-at-row (a .held .now) (a .desk .guarantee) (a .kind) known in
-    let security = securityAt (vaultOf (a .desk .guarantee) (securitiesOf (a .held .now))) (a .kind) in
+    let row = security-at-row (a .held .now) (a .scalars .guarantee) (a .kind) known in
+    let security = securityAt (vaultOf (a .scalars .guarantee) (securitiesOf (a .held .now))) (a .kind) in
     let over : unitLimit < security .effective + security .arriving + a .units = rw row (omega (arith, within (c .before), c .before .units-of .ensures)) in
     search column depth 20
 
@@ -64,8 +64,8 @@ returns-7 c kinds amounts =
     let s : tie.Start = search needs in
     let a = s .args in
     let known : a .kind < 32 = omega arith in
-    let row = security-at-row (a .held .now) (a .desk .guarantee) (a .kind) known in
-    let security = securityAt (vaultOf (a .desk .guarantee) (securitiesOf (a .held .now))) (a .kind) in
+    let row = security-at-row (a .held .now) (a .scalars .guarantee) (a .kind) known in
+    let security = securityAt (vaultOf (a .scalars .guarantee) (securitiesOf (a .held .now))) (a .kind) in
     let room : security .effective + security .arriving + a .units ≤ unitLimit = rw row (omega (arith, within (c .before), c .before .units-of .ensures)) in
     search column depth 20
 

@@ -19,7 +19,7 @@ none-applies : (c : tie.Else1) → (let a = c .before .before .before .args in f
 unfolding eventCauses
 none-applies c =
     let a = c .before .before .before .args in
-    done [] (bookOf (a .desk) noRows) [] (Rate (a .kind) (a .rate)) _ (c .before .rate-refusal .ensures) (c .if1 .left)
+    done [] (bookOf (a .scalars) noRows) [] (Rate (a .kind) (a .rate)) _ (c .before .rate-refusal .ensures) (c .if1 .left)
 
 security-kind : (kind rate : ℕ) → firstOf (rateCauses kind rate) ≡ none → kind < 32
 unfolding rateCauses
@@ -56,7 +56,7 @@ returns-2 c kinds units =
     let at-security-at : tie.After-security-at = search needs in
     let q : tie.Else1 = search needs in
     let a = q .before .before .before .args in
-    let here = security-at-row (a .held .now) (a .desk .guarantee) (a .kind) (security-kind _ _ (none-applies q)) in
+    let here = security-at-row (a .held .now) (a .scalars .guarantee) (a .kind) (security-kind _ _ (none-applies q)) in
     carried-out _ _ (rowsOf (a .held .now) kinds units) _ _ (none-applies q) (c .answered2 .ensures)
     (rw (c .before .before .before .put-security .ensures, at-security-at .security-at .ensures, here))
 

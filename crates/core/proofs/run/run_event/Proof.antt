@@ -24,7 +24,7 @@ module _ (c : tie.After-entry-on) where
   start = search needs
 
   abbrev left : Outcome
-  left = step (start .args .calendar .now) (bookOf (start .args .desk) (rowsOf (start .args .held .now) (start .args .kinds .now) (start .args .units .now))) (tradesOf (start .args .table .now)) (decoded (start .args .bytes .now))
+  left = step (start .args .calendar .now) (bookOf (start .args .scalars) (rowsOf (start .args .held .now) (start .args .kinds .now) (start .args .units .now))) (tradesOf (start .args .table .now)) (decoded (start .args .bytes .now))
 
   abbrev rows : Rows
   rows = rowsOf (c .entry-on .last .1 .1 .0) (c .entry-on .last .1 .1 .1 .0) (c .entry-on .last .1 .1 .1 .1 .0)
@@ -39,7 +39,7 @@ module _ (c : tie.After-entry-on) where
       let at-decode : tie.After-decode = search needs in
       rw (at-decode .decode .ensures) at (c .entry-on .ensures .1)
 
-  still-fit : fit (start .args .calendar .now) (bookOf (c .entry-on .result .desk) rows) (tradesOf (c .entry-on .last .1 .1 .1 .1 .1 .0)) ≡ true
+  still-fit : fit (start .args .calendar .now) (bookOf (c .entry-on .result .scalars) rows) (tradesOf (c .entry-on .last .1 .1 .1 .1 .1 .0)) ≡ true
   still-fit = fit-after _ _ _ _ (start .pre .0 .fits) (appliedAt (c .entry-on .result) rows) _ (c .entry-on .ensures .0) (c .entry-on .ensures .1)
 
   still-long : length (c .entry-on .last .1 .1 .0) ≡ 128
@@ -70,10 +70,10 @@ abbrev called-from : tie.After-figures-after → tie.After-entry-on
 called-from c = search needs
 
 -- the cover of what is left
-covered : (c : tie.After-cover-from) → (let called = called-from (c .before) in c .cover-from .result ≡ coverCounted (bookOf (called .entry-on .result .desk) (rows called)) (tradesOf (called .entry-on .last .1 .1 .1 .1 .1 .0)))
+covered : (c : tie.After-cover-from) → (let called = called-from (c .before) in c .cover-from .result ≡ coverCounted (bookOf (called .entry-on .result .scalars) (rows called)) (tradesOf (called .entry-on .last .1 .1 .1 .1 .1 .0)))
 covered c =
     let called = called-from (c .before) in
-    c .cover-from .ensures ∙ counted-from (bookOf (called .entry-on .result .desk) (rows called)) _ _ (c .before .figures-after .ensures)
+    c .cover-from .ensures ∙ counted-from (bookOf (called .entry-on .result .scalars) (rows called)) _ _ (c .before .figures-after .ensures)
 
 write-line-requires : tie.Need-write-line-requires
 write-line-requires c κs =

@@ -12,11 +12,11 @@ use Rattle.core.proofs.Refusing.{turned-down, carried-out, done}
 use Rattle.core.proofs.size.set_size.Statement.{statement}
 use Rattle.core.proofs.size.set_size.Tie as tie
 
-none-applies : (c : tie.Else1) (rows : Rows) (table : List Trade) → (let a = c .before .before .args in a .outstanding ≡ outstandingAt (a .desk) table → firstOf (sizeCauses (bookOf (a .desk) rows) table (a .size)) ≡ none)
+none-applies : (c : tie.Else1) (rows : Rows) (table : List Trade) → (let a = c .before .before .args in a .outstanding ≡ outstandingAt (a .scalars) table → firstOf (sizeCauses (bookOf (a .scalars) rows) table (a .size)) ≡ none)
 unfolding eventCauses
 none-applies c rows table e =
     let a = c .before .before .args in
-    done [] (bookOf (a .desk) rows) table (Size (a .size)) _ (c .before .size-refusal .ensures (bookOf (a .desk) rows) table e) (c .if1 .left)
+    done [] (bookOf (a .scalars) rows) table (Size (a .size)) _ (c .before .size-refusal .ensures (bookOf (a .scalars) rows) table e) (c .if1 .left)
 
 size-refusal-requires : tie.Need-size-refusal-requires
 size-refusal-requires c κs = search needs
@@ -27,7 +27,7 @@ answered-requires c κs = search needs
 returns : tie.Need-returns
 returns c rows table e =
     let a = c .before .before .before .args in
-    turned-down _ _ rows _ _ (c .before .before .size-refusal .ensures (bookOf (a .desk) rows) table e) (c .before .if1 .taken) (c .answered .ensures) refl
+    turned-down _ _ rows _ _ (c .before .before .size-refusal .ensures (bookOf (a .scalars) rows) table e) (c .before .if1 .taken) (c .answered .ensures) refl
 
 answered-requires-2 : tie.Need-answered-requires-2
 answered-requires-2 c κs = search needs

@@ -15,7 +15,7 @@ use Rattle.core.proofs.VaultLaws.{Sound, kind-fits, applied-bound}
 use Rattle.core.proofs.withdraw.lacks.Statement.{statement}
 use Rattle.core.proofs.withdraw.lacks.Tie as tie
 
-sound : (c : tie.Start) → Sound (vaultOf (c .args .desk .guarantee) (securitiesOf (c .args .held .now)))
+sound : (c : tie.Start) → Sound (vaultOf (c .args .scalars .guarantee) (securitiesOf (c .args .held .now)))
 sound c =
     let cash = cash-fits _ _ (c .pre .0 .cash) in
     (c .pre .0 .securities, cash .free, omega (arith, cash .sum))
@@ -31,7 +31,7 @@ few : (c : tie.After-frozen-of) → start (c .before) .args .amount + c .frozen-
 few c =
     let s = start (c .before) in
     let a = s .args in
-    let kind = kind-fits (vaultOf (a .desk .guarantee) (securitiesOf (a .held .now))) (sound s) (a .kind) (s .pre .1) in
+    let kind = kind-fits (vaultOf (a .scalars .guarantee) (securitiesOf (a .held .now))) (sound s) (a .kind) (s .pre .1) in
     omega (arith, kind .free, kind .within, limit-within (a .kind), c .frozen-of .ensures, c .before .before .effective-of .ensures, c .before .if1 .left)
 
 effective-of-requires : tie.Need-effective-of-requires
@@ -41,7 +41,7 @@ returns : tie.Need-returns
 returns c =
     let s : tie.Start = search needs in
     let a = s .args in
-    let book = bookOf (a .desk) (rowsOf (a .held .now) (a .kinds .now) (a .units .now)) in
+    let book = bookOf (a .scalars) (rowsOf (a .held .now) (a .kinds .now) (a .units .now)) in
     sym (lt-ltb (effectiveOf (book .vault) (a .kind)) (a .amount + frozenOf (book .vault) (a .kind) + applied (book .withdrawals) (a .kind)) (omega (arith, c .before .effective-of .ensures, c .if1 .taken)))
 
 frozen-of-requires : tie.Need-frozen-of-requires
@@ -57,7 +57,7 @@ add-result-2 : tie.Need-add-result-2
 add-result-2 c =
     let s = start (c .before .before) in
     let a = s .args in
-    omega (arith, few (c .before), c .applied-of .ensures, applied-bound (bookOf (a .desk) (rowsOf (a .held .now) (a .kinds .now) (a .units .now)) .withdrawals) (s .pre .0 .withdrawals) (a .kind))
+    omega (arith, few (c .before), c .applied-of .ensures, applied-bound (bookOf (a .scalars) (rowsOf (a .held .now) (a .kinds .now) (a .units .now)) .withdrawals) (s .pre .0 .withdrawals) (a .kind))
 
 returns-2 : tie.Need-returns-2
 returns-2 c = rw (c .applied-of .ensures, c .before .frozen-of .ensures, c .before .before .before .effective-of .ensures)

@@ -2,7 +2,7 @@ use mathlib.Core.Path.{refl, sym, _∙_}
 use mathlib.Core.Bool.{false≢true}
 use borrow.Author.Needs.{needs}
 use Rattle.core.proofs.Fitting.{refuted, upheld}
-use Rattle.exports.proofs.RawLaws.{desk-back}
+use Rattle.exports.proofs.RawLaws.{scalars-back}
 use Rattle.exports.proofs.lent_calls.lent_apply.Statement.{statement}
 use Rattle.exports.proofs.lent_calls.lent_apply.Tie as tie
 
@@ -49,7 +49,7 @@ returns-2 c =
     let applied = at-apply .apply in
     let tested : tie.Else1 = search needs in
     let formed = upheld (tested .before .is-well-formed .ensures) (tested .if1 .left) in (
-      λ z. rw (c .of-done .ensures, desk-back (applied .result .desk), ← (at-scalars-from .scalars-from .ensures), ← (at-decode .decode .ensures)) (applied .ensures .0, refl, applied .ensures .1),
+      λ z. rw (c .of-done .ensures, scalars-back (applied .result .scalars), ← (at-scalars-from .scalars-from .ensures), ← (at-decode .decode .ensures)) (applied .ensures .0, refl, applied .ensures .1),
       λ z. absurd (false≢true (sym z ∙ formed)),
     )
 

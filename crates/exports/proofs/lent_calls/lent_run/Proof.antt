@@ -2,7 +2,7 @@ use mathlib.Core.Path.{refl, sym, _∙_}
 use mathlib.Core.Bool.{false≢true}
 use borrow.Author.Needs.{needs}
 use Rattle.core.proofs.Fitting.{refuted, upheld}
-use Rattle.exports.proofs.RawLaws.{desk-back}
+use Rattle.exports.proofs.RawLaws.{scalars-back}
 use Rattle.exports.proofs.lent_calls.lent_run.Statement.{statement}
 use Rattle.exports.proofs.lent_calls.lent_run.Tie as tie
 
@@ -48,7 +48,7 @@ returns-2 c =
     let ran = at-run .run in
     let tested : tie.Else1 = search needs in
     let formed = upheld (tested .before .is-well-formed .ensures) (tested .if1 .left) in (
-      λ z. rw (c .of-ended .ensures, desk-back (ran .result .desk), ← (at-scalars-from .scalars-from .ensures)) (ran .ensures .0, refl, ran .ensures .1),
+      λ z. rw (c .of-ended .ensures, scalars-back (ran .result .scalars), ← (at-scalars-from .scalars-from .ensures)) (ran .ensures .0, refl, ran .ensures .1),
       λ z. absurd (false≢true (sym z ∙ formed)),
     )
 

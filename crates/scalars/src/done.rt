@@ -1,13 +1,13 @@
 // What an event leaves beside the rows and the table. Answers are made here only.
 ghost use mathlib.Core.Path.{_≡_};
 ghost use Rattle.rules.specs.Book.{answer};
-use crate::state::Desk;
+use crate::state::Scalars;
 use money::units::Sheets;
 use rules::answer::Answer;
 
 pub struct Done {
     pub answer: Answer,
-    pub desk: Desk,
+    pub scalars: Scalars,
 }
 
 // An answer that carries its number alone.
@@ -22,19 +22,19 @@ pub fn answer_of(number: u8) -> Answer
     }
 }
 
-pub fn answered(number: u8, desk: Desk) -> Done
-    ensures { λ r. ⌜ r ≡ record { answer = answer number; desk = desk } ⌝ }
+pub fn answered(number: u8, scalars: Scalars) -> Done
+    ensures { λ r. ⌜ r ≡ record { answer = answer number; scalars = scalars } ⌝ }
 {
     Done {
         answer: answer_of(number),
-        desk,
+        scalars,
     }
 }
 
 // An accepted Close carries the sheets matured and the applications done and dropped.
-pub fn of_close(matured: Sheets, done: u32, dropped: u32, desk: Desk) -> Done
+pub fn of_close(matured: Sheets, done: u32, dropped: u32, scalars: Scalars) -> Done
     ensures { λ r.
-        ⌜ r ≡ record { answer = record { number = 0; matured = matured; done = done; dropped = dropped }; desk = desk } ⌝ }
+        ⌜ r ≡ record { answer = record { number = 0; matured = matured; done = done; dropped = dropped }; scalars = scalars } ⌝ }
 {
     Done {
         answer: Answer {
@@ -43,6 +43,6 @@ pub fn of_close(matured: Sheets, done: u32, dropped: u32, desk: Desk) -> Done
             done,
             dropped,
         },
-        desk,
+        scalars,
     }
 }

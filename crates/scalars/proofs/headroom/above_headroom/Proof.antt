@@ -1,7 +1,7 @@
 use borrow.Author.Needs.{needs}
-use Rattle.desk.proofs.HeadroomLaws.{none-left, less-than}
-use Rattle.desk.proofs.headroom.above_headroom.Statement.{statement}
-use Rattle.desk.proofs.headroom.above_headroom.Tie as tie
+use Rattle.scalars.proofs.HeadroomLaws.{none-left, less-than}
+use Rattle.scalars.proofs.headroom.above_headroom.Statement.{statement}
+use Rattle.scalars.proofs.headroom.above_headroom.Tie as tie
 
 smaller-requires : tie.Need-smaller-requires
 smaller-requires c κs = search needs

@@ -1,6 +1,6 @@
 use borrow.Author.Needs.{needs}
-use Rattle.desk.proofs.done.answered.Statement.{statement}
-use Rattle.desk.proofs.done.answered.Tie as tie
+use Rattle.scalars.proofs.done.answered.Statement.{statement}
+use Rattle.scalars.proofs.done.answered.Tie as tie
 
 answer-of-requires : tie.Need-answer-of-requires
 answer-of-requires c κs = search needs

@@ -1,8 +1,8 @@
 use mathlib.Core.Path.{sym}
 use borrow.Author.Needs.{needs}
 use Rattle.rules.specs.Close.{isShortClose, closedBook}
-use Rattle.core.proofs.close.closed_desk.Statement.{statement}
-use Rattle.core.proofs.close.closed_desk.Tie as tie
+use Rattle.core.proofs.close.closed_scalars.Statement.{statement}
+use Rattle.core.proofs.close.closed_scalars.Tie as tie
 
 is-short-requires : tie.Need-is-short-requires
 is-short-requires c κs = search needs
@@ -20,8 +20,8 @@ returns c =
     λ calendar rows held trades table nets end valued left kept.
     rw (c .closed-standing .ensures, c .before .short-at-close .ensures, at-is-short .is-short .ensures, valued, nets, sym end, left, kept)
 
-pub closed-desk-spec : {M : Type 1} → statement M
-closed-desk-spec =
+pub closed-scalars-spec : {M : Type 1} → statement M
+closed-scalars-spec =
     tie.close
     (tie.spec
     is-short-requires

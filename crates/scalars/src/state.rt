@@ -2,7 +2,7 @@
 ghost use mathlib.Core.Path.{_≡_};
 ghost use lib.Dec.{leb, ltb};
 ghost use Rattle.money.specs.Limits.{calendarLimit};
-ghost use Rattle.desk.specs.Desk.{withNetsAndTrades};
+ghost use Rattle.scalars.specs.Scalars.{withNetsAndTrades};
 use money::limits::CALENDAR_LIMIT;
 use money::units::Sheets;
 use rules::book::Cash;
@@ -11,7 +11,7 @@ use rules::book::Nets;
 use rules::book::Standing;
 
 // `applications` is how many stand for the evening, `trades` how many slots of the table are in use.
-pub struct Desk {
+pub struct Scalars {
     pub nets: Nets,
     pub cash: Cash,
     pub guarantee: Guarantee,
@@ -21,11 +21,11 @@ pub struct Desk {
     pub trades: usize,
 }
 
-// The desk after a trade has begun: other nets, and so many trades.
-pub fn with_nets_and_trades(desk: Desk, nets: Nets, trades: usize) -> Desk
-    ensures { λ r. ⌜ r ≡ withNetsAndTrades nets trades desk ⌝ }
+// The scalars after a trade has begun: other nets, and so many trades.
+pub fn with_nets_and_trades(scalars: Scalars, nets: Nets, trades: usize) -> Scalars
+    ensures { λ r. ⌜ r ≡ withNetsAndTrades nets trades scalars ⌝ }
 {
-    let mut next = desk;
+    let mut next = scalars;
     next.nets = nets;
     next.trades = trades;
     next

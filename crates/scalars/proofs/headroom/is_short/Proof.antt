@@ -1,7 +1,7 @@
 use borrow.Author.Needs.{needs}
-use Rattle.desk.proofs.HeadroomLaws.{short-below}
-use Rattle.desk.proofs.headroom.is_short.Statement.{statement}
-use Rattle.desk.proofs.headroom.is_short.Tie as tie
+use Rattle.scalars.proofs.HeadroomLaws.{short-below}
+use Rattle.scalars.proofs.headroom.is_short.Statement.{statement}
+use Rattle.scalars.proofs.headroom.is_short.Tie as tie
 
 smaller-requires : tie.Need-smaller-requires
 smaller-requires c κs = search needs
