@@ -1,2 +1,4 @@
 -- The laws that the proofs of journal.rt share.
 pub mod JournalLaws
+-- The events of structs.rt, computed.
+pub mod LedgerLaws

@@ -21,6 +21,9 @@ mod slips;
 // Document 00's two rehearsals.
 mod rehearsals;
 
+// A table of structs, lent to the book.
+mod structs;
+
 fn main() {
     amounts::redemptions();
     amounts::values();
@@ -37,4 +40,5 @@ fn main() {
     rehearsals::first();
     rehearsals::second();
     rehearsals::pledge_alone_late();
+    structs::first_trade();
 }
