@@ -37,7 +37,10 @@ HasSlots table count = count * width ≤ length table
 abbrev pub HasSlot : List ℕ → (place : ℕ) → Type 0
 HasSlot table place = place * width + 3 < length table
 
--- how many numbers the securities take
+-- how many numbers a security takes, and all 32 of them
+abbrev pub securityWidth : ℕ
+securityWidth = 4
+
 abbrev pub heldLength : ℕ
 heldLength = 128
 
@@ -77,10 +80,10 @@ tradesOf table = tradesTo table (capacity table)
 
 unfoldable pub securityIn : List ℕ → ℕ → Security
 securityIn held kind = record {
-  effective = getD held (kind * 4) 0;
-  arriving = getD held (kind * 4 + 1) 0;
-  frozen = getD held (kind * 4 + 2) 0;
-  rate = getD held (kind * 4 + 3) 0;
+  effective = getD held (kind * securityWidth) 0;
+  arriving = getD held (kind * securityWidth + 1) 0;
+  frozen = getD held (kind * securityWidth + 2) 0;
+  rate = getD held (kind * securityWidth + 3) 0;
 }
 
 unfoldable pub securitiesTo : List ℕ → ℕ → List Security

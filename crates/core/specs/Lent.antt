@@ -6,13 +6,14 @@ use mathlib.Core.List.{List, [], _∷_}
 use lib.Dec.{eqb}
 use lib.ListN.{length}
 use Rattle.money.specs.Days.{Calendar}
+use Rattle.rules.specs.Limits.{applicationLimit}
 use Rattle.rules.specs.Folds.{every}
 use Rattle.rules.specs.Book.{answer}
 use Rattle.rules.specs.Step.{Outcome, outcome, unfit, step}
 use Rattle.rules.specs.Cover.{coverRefused, coverOf}
 use Rattle.rules.specs.Listing.{RunOutcome, runOutcome}
 use Rattle.core.specs.Types.{Book, Trade, Entry, Cover}
-use Rattle.core.specs.Flat.{width, rowsOf, bookOf, tradesOf}
+use Rattle.core.specs.Flat.{width, heldLength, rowsOf, bookOf, tradesOf}
 use Rattle.scalars.specs.declared.state.Scalars.{Scalars}
 
 -- what is small of the book, the rows of securities and of applications, and the table
@@ -37,9 +38,9 @@ tableIn l = tradesOf (l .table)
 unfoldable pub isWhole : Lent → Bool
 isWhole l =
     every
-    (eqb (length (l .held)) 128
-    ∷ eqb (length (l .kinds)) 128
-    ∷ eqb (length (l .units)) 128
+    (eqb (length (l .held)) heldLength
+    ∷ eqb (length (l .kinds)) applicationLimit
+    ∷ eqb (length (l .units)) applicationLimit
     ∷ eqb (length (l .table) % width) 0
     ∷ [])
 

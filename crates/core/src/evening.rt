@@ -5,7 +5,7 @@ ghost use Prim.Native.Nat.{_≤_, _+_};
 ghost use mathlib.Core.List.{map};
 ghost use lib.ListN.{length};
 ghost use Rattle.money.specs.Limits.{cashLimit, rateLimit, unitLimit};
-ghost use Rattle.money.specs.Collateral.{rateOf, unitLimitOf, kindValue};
+ghost use Rattle.money.specs.Collateral.{cashKind, rateOf, unitLimitOf, kindValue};
 ghost use Rattle.rules.specs.Limits.{applicationLimit};
 ghost use Rattle.rules.specs.Vault.{securityAt, effectiveOf, frozenOf, value as valueOf};
 ghost use Rattle.rules.specs.Fit.{securitiesFit, withdrawalsFit};
@@ -13,6 +13,8 @@ ghost use Rattle.rules.specs.Close.{securityArrived, guaranteeArrived, takenOut
 ghost use Rattle.core.specs.Types.{Vault};
 ghost use Rattle.core.specs.Flat.{vaultOf, securitiesOf, eveningAt, heldLength};
 use crate::held;
+use money::limits::CASH_KIND;
+use money::limits::SECURITIES;
 use money::units::Fen;
 use money::units::Sheets;
 use rules::book::Guarantee;
@@ -47,7 +49,7 @@ pub fn all_arrived(held: &mut [u64], guarantee: Guarantee)
     ensures { λ _. ⌜ securitiesOf (now (held .exit)) ≡ map securityArrived (securitiesOf (now (held .entry))) ⌝ }
 {
     let mut kind = 0;
-    while kind < 32 {
+    while kind < SECURITIES {
         let security = held::security_at(&*held, kind);
         held::put_security(held, kind, security_arrived(security));
         kind += 1;
@@ -95,7 +97,7 @@ fn judged(
     had: Security,
     value: u64,
 ) -> Verdict
-    requires { ⌜ (kind ≤ 32)
+    requires { ⌜ (kind ≤ cashKind)
         × (had .frozen ≤ had .effective)
         × (had .effective ≤ unitLimitOf kind)
         × (rateOf kind (had .rate) ≤ rateLimit)
@@ -103,7 +105,7 @@ fn judged(
         × (value ≤ 67000000000000) ⌝ }
     ensures { λ r.
         ⌜ ((vault : Vault) →
-        length (vault .securities) ≡ 32
+        length (vault .securities) ≡ cashKind
         → had .effective ≡ effectiveOf vault kind
         → had .frozen ≡ frozenOf vault kind
         → had .rate ≡ securityAt vault kind .rate
@@ -174,7 +176,7 @@ pub fn applications(
         let kind = kinds[i];
         let amount = units[i];
         let mut had = as_security(guarantee);
-        if kind < 32 {
+        if kind < CASH_KIND {
             had = held::security_at(&*held, kind as usize);
         }
         let verdict = judged(served, outstanding, kind, amount, had, value);
@@ -182,7 +184,7 @@ pub fn applications(
         if verdict.goes {
             done += 1;
             had.effective = had.effective - amount;
-            if kind < 32 {
+            if kind < CASH_KIND {
                 held::put_security(held, kind as usize, had);
             } else {
                 guarantee = as_guarantee(had);

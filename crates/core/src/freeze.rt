@@ -4,10 +4,12 @@ ghost use mathlib.Core.List.{List};
 ghost use Prim.Native.Nat.{ℕ, _<_};
 ghost use lib.ListN.{length, set};
 ghost use Rattle.money.specs.Causes.{firstOf, numberOf};
+ghost use Rattle.money.specs.Collateral.{cashKind};
 ghost use Rattle.rules.specs.Freeze.{freezeCauses, frozen, withFrozen, cashFrozen};
 ghost use Rattle.core.specs.Flat.{securityIn, securitiesOf, rowsOf, bookOf, appliedBy, appliedAt, heldLength};
 use crate::held;
 use crate::vault;
+use money::limits::CASH_KIND;
 use money::units::Fen;
 use rules::book::Guarantee;
 use scalars::done;
@@ -20,7 +22,7 @@ fn freeze_refusal(scalars: Scalars, held: &[u64], kind: u8, units: u64) -> u8
         ⌜ ((kinds amounts : List ℕ) →
         r ≡ numberOf (firstOf (freezeCauses (bookOf scalars (rowsOf (now (held .entry)) kinds amounts)) kind units))) ⌝ }
 {
-    if kind > 32 {
+    if kind > CASH_KIND {
         return 3;
     }
     let guarantee = scalars.guarantee;
@@ -31,7 +33,7 @@ fn freeze_refusal(scalars: Scalars, held: &[u64], kind: u8, units: u64) -> u8
 }
 
 fn put_frozen(held: &mut [u64], kind: u8, units: u64)
-    requires { ⌜ (kind < 32) × (length (now held) ≡ heldLength) ⌝ }
+    requires { ⌜ (kind < cashKind) × (length (now held) ≡ heldLength) ⌝ }
     ensures { λ _.
         ⌜ securitiesOf (now (held .exit))
         ≡ set (securitiesOf (now (held .entry))) kind (withFrozen units (securityIn (now (held .entry)) kind)) ⌝ }
@@ -64,7 +66,7 @@ pub fn freeze(scalars: Scalars, held: &mut [u64], kind: u8, units: u64) -> Done
     if refusal != 0 {
         return done::answered(refusal, scalars);
     }
-    if kind == 32 {
+    if kind == CASH_KIND {
         let guarantee = scalars.guarantee;
         let mut next = scalars;
         next.guarantee = cash_frozen(guarantee, units);

@@ -6,10 +6,12 @@ ghost use Prim.Native.Nat.{ℕ, _+_, _<_, _≤_};
 ghost use lib.ListN.{length, set};
 ghost use Rattle.money.specs.Limits.{cashLimit, unitLimit};
 ghost use Rattle.money.specs.Causes.{firstOf, numberOf};
+ghost use Rattle.money.specs.Collateral.{cashKind};
 ghost use Rattle.rules.specs.Fit.{cashFit, securitiesFit};
 ghost use Rattle.rules.specs.Pledge.{pledgeCauses, pledged, arrived, cashArrived};
 ghost use Rattle.core.specs.Flat.{securityIn, securitiesOf, vaultOf, rowsOf, bookOf, appliedBy, appliedAt, heldLength};
 use crate::held;
+use money::limits::CASH_KIND;
 use money::limits::UNIT_LIMIT;
 use money::units::Fen;
 use rules::book::Guarantee;
@@ -20,7 +22,7 @@ use scalars::state::Scalars;
 
 // The units of a security, effective and arriving together.
 fn units_of(held: &[u64], guarantee: Guarantee, kind: u8) -> u64
-    requires { ⌜ (kind < 32) × (length (now held) ≡ heldLength) × (securitiesFit (vaultOf guarantee (securitiesOf (now held))) ≡ true) ⌝ }
+    requires { ⌜ (kind < cashKind) × (length (now held) ≡ heldLength) × (securitiesFit (vaultOf guarantee (securitiesOf (now held))) ≡ true) ⌝ }
     ensures { λ r. ⌜ r ≡ securityIn (now (held .entry)) kind .effective + securityIn (now (held .entry)) kind .arriving ⌝ }
 {
     let security = held::security_at(held, kind as usize);
@@ -33,7 +35,7 @@ fn pledge_refusal(scalars: Scalars, held: &[u64], kind: u8, units: u64) -> u8
         ⌜ ((kinds amounts : List ℕ) →
         r ≡ numberOf (firstOf (pledgeCauses (bookOf scalars (rowsOf (now (held .entry)) kinds amounts)) kind units))) ⌝ }
 {
-    if kind > 32 {
+    if kind > CASH_KIND {
         return 3;
     }
     let standing = scalars.standing;
@@ -43,7 +45,7 @@ fn pledge_refusal(scalars: Scalars, held: &[u64], kind: u8, units: u64) -> u8
     if units == 0 {
         return 7;
     }
-    if kind == 32 {
+    if kind == CASH_KIND {
         if scalars.cash.own.0 < units {
             return 13;
         }
@@ -57,7 +59,7 @@ fn pledge_refusal(scalars: Scalars, held: &[u64], kind: u8, units: u64) -> u8
 }
 
 fn put_arrived(held: &mut [u64], kind: u8, units: u64)
-    requires { ⌜ (kind < 32) × (length (now held) ≡ heldLength) × (securityIn (now held) kind .arriving + units ≤ unitLimit) ⌝ }
+    requires { ⌜ (kind < cashKind) × (length (now held) ≡ heldLength) × (securityIn (now held) kind .arriving + units ≤ unitLimit) ⌝ }
     ensures { λ _.
         ⌜ securitiesOf (now (held .exit))
         ≡ set (securitiesOf (now (held .entry))) kind (arrived units (securityIn (now (held .entry)) kind)) ⌝ }
@@ -93,7 +95,7 @@ pub fn pledge(scalars: Scalars, held: &mut [u64], kind: u8, units: u64) -> Done
     if refusal != 0 {
         return done::answered(refusal, scalars);
     }
-    if kind == 32 {
+    if kind == CASH_KIND {
         let own = scalars.cash.own.0 - units;
         let guarantee = scalars.guarantee;
         let mut next = scalars;

@@ -7,6 +7,7 @@ ghost use Rattle.money.specs.Causes.{firstOf, numberOf};
 ghost use Rattle.rules.specs.Rate.{rateCauses, rated};
 ghost use Rattle.core.specs.Flat.{rowsOf, bookOf, appliedBy, appliedAt, heldLength};
 use crate::held;
+use money::limits::CASH_KIND;
 use money::limits::RATE_LIMIT;
 use scalars::done;
 use scalars::done::Done;
@@ -15,7 +16,7 @@ use scalars::state::Scalars;
 fn rate_refusal(kind: u8, rate: u64) -> u8
     ensures { λ r. ⌜ r ≡ numberOf (firstOf (rateCauses kind rate)) ⌝ }
 {
-    if kind >= 32 {
+    if kind >= CASH_KIND {
         return 3;
     }
     if rate > RATE_LIMIT {

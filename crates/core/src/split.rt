@@ -3,10 +3,13 @@ ghost use mathlib.Core.Path.{_≡_};
 ghost use lib.ListN.{length};
 ghost use Rattle.core.specs.Flat.{securitiesOf, scalarsOf, rowsOf, bookOf, heldLength};
 use crate::held;
+use crate::layout::HELD_LENGTH;
+use money::limits::SECURITIES;
 use rules::book::Book;
 use rules::book::Security;
 use rules::book::Vault;
 use rules::book::Withdrawals;
+use rules::limits::APPLICATION_LIMIT;
 use scalars::state::Scalars;
 
 pub fn scalars_of(book: Book) -> Scalars
@@ -33,33 +36,33 @@ fn fill_held(vault: Vault, held: &mut [u64])
     ensures { λ _. ⌜ securitiesOf (now (held .exit)) ≡ vault .securities ⌝ }
 {
     let mut kind = 0;
-    while kind < 32 {
+    while kind < SECURITIES {
         held::put_security(held, kind, vault.securities[kind]);
         kind += 1;
     }
 }
 
-pub fn held_of(vault: Vault) -> [u64; 128]
+pub fn held_of(vault: Vault) -> [u64; HELD_LENGTH]
     ensures { λ r. ⌜ securitiesOf r ≡ vault .securities ⌝ }
 {
-    let mut held = [0; 128];
+    let mut held = [0; HELD_LENGTH];
     fill_held(vault, &mut held);
     held
 }
 
-pub fn kinds_of(withdrawals: Withdrawals) -> [u8; 128]
+pub fn kinds_of(withdrawals: Withdrawals) -> [u8; APPLICATION_LIMIT]
     ensures { λ r. ⌜ r ≡ withdrawals .kinds ⌝ }
 {
     withdrawals.kinds
 }
 
-pub fn units_of(withdrawals: Withdrawals) -> [u64; 128]
+pub fn units_of(withdrawals: Withdrawals) -> [u64; APPLICATION_LIMIT]
     ensures { λ r. ⌜ r ≡ withdrawals .units ⌝ }
 {
     withdrawals.units
 }
 
-fn securities_from(held: &[u64; 128]) -> [Security; 32]
+fn securities_from(held: &[u64; HELD_LENGTH]) -> [Security; SECURITIES]
     ensures { λ r. ⌜ r ≡ securitiesOf (now (held .entry)) ⌝ }
 {
     let mut securities = [Security {
@@ -67,16 +70,21 @@ fn securities_from(held: &[u64; 128]) -> [Security; 32]
         arriving: 0,
         frozen: 0,
         rate: 0,
-    }; 32];
+    }; SECURITIES];
     let mut kind = 0;
-    while kind < 32 {
+    while kind < SECURITIES {
         securities[kind] = held::security_at(held, kind);
         kind += 1;
     }
     securities
 }
 
-pub fn book_of(scalars: Scalars, held: &[u64; 128], kinds: [u8; 128], units: [u64; 128]) -> Book
+pub fn book_of(
+    scalars: Scalars,
+    held: &[u64; HELD_LENGTH],
+    kinds: [u8; APPLICATION_LIMIT],
+    units: [u64; APPLICATION_LIMIT],
+) -> Book
     ensures { λ r. ⌜ r ≡ bookOf scalars (rowsOf (now (held .entry)) kinds units) ⌝ }
 {
     let nets = scalars.nets;

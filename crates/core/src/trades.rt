@@ -12,6 +12,7 @@ use crate::chains::ChainResult;
 use crate::flat;
 use money::limits::PRICE_LIMIT;
 use money::limits::TRADE_LIMIT;
+use rules::limits::CAPACITY_LIMIT;
 use rules::trade::Contract;
 use sort::order;
 
@@ -85,7 +86,7 @@ fn sorted_differ(table: &[u64], count: usize) -> bool
     requires { ⌜ (HasSlots (now table) count) × (count ≤ capacityLimit) ⌝ }
     ensures { λ r. ⌜ r ≡ differ (tradesTo (now (table .entry)) count) ⌝ }
 {
-    let mut numbers = [0; 4096];
+    let mut numbers = [0; CAPACITY_LIMIT];
     numbers_differ(table, count, &mut numbers[..count])
 }
 
@@ -98,7 +99,7 @@ fn chains_differ(table: &[u64], count: usize, buckets: usize, heads: &mut [u16])
         × (now heads ≡ replicate buckets 0) ⌝ }
     ensures { λ r. ⌜ r ≡ differ (tradesTo (now (table .entry)) count) ⌝ }
 {
-    let mut next: [u16; 4096] = [0; 4096];
+    let mut next: [u16; CAPACITY_LIMIT] = [0; CAPACITY_LIMIT];
     match chains::linked_differ(table, count, buckets, heads, &mut next) {
         ChainResult::Differs => true,
         ChainResult::Repeats => false,

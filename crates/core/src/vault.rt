@@ -4,7 +4,7 @@ ghost use mathlib.Core.Bool.{true};
 ghost use Prim.Native.Nat.{_≤_};
 ghost use lib.ListN.{length};
 ghost use Rattle.money.specs.Limits.{cashLimit, rateLimit};
-ghost use Rattle.money.specs.Collateral.{unitLimitOf, rateOf, kindValue};
+ghost use Rattle.money.specs.Collateral.{cashKind, unitLimitOf, rateOf, kindValue};
 ghost use Rattle.rules.specs.Limits.{applicationLimit};
 ghost use Rattle.rules.specs.Vault.{effectiveOf, frozenOf, value};
 ghost use Rattle.rules.specs.Fit.{securityFit, securitiesFit, cashFit, applicationFit, withdrawalsFit};
@@ -12,8 +12,10 @@ ghost use Rattle.rules.specs.Withdraw.{applied};
 ghost use Rattle.core.specs.Types.{Guarantee};
 ghost use Rattle.core.specs.Flat.{vaultOf, securitiesOf, heldLength};
 use crate::held;
+use money::limits::CASH_KIND;
 use money::limits::CASH_LIMIT;
 use money::limits::RATE_LIMIT;
+use money::limits::SECURITIES;
 use money::limits::UNIT_LIMIT;
 use rules::book::Cash;
 use rules::book::Guarantee;
@@ -43,7 +45,7 @@ pub fn securities_fit(held: &[u64]) -> bool
     ensures { λ r. ⌜ ((guarantee : Guarantee) → r ≡ securitiesFit (vaultOf guarantee (securitiesOf (now (held .entry))))) ⌝ }
 {
     let mut kind = 0;
-    while kind < 32 {
+    while kind < SECURITIES {
         if !security_fit(held::security_at(held, kind)) {
             return false;
         }
@@ -80,7 +82,7 @@ pub fn cash_fit(cash: Cash, guarantee: Guarantee) -> bool
 fn application_fit(kind: u8, units: u64) -> bool
     ensures { λ r. ⌜ r ≡ applicationFit kind units ⌝ }
 {
-    if kind > 32 {
+    if kind > CASH_KIND {
         return false;
     }
     if units > CASH_LIMIT {
@@ -108,7 +110,7 @@ pub fn withdrawals_fit(kinds: &[u8], units: &[u64], count: usize) -> bool
 
 // A kind's value within the limits, where nothing refuses it.
 pub fn worth(kind: u8, effective: u64, frozen: u64, rate: u64) -> u64
-    requires { ⌜ (kind ≤ 32) × (frozen ≤ effective) × (effective ≤ unitLimitOf kind) × (rateOf kind rate ≤ rateLimit) ⌝ }
+    requires { ⌜ (kind ≤ cashKind) × (frozen ≤ effective) × (effective ≤ unitLimitOf kind) × (rateOf kind rate ≤ rateLimit) ⌝ }
     ensures { λ r. ⌜ r ≡ kindValue kind effective frozen rate .0 ⌝ }
 {
     let worth = money::collateral::kind_worth(kind, effective, frozen, rate);
@@ -125,7 +127,7 @@ pub fn value_of(held: &[u64], guarantee: Guarantee) -> u64
 {
     let mut sum = 0;
     let mut kind: usize = 0;
-    while kind < 32 {
+    while kind < SECURITIES {
         let security = held::security_at(held, kind);
         sum += worth(
             kind as u8,
@@ -135,14 +137,14 @@ pub fn value_of(held: &[u64], guarantee: Guarantee) -> u64
         );
         kind += 1;
     }
-    sum + worth(32, guarantee.effective.0, guarantee.frozen.0, 0)
+    sum + worth(CASH_KIND, guarantee.effective.0, guarantee.frozen.0, 0)
 }
 
 pub fn effective_of(held: &[u64], guarantee: Guarantee, kind: u8) -> u64
-    requires { ⌜ (kind ≤ 32) × (length (now held) ≡ heldLength) ⌝ }
+    requires { ⌜ (kind ≤ cashKind) × (length (now held) ≡ heldLength) ⌝ }
     ensures { λ r. ⌜ r ≡ effectiveOf (vaultOf guarantee (securitiesOf (now (held .entry)))) kind ⌝ }
 {
-    if kind == 32 {
+    if kind == CASH_KIND {
         return guarantee.effective.0;
     }
     let security = held::security_at(held, kind as usize);
@@ -150,10 +152,10 @@ pub fn effective_of(held: &[u64], guarantee: Guarantee, kind: u8) -> u64
 }
 
 pub fn frozen_of(held: &[u64], guarantee: Guarantee, kind: u8) -> u64
-    requires { ⌜ (kind ≤ 32) × (length (now held) ≡ heldLength) ⌝ }
+    requires { ⌜ (kind ≤ cashKind) × (length (now held) ≡ heldLength) ⌝ }
     ensures { λ r. ⌜ r ≡ frozenOf (vaultOf guarantee (securitiesOf (now (held .entry)))) kind ⌝ }
 {
-    if kind == 32 {
+    if kind == CASH_KIND {
         return guarantee.frozen.0;
     }
     let security = held::security_at(held, kind as usize);

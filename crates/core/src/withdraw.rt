@@ -4,10 +4,12 @@ ghost use mathlib.Core.Bool.{true};
 ghost use Prim.Native.Nat.{_+_, _≤_};
 ghost use lib.Dec.{ltb};
 ghost use Rattle.money.specs.Causes.{firstOf, numberOf};
+ghost use Rattle.money.specs.Collateral.{cashKind};
 ghost use Rattle.rules.specs.Vault.{effectiveOf, frozenOf};
 ghost use Rattle.rules.specs.Withdraw.{applied, withdrawCauses, withdrawn};
 ghost use Rattle.core.specs.Flat.{RowsFit, rowsOf, bookOf, appliedBy, appliedAt};
 use crate::vault;
+use money::limits::CASH_KIND;
 use rules::limits::APPLICATION_LIMIT;
 use scalars::done;
 use scalars::done::Done;
@@ -17,7 +19,7 @@ use scalars::state::Scalars;
 // Whether the units, with those frozen and applied for, are above the effective. The units are tested first: any number may be applied for,
 // and the sum of the three is then below 2^64.
 fn lacks(scalars: Scalars, held: &[u64], kinds: &[u8], units: &[u64], kind: u8, amount: u64) -> bool
-    requires { ⌜ (RowsFit scalars (now held) (now kinds) (now units)) × (kind ≤ 32) ⌝ }
+    requires { ⌜ (RowsFit scalars (now held) (now kinds) (now units)) × (kind ≤ cashKind) ⌝ }
     ensures { λ r.
         let book = bookOf scalars (rowsOf (now (held .entry)) (now (kinds .entry)) (now (units .entry))) in
         ⌜ r ≡ ltb (effectiveOf (book .vault) kind) (amount + frozenOf (book .vault) kind + applied (book .withdrawals) kind) ⌝ }
@@ -45,7 +47,7 @@ fn withdraw_refusal(
         let cause = firstOf (withdrawCauses book kind amount) in
         ⌜ r ≡ numberOf cause ⌝ }
 {
-    if kind > 32 {
+    if kind > CASH_KIND {
         return 3;
     }
     let standing = scalars.standing;

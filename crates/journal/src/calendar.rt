@@ -5,6 +5,7 @@ ghost use Prim.Native.Nat.{_+_, _*_, _≤_};
 ghost use lib.ListN.{length, drop};
 ghost use Rattle.journal.specs.Sections.{wordsOf};
 use crate::section;
+use crate::section::WORD_BYTES;
 
 // `count` words from a place on, put in front of the lent words.
 pub fn read_words(journal: &[u8], at: usize, count: usize, words: &mut [u32])
@@ -13,7 +14,7 @@ pub fn read_words(journal: &[u8], at: usize, count: usize, words: &mut [u32])
 {
     let mut k = 0;
     while k < count {
-        words[k] = section::number4(journal, at + k * 4);
+        words[k] = section::number4(journal, at + k * WORD_BYTES);
         k += 1;
     }
 }

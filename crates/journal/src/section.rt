@@ -5,6 +5,12 @@ ghost use lib.ListN.{length};
 ghost use Rattle.rules.specs.Entry.{numberAt};
 ghost use Rattle.journal.specs.Sections.{IsSectionAt};
 
+// "each after its count, all little-endian: a 32-bit count"
+pub const COUNT_BYTES: usize = 4;
+
+// "words of 32 bits"
+pub const WORD_BYTES: usize = 4;
+
 // A section with how many pieces it has.
 pub enum Section {
     Whole(usize),
@@ -41,7 +47,7 @@ pub fn section_at(journal: &[u8], at: usize, limit: u32, width: u32) -> Section
         return Section::Malformed;
     }
     let left = journal.len() - at;
-    if left < 4 {
+    if left < COUNT_BYTES {
         return Section::Malformed;
     }
     let count = number4(journal, at);
@@ -49,7 +55,7 @@ pub fn section_at(journal: &[u8], at: usize, limit: u32, width: u32) -> Section
         return Section::Malformed;
     }
     let taken = count as usize * width as usize;
-    if left - 4 < taken {
+    if left - COUNT_BYTES < taken {
         return Section::Malformed;
     }
     Section::Whole(count as usize)

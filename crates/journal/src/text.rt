@@ -2,8 +2,10 @@
 ghost use mathlib.Core.Path.{_≡_};
 ghost use Prim.Native.Nat.{_+_, _≤_};
 ghost use lib.ListN.{length, drop};
+ghost use Rattle.rules.specs.Listing.{lineNumbers};
 ghost use Rattle.journal.specs.Text.{decimal, spaced, signed, lineFrom, lineText};
 ghost use Rattle.journal.specs.Lent.{placed};
+use rules::limits::LINE_NUMBERS;
 
 pub fn put(text: &mut [u8], at: usize, bytes: &[u8]) -> usize
     requires { ⌜ at + length (now bytes) ≤ length (now text) ⌝ }
@@ -78,10 +80,10 @@ pub struct Line {
 }
 
 pub fn line_at(lines: &[u64], from: usize) -> Line
-    requires { ⌜ from + 7 ≤ length (now lines) ⌝ }
+    requires { ⌜ from + lineNumbers ≤ length (now lines) ⌝ }
     ensures { λ r. ⌜ r ≡ lineFrom (drop from (now (lines .entry))) ⌝ }
 {
-    let row = &lines[from..from + 7];
+    let row = &lines[from..from + LINE_NUMBERS];
     Line {
         answer: row[0],
         negative: row[1],

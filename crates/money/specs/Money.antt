@@ -4,7 +4,7 @@ use Prim.Native.Nat.{ℕ, _+_, _*_, _/_}
 use mathlib.Core.List.{List, [], _∷_}
 use mathlib.Core.Option.{Option}
 use lib.Dec.{ltb}
-use Rattle.money.specs.Units.{Fen, Sheets, Ticks, fen}
+use Rattle.money.specs.Units.{Fen, Sheets, Ticks, fen, sheetFen}
 use Rattle.money.specs.Limits.{tradeLimit, priceLimit, termLimit}
 use Rattle.money.specs.Causes.{Cause, _⇒_, firstOf, numberOf, resultOf}
 pub use Rattle.money.specs.declared.amounts.Amount.{Amount}
@@ -15,7 +15,7 @@ nearest dividend divisor = (2 * dividend + divisor) / (2 * divisor)
 
 -- "An initial trade of q sheets is 10,000q fen.", which a redemption gives back
 unfoldable pub principal : Sheets → Fen
-principal q = fen (10000 * q .0)
+principal q = fen (sheetFen * q .0)
 
 -- "q×P×d/3650 fen, that second part rounded once to the nearest fen, half upward"
 unfoldable pub income : Sheets → Ticks → ℕ → Fen

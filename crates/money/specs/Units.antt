@@ -13,3 +13,7 @@ sheets n = record { 0 = n }
 
 abbrev pub ticks : ℕ → Ticks
 ticks n = record { 0 = n }
+
+-- "A sheet is 100 yuan, 10,000 fen (art. 33)."
+abbrev pub sheetFen : ℕ
+sheetFen = 10000

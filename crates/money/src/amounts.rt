@@ -5,6 +5,7 @@ use crate::limits::PRICE_LIMIT;
 use crate::limits::TERM_LIMIT;
 use crate::limits::TRADE_LIMIT;
 use crate::units::Fen;
+use crate::units::SHEET_FEN;
 use crate::units::Sheets;
 use crate::units::Ticks;
 
@@ -28,7 +29,7 @@ pub fn initial(q: Sheets) -> Amount
     }
     Amount {
         number: 0,
-        fen: Fen(10_000 * count),
+        fen: Fen(SHEET_FEN * count),
     }
 }
 
@@ -59,6 +60,6 @@ pub fn redemption(q: Sheets, price: Ticks, days: u32) -> Amount
     let income = (count * (yearly as u64) * (days as u64) + 1_825) / 3_650;
     Amount {
         number: 0,
-        fen: Fen(10_000 * count + income),
+        fen: Fen(SHEET_FEN * count + income),
     }
 }

@@ -1,8 +1,10 @@
 // The value of a kind of collateral (arts. 4, 41).
 ghost use mathlib.Core.Path.{_≡_};
 ghost use Rattle.money.specs.Collateral.{kindWorth};
+use crate::limits::CASH_KIND;
 use crate::limits::CASH_LIMIT;
 use crate::limits::RATE_LIMIT;
+use crate::limits::RATE_PARTS;
 use crate::limits::UNIT_LIMIT;
 use crate::units::Sheets;
 
@@ -17,7 +19,7 @@ pub struct Worth {
 pub fn kind_worth(kind: u8, effective: u64, frozen: u64, rate: u64) -> Worth
     ensures { λ r. ⌜ r ≡ kindWorth kind effective frozen rate ⌝ }
 {
-    if kind > 32 {
+    if kind > CASH_KIND {
         return Worth {
             number: 3,
             sheets: Sheets(0),
@@ -29,7 +31,7 @@ pub fn kind_worth(kind: u8, effective: u64, frozen: u64, rate: u64) -> Worth
             sheets: Sheets(0),
         };
     }
-    if kind == 32 {
+    if kind == CASH_KIND {
         if effective > CASH_LIMIT {
             return Worth {
                 number: 14,
@@ -38,7 +40,7 @@ pub fn kind_worth(kind: u8, effective: u64, frozen: u64, rate: u64) -> Worth
         }
         return Worth {
             number: 0,
-            sheets: Sheets((effective - frozen) / 10_000),
+            sheets: Sheets((effective - frozen) / RATE_PARTS),
         };
     }
     if effective > UNIT_LIMIT {
@@ -55,6 +57,6 @@ pub fn kind_worth(kind: u8, effective: u64, frozen: u64, rate: u64) -> Worth
     }
     Worth {
         number: 0,
-        sheets: Sheets((effective - frozen) * rate / 10_000),
+        sheets: Sheets((effective - frozen) * rate / RATE_PARTS),
     }
 }

@@ -20,3 +20,12 @@ pub const PRICE_LIMIT: u32 = 100_000;
 
 // "over more than 38,400 days"
 pub const TERM_LIMIT: u32 = 38_400;
+
+// "Kinds 0 to 31 are securities"
+pub const SECURITIES: usize = 32;
+
+// "Kind 32 is guarantee cash"
+pub const CASH_KIND: u8 = 32;
+
+// "each with a rate in ten-thousandths of a sheet a unit"
+pub const RATE_PARTS: u64 = 10_000;

@@ -8,6 +8,8 @@ pub struct Fen(pub u64);
 #[repr(C)]
 pub struct Sheets(pub u64);
 
+pub const SHEET_FEN: u64 = 10_000;
+
 // A tick is 0.001 yuan of yearly yield on 100 yuan (art. 32).
 #[repr(C)]
 pub struct Ticks(pub u32);

@@ -1,6 +1,8 @@
 // The book and its parts, by value. Its trades stand in a table that the caller lends.
 ghost use mathlib.Core.Path.{_≡_};
 ghost use Rattle.rules.specs.Book.{freshBook};
+use crate::limits::APPLICATION_LIMIT;
+use money::limits::SECURITIES;
 use money::units::Fen;
 use money::units::Sheets;
 
@@ -39,7 +41,7 @@ pub struct Guarantee {
 #[repr(C)]
 pub struct Vault {
     pub guarantee: Guarantee,
-    pub securities: [Security; 32],
+    pub securities: [Security; SECURITIES],
 }
 
 pub enum Day {
@@ -86,8 +88,8 @@ pub struct Standing {
 // The applications that stand for the evening: the first `count` of both arrays.
 #[repr(C)]
 pub struct Withdrawals {
-    pub kinds: [u8; 128],
-    pub units: [u64; 128],
+    pub kinds: [u8; APPLICATION_LIMIT],
+    pub units: [u64; APPLICATION_LIMIT],
     pub count: usize,
 }
 
@@ -126,7 +128,7 @@ pub fn fresh() -> Book
                 arriving: 0,
                 frozen: 0,
                 rate: 0,
-            }; 32],
+            }; SECURITIES],
         },
         size: Sheets(0),
         standing: Standing {
@@ -137,8 +139,8 @@ pub fn fresh() -> Book
             short: ShortRun::NotShort,
         },
         withdrawals: Withdrawals {
-            kinds: [0; 128],
-            units: [0; 128],
+            kinds: [0; APPLICATION_LIMIT],
+            units: [0; APPLICATION_LIMIT],
             count: 0,
         },
         trades: 0,

@@ -22,6 +22,12 @@ events-read c =
     let found : tie.After-section-from2 = search needs in
     read _ _ _ _ _ (sym (found .section-from2 .ensures .0) ∙ c .events .given .1)
 
+cast-section-from : tie.Need-cast-section-from
+cast-section-from c = search needs
+
+cast-section-from-2 : tie.Need-cast-section-from-2
+cast-section-from-2 c = search needs
+
 section-from-requires : tie.Need-section-from-requires
 section-from-requires c κs = search needs
 
@@ -45,6 +51,12 @@ add-at : tie.Need-add-at
 add-at c =
     let words : tie.After-words = search needs in
     omega (arith, calendar-read words .high)
+
+cast-section-from-3 : tie.Need-cast-section-from-3
+cast-section-from-3 c = search needs
+
+cast-section-from-4 : tie.Need-cast-section-from-4
+cast-section-from-4 c = search needs
 
 section-from-requires-2 : tie.Need-section-from-requires-2
 section-from-requires-2 c κs = search needs
@@ -95,12 +107,16 @@ pub sections-of-spec : {M : Type 1} → statement M
 sections-of-spec =
     tie.close
     (tie.spec
+    cast-section-from
+    cast-section-from-2
     section-from-requires
     enum-known-words
     enum-told
     returns
     mul-at
     add-at
+    cast-section-from-3
+    cast-section-from-4
     section-from-requires-2
     enum-known-events
     enum-told-2
