@@ -22,7 +22,7 @@ use Rattle.rules.specs.Step.{step}
 use Rattle.rules.specs.Run.{run}
 use Rattle.rules.specs.Listing.{journalTable, entriesOf, lineOf, linesOf, listingOf, lengthCauses, listingCauses, writtenBy}
 use Rattle.journal.specs.Text.{Line, lineFrom, lineText}
-use Rattle.journal.specs.Lent.{placed}
+use Rattle.journal.specs.Buffer.{placed}
 use Rattle.journal.specs.Listing.{Written, linesText, textCauses, answerOf, textAfter}
 
 -- ---- a line's numbers, by place

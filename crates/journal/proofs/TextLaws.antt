@@ -13,7 +13,7 @@ use lib.ListN.{length, take, drop, set, length-append, length-drop, length-set}
 use lib.Seq.{append-snoc, set-split, length-take-le, take-at, drop-append-add, drop-drop, paste, take-length}
 use Rattle.io.specs.Digits.{digits, Fewest}
 use Rattle.journal.specs.Text.{Line, placesTo, decimal, spaced, signed, lineText}
-use Rattle.journal.specs.Lent.{placed}
+use Rattle.journal.specs.Buffer.{placed}
 
 -- ---- bytes in a text
 

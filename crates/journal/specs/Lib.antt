@@ -3,4 +3,4 @@ pub mod Sections
 pub mod Text
 pub mod Listing
 -- for private contracts
-pub mod Lent
+pub mod Buffer

@@ -5,7 +5,7 @@ ghost use lib.ListN.{length};
 ghost use Rattle.money.specs.Limits.{calendarLimit};
 ghost use Rattle.rules.specs.Entry.{eventBytes};
 ghost use Rattle.rules.specs.Listing.{eventLimit, lineNumbers, listingOf};
-ghost use Rattle.journal.specs.Lent.{placed};
+ghost use Rattle.journal.specs.Buffer.{placed};
 ghost use Rattle.journal.specs.Listing.{linesText, refusedLine, listingText, answerOf, textAfter};
 use crate::calendar;
 use crate::section::COUNT_BYTES;

@@ -4,7 +4,7 @@ ghost use Prim.Native.Nat.{_+_, _≤_};
 ghost use lib.ListN.{length, drop};
 ghost use Rattle.rules.specs.Listing.{lineNumbers};
 ghost use Rattle.journal.specs.Text.{decimal, spaced, signed, lineFrom, lineText};
-ghost use Rattle.journal.specs.Lent.{placed};
+ghost use Rattle.journal.specs.Buffer.{placed};
 use rules::limits::LINE_NUMBERS;
 
 pub fn put(text: &mut [u8], at: usize, bytes: &[u8]) -> usize
