@@ -61,8 +61,8 @@ empty-table numbers count e =
     let slots : capacity (zeros numbers) ≡ count = omega (arith, length-replicate numbers zero) in
     rw slots (zero-trades numbers count (omega arith))
 
-pub journal-starts-empty : tradesOf (zeros 4096) ≡ journalTable
-journal-starts-empty = empty-table 4096 1024 refl
+pub journal-starts-empty : tradesOf (zeros (journalCapacity * width)) ≡ journalTable
+journal-starts-empty = empty-table (journalCapacity * width) journalCapacity refl
 
 -- ---- a fresh book in rows of zeros
 

@@ -5,7 +5,7 @@
 pub mod money_calls;
 
 // The run of a journal's events on a fresh book.
-pub mod book_calls;
+pub mod listing_calls;
 
 // A book in lent numbers, changed in place; its scalars, and the codes among them.
 pub mod codes;

@@ -1,4 +1,4 @@
-// The book.
+// The listing of a journal's events.
 ghost use mathlib.Core.Path.{_≡_};
 ghost use lib.ListN.{length};
 ghost use Rattle.money.specs.Causes.{firstOf, numberOf};
