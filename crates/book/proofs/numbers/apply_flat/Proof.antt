@@ -39,18 +39,31 @@ book-of-requires c κs = search needs
 same-length : tie.Need-same-length
 same-length c = search needs
 
+-- back from the end, a few steps at a time: a search looks so far and no further
+abbrev applied : tie.After-book-of → tie.After-apply
+applied c = search needs
+
+abbrev units-made : tie.After-apply → tie.After-units-of
+units-made c = search needs
+
+abbrev from : tie.After-units-of → tie.Start
+from c = search needs
+
 returns : tie.Need-returns
 returns c =
-    let units-row = c .before .before .before .before .before .before .before .before .before .before .before .before .before .before .units-of in
-    let kinds-row = c .before .before .before .before .before .before .before .before .before .before .before .before .before .before .before .kinds-of in
-    let held-row = c .before .before .before .before .before .before .before .before .before .before .before .before .before .before .before .before .held-of in
-    let scalars = c .before .before .before .before .before .before .before .before .before .before .before .before .before .before .before .before .before .scalars-of in
-    let start = c .before .before .before .before .before .before .before .before .before .before .before .before .before .before .before .before .before .before .before .before .before .before in
+    let done = applied c in
+    let made = units-made done in
+    let units-row = made .units-of in
+    let kinds-row = made .before .kinds-of in
+    let held-row = made .before .before .held-of in
+    let scalars = made .before .before .before .scalars-of in
+    let start = from made in
     let a = start .args in
     let l : Lent = lent (scalars .result) (held-row .result) (kinds-row .result) (units-row .result) (a .table .now) in
     let long : Lengths l = record { held = search needs; kinds = search needs; units = search needs; table = start .pre } in
     let same = whole (a .book) (held-row .result) (scalars .ensures) (held-row .ensures) (kinds-row .ensures) (units-row .ensures) in
-    let told = c .before .before .before .before .before .before .before .before .before .apply .ensures .0 ∙ by-step (a .calendar .now) l (all-whole l long) (a .entry) ∙ ap (λ (book : Book). step (a .calendar .now) book (tradesOf (a .table .now)) (a .entry)) same in
+    let lent-step = done .apply .ensures .0 ∙ by-step (a .calendar .now) l (all-whole l long) (a .entry) in
+    let told = lent-step ∙ ap (λ (book : Book). step (a .calendar .now) book (tradesOf (a .table .now)) (a .entry)) same in
     (rw (c .book-of .ensures) (ap (λ (o : Outcome). appliedOf o) told), ap (λ (o : Outcome). o .table) told)
 
 pub apply-flat-spec : {M : Type 1} → statement M
