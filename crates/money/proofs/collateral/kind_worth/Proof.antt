@@ -2,6 +2,7 @@ use Prim.Native.Nat.{_-_, _≤_}
 use mathlib.Core.Path.{refl}
 use native.Mathlib.Nat.{mul-one}
 use native.Mathlib.Omega.{arith}
+use borrow.Author.Needs.{needs}
 use borrow.Author.Tests.{le-ltb, lt-ltb, eq-eqb, ne-eqb}
 use Rattle.money.specs.Collateral.{kindValue, kindWorth}
 use Rattle.money.proofs.Bounds.{product}
@@ -46,22 +47,25 @@ returns-5 c =
 returns-6 : tie.Need-returns-6
 unfolding kindWorth
 returns-6 c =
+    let within : tie.Else1 = search needs in
     rw (ne-eqb _ _ (c .before .before .if3 .left))
-    (rw (skip _ _ (le-ltb _ _ (c .before .before .before .before .if1 .left))
+    (rw (skip _ _ (le-ltb _ _ (within .if1 .left))
     (skip _ _ (le-ltb _ _ (c .before .before .before .if2 .left))
     (skip _ _ (le-ltb _ _ (c .before .if5 .left))
     (hit _ _ (lt-ltb _ _ (c .if6 .taken)))))) refl)
 
 mul-t16 : tie.Need-mul-t16
 mul-t16 c =
-    let free : c .before .before .before .before .before .args .effective - c .before .before .before .before .before .args .frozen ≤ 1000000000000 = omega arith in
+    let s : tie.Start = search needs in
+    let free : s .args .effective - s .args .frozen ≤ 1000000000000 = omega arith in
     omega (arith, product _ _ free (c .if6 .left))
 
 returns-7 : tie.Need-returns-7
 unfolding kindWorth kindValue
 returns-7 c =
+    let within : tie.Else1 = search needs in
     rw (ne-eqb _ _ (c .before .before .if3 .left))
-    (rw (skip _ _ (le-ltb _ _ (c .before .before .before .before .if1 .left))
+    (rw (skip _ _ (le-ltb _ _ (within .if1 .left))
     (skip _ _ (le-ltb _ _ (c .before .before .before .if2 .left))
     (skip _ _ (le-ltb _ _ (c .before .if5 .left))
     (skip _ _ (le-ltb _ _ (c .if6 .left)) clear)))) refl)

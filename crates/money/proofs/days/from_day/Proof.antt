@@ -50,15 +50,17 @@ add-t17 : tie.Need-add-t17 Inv-loop μ-loop
 add-t17 c =
     let at = c .before .before .before .loop in
     let bound = c .before .shared-slice-known .given (at .word) .fits in
-    omega (arith, in-word (c .before .before .before .before .before .args .calendar .now) (at .word) (at .bit) (c .before .before .loop-test .taken) (at .inv .0) bound (c .if2 .taken))
+    let s : tie.Start Inv-loop μ-loop = search needs in
+    omega (arith, in-word (s .args .calendar .now) (at .word) (at .bit) (c .before .before .loop-test .taken) (at .inv .0) bound (c .if2 .taken))
 
 returns-2 : tie.Need-returns-2 Inv-loop μ-loop
 unfolding searchResult
 returns-2 c =
     let at = c .before .before .before .loop in
     let bound = c .before .shared-slice-known .given (at .word) .fits in
+    let within : tie.Else1 Inv-loop μ-loop = search needs in
     rw (at .inv .1 ∙ this-word _ (at .word) (at .bit) (c .before .before .loop-test .taken) (at .inv .0) bound (c .if2 .taken))
-    (rw (skip _ _ (le-ltb _ _ (c .before .before .before .before .if1 .left)) (skip _ _ refl clear)) refl)
+    (rw (skip _ _ (le-ltb _ _ (within .if1 .left)) (skip _ _ refl clear)) refl)
 
 add-word : tie.Need-add-word Inv-loop μ-loop
 add-word c = search needs
