@@ -76,7 +76,8 @@ module _ {M : Type 1} {𝓤 : URA M} {H : Heap 𝓤} {A : Atoms 𝓤} {K : Type 
   shares-out mk a R κ q γ b o m ys em room k =
       fsplit mk $ pureL mk (at-slice R (slice-at b o γ ys) (sliceVal (b, o) m ∷ [])) (λ _. fsplit mk $ opens-slice mk a R ys b o $
       feqI mk ℕ (length ys) (length ys) refl $ fjoin mk $ lft-new mk a (λ ν. move mk (1 ∷ []) $
-      use1 W (later (some (λ (δ : GName). ‵ (Shared R (ν ∷ []) b o (length ys) δ ys) ⊛ ‵ (flent (ν ∷ []) (arr-parts (shares R) (length ys) .part fullShare ys b o))))) (lends-shr-slice 𝓤 H A W R (named 0) (ν ∷ []) fullShare ys b o (subst (Room R) (sym em) room)) $ await mk a $ pick mk (λ δ. split mk $
+      use1 W (later (some (λ (δ : GName). ‵ (Shared R (ν ∷ []) b o (length ys) δ ys) ⊛ ‵ (flent (ν ∷ []) (arr-parts (shares R) (length ys) .part fullShare ys b o)))))
+      (lends-shr-slice 𝓤 H A W R (named 0) (ν ∷ []) fullShare ys b o (subst (Room R) (sym em) room)) $ await mk a $ pick mk (λ δ. split mk $
       rewrite mk 0 (λ (n : ℕ). ‵ (Shared R (ν ∷ []) b o n δ ys)) em refl $
       -- [the shared slice; the lender's part; ν's token; the open borrow; obs; auth; Γ]
       move mk (4 ∷ 5 ∷ []) $ fjoin mk $ move mk (4 ∷ 0 ∷ []) $ fjoin mk $ move mk (2 ∷ 0 ∷ []) $ fjoin mk $ move mk (1 ∷ 2 ∷ 0 ∷ []) $ k ν δ)))

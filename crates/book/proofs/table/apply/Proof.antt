@@ -178,7 +178,8 @@ module _ {M : Type 1} (𝓤 : URA M) (H : Heap 𝓤) (A : Atoms 𝓤) (W : Given
     leaves : (p : Wanted 𝓤 H) → post 𝓤 H p returned ≡ atReturn 𝓤 H En Ends returned → (ts : List Trade) → length ts ≡ n → ts ≡ left .table → Is B.the-row result (appliedVal result ∷ []) → Sq W (Tested ts (‵ (fat fullShare B′.mir l₀ 0 (appliedVal result)))) (runs C Λ En mirs.t-8 p)
     leaves p here ts lt e gr =
         returns-within ! Ends here (look ! 22 refl) $ forget ! 8 refl $ forget ! 12 refl $ forget ! 14 refl $ forget ! 16 refl $ forget ! 18 refl $ forget ! 20 refl $ forget ! 22 refl $
-        move ! (22 ∷ 23 ∷ []) $ free1 ! $ move ! (20 ∷ 21 ∷ []) $ free1 ! $ move ! (18 ∷ 19 ∷ []) $ free1 ! $ move ! (16 ∷ 17 ∷ []) $ free1 ! $ move ! (14 ∷ 15 ∷ []) $ free1 ! $ move ! (12 ∷ 13 ∷ []) $ free1 ! $ move ! (10 ∷ 11 ∷ []) $ free1 ! $ move ! (8 ∷ 9 ∷ []) $ free1 ! $ move ! (6 ∷ 7 ∷ []) $ free1 ! $ move ! (4 ∷ 5 ∷ []) $ free1 ! $ free0 ! $
+        move ! (22 ∷ 23 ∷ []) $ free1 ! $ move ! (20 ∷ 21 ∷ []) $ free1 ! $ move ! (18 ∷ 19 ∷ []) $ free1 ! $ move ! (16 ∷ 17 ∷ []) $ free1 ! $ move ! (14 ∷ 15 ∷ []) $ free1 ! $
+        move ! (12 ∷ 13 ∷ []) $ free1 ! $ move ! (10 ∷ 11 ∷ []) $ free1 ! $ move ! (8 ∷ 9 ∷ []) $ free1 ! $ move ! (6 ∷ 7 ∷ []) $ free1 ! $ move ! (4 ∷ 5 ∷ []) $ free1 ! $ free0 ! $
         by ! (exits 𝓤 H A W mem run κ q cal bk en κ₁ q₁ b o γ ys gb ge gr ts lt e)
 
     -- the table is short enough: from `slots_used` on
@@ -200,7 +201,8 @@ module _ {M : Type 1} (𝓤 : URA M) (H : Heap 𝓤) (A : Atoms 𝓤) (W : Given
         -- [the last front; calendar's token; ν's token; what calendar owns; what is kept of the table; _9 at 5; …]
         move ! (2 ∷ 4 ∷ 0 ∷ []) $ front-home ! tt T.the-row κ₁ q₁ γ b o n ys refl room k (within bk n k here) ν δ zs (many k here zs (e .1 .0)) $
         -- [the table; its token; calendar's token; what it owns; _9 at 4; …; _0 at 22]
-        land ! (from ! (stop !)) (init ! 22 refl (LL.lawful B.the-type B′.the-laws 𝓤 H A W .typed result _ (good few k here w (e .1 .1)) .0)) $ rewrite ! 22 (λ (r : Val). ‵ (fat fullShare B′.mir l₀ 0 r)) (ap only (told w (good few k here w (e .1 .1)))) refl $ forget ! 4 refl $ forget ! 6 refl $ forget ! 10 refl $
+        land ! (from ! (stop !)) (init ! 22 refl (LL.lawful B.the-type B′.the-laws 𝓤 H A W .typed result _ (good few k here w (e .1 .1)) .0)) $
+        rewrite ! 22 (λ (r : Val). ‵ (fat fullShare B′.mir l₀ 0 r)) (ap only (told w (good few k here w (e .1 .1)))) refl $ forget ! 4 refl $ forget ! 6 refl $ forget ! 10 refl $
         leaves (atRet En Ends) refl (zs ++ after k ys) (same-len k ys zs (e .1 .0)) (last few k here zs (e .0)) (subst (Is B.the-row result) (told w (good few k here w (e .1 .1))) (good few k here w (e .1 .1))))))))
       where
         to-front : (k ν : ℕ) (δ : GName) → Front 𝓤 H A mem run .Ghost
@@ -239,7 +241,9 @@ module _ {M : Type 1} (𝓤 : URA M) (H : Heap 𝓤) (A : Atoms 𝓤) (W : Given
         good h r w e is = subst (λ (y : Applied). Is B.the-row y (w ∷ [])) (e ∙ sym (ap appliedOf (long h))) is
 
     abbrev Start : List (Item 𝓤)
-    Start = Locals (‵ (froom word l₅ 0)) (‵ (froom tyBool l₇ 0)) (‵ (froom B′.mir l₀ 0)) ((‵ (flft κ q) ⊛ ‵ (flft κ₁ q₁) ⊛ ‵ ftrue) ∷ ‵ (owns (ShrSlice (named 0) κ u32 ∷ Bk.the-row ∷ MutSlice (named 1) κ₁ T.the-row ∷ Ev.the-row ∷ []) (args 𝓤 H A W mem run κ q cal bk en κ₁ q₁ b o γ ys) (passed 𝓤 H A W mem run κ q cal bk en κ₁ q₁ b o γ ys)) ∷ [])
+    Start = Locals (‵ (froom word l₅ 0)) (‵ (froom tyBool l₇ 0)) (‵ (froom B′.mir l₀ 0)) ((‵ (flft κ q) ⊛ ‵ (flft κ₁ q₁) ⊛ ‵ ftrue)
+        ∷ ‵ (owns (ShrSlice (named 0) κ u32 ∷ Bk.the-row ∷ MutSlice (named 1) κ₁ T.the-row ∷ Ev.the-row ∷ []) (args 𝓤 H A W mem run κ q cal bk en κ₁ q₁ b o γ ys)
+        (passed 𝓤 H A W mem run κ q cal bk en κ₁ q₁ b o γ ys)) ∷ [])
 
     starts : Sq W Start (runs C Λ En mirs.t-1 (atRet En Ends))
     starts =
@@ -252,13 +256,19 @@ module _ {M : Type 1} (𝓤 : URA M) (H : Heap 𝓤) (A : Atoms 𝓤) (W : Given
         → Is (ShrSlice (named 0) κ u32) cal (calVal cal ∷ []) → Room T.the-row n → Is Bk.the-row bk (bookVal bk ∷ []) → Is Ev.the-row en (entryVal en ∷ [])
         → ent 𝓤 (onEntry 𝓤 H A apply.signature (κ, (κ₁, tt)) (q, (q₁, tt)) (args 𝓤 H A W mem run κ q cal bk en κ₁ q₁ b o γ ys) (passed 𝓤 H A W mem run κ q cal bk en κ₁ q₁ b o γ ys)) (WpFn 𝓤 H C Λ code.function (calVal cal ∷ bookVal bk ∷ sliceVal (b, o) n ∷ entryVal en ∷ []) Ends)
     walk fm known-answered known-used known-front gc room gb ge =
-        qed W ((‵ (flft κ q) ⊛ ‵ (flft κ₁ q₁) ⊛ ‵ ftrue) ∷ ‵ (owns (ShrSlice (named 0) κ u32 ∷ Bk.the-row ∷ MutSlice (named 1) κ₁ T.the-row ∷ Ev.the-row ∷ []) (args 𝓤 H A W mem run κ q cal bk en κ₁ q₁ b o γ ys) (passed 𝓤 H A W mem run κ q cal bk en κ₁ q₁ b o γ ys)) ∷ []) ∵ enter ! C Λ code.function (calVal cal ∷ bookVal bk ∷ sliceVal (b, o) n ∷ entryVal en ∷ []) _ $
+        qed W ((‵ (flft κ q) ⊛ ‵ (flft κ₁ q₁) ⊛ ‵ ftrue)
+        ∷ ‵ (owns (ShrSlice (named 0) κ u32 ∷ Bk.the-row ∷ MutSlice (named 1) κ₁ T.the-row ∷ Ev.the-row ∷ [])
+        (args 𝓤 H A W mem run κ q cal bk en κ₁ q₁ b o γ ys) (passed 𝓤 H A W mem run κ q cal bk en κ₁ q₁ b o γ ys)) ∷ []) ∵
+        enter ! C Λ code.function (calVal cal ∷ bookVal bk ∷ sliceVal (b, o) n ∷ entryVal en ∷ []) _ $
         alloc1 ! (λ l₀. alloc1 ! (λ l₁. alloc1 ! (λ l₂. alloc1 ! (λ l₃. alloc1 ! (λ l₄. alloc1 ! (λ l₅. alloc1 ! (λ l₆. alloc1 ! (λ l₇. alloc1 ! (λ l₈. alloc1 ! (λ l₉. alloc0 ! $ params1 ! $
         pass1 ! (init ! 16 refl (shr-slice-lawful 𝓤 H A W (named 0) κ u32 .typed cal (calVal cal ∷ []) gc .0)) $ pass1 ! (init ! 14 refl (LL.lawful Bk.the-type Bk′.the-laws 𝓤 H A W .typed bk _ gb .0)) $
         pass1 ! (init ! 12 refl (tt, (tt, (record { fits = room .0 }, tt)))) $ pass1 ! (init ! 10 refl (EL.lawful Ev.the-type Ev′.the-laws 𝓤 H A W tt .typed en _ ge .0)) $ pass0 ! $
         starts C Λ fm known-answered known-used known-front room gb ge l₀ l₁ l₂ l₃ l₄ l₅ l₆ l₇ l₈ l₉))))))))))
 
-module _ {M : Type 1} (𝓤 : URA M) (H : Heap 𝓤) (A : Atoms 𝓤) (W : Given 𝓤 H A) (mem : Memory → SProp 𝓤) (run : Routine → Fun 𝓤) (𝓣 : Tables 𝓤 H) (known-answered : Triple 𝓤 (𝓣 .C #answered) (Answered 𝓤 H A mem run)) (known-used : Triple 𝓤 (𝓣 .C #used) (Used 𝓤 H A mem run)) (known-front : Triple 𝓤 (𝓣 .C #front) (Front 𝓤 H A mem run)) where
+module _ {M : Type 1} (𝓤 : URA M) (H : Heap 𝓤) (A : Atoms 𝓤) (W : Given 𝓤 H A) (mem : Memory → SProp 𝓤) (run : Routine → Fun 𝓤) (𝓣 : Tables 𝓤 H)
+    (known-answered : Triple 𝓤 (𝓣 .C #answered) (Answered 𝓤 H A mem run))
+    (known-used : Triple 𝓤 (𝓣 .C #used) (Used 𝓤 H A mem run))
+    (known-front : Triple 𝓤 (𝓣 .C #front) (Front 𝓤 H A mem run)) where
   apply-walks : Walks 𝓤 H A apply.ended stayed (WpFn 𝓤 H (𝓣 .C) (𝓣 .Λ) code.function) (apply.clauses 𝓤 H A mem run)
   apply-walks = walked 𝓤 H A apply.ended stayed (apply.clauses 𝓤 H A mem run) (WpFn 𝓤 H (𝓣 .C) (𝓣 .Λ) code.function)
       (λ κs. (slice-vals, (LL.vals Bk.the-type Bk′.the-laws, (slice-vals, (EL.vals Ev.the-type Ev′.the-laws, tt)))))
@@ -269,7 +279,17 @@ module _ {M : Type 1} (𝓤 : URA M) (H : Heap 𝓤) (A : Atoms 𝓤) (W : Given
 
   apply-meets : Meets 𝓤 H A apply.signature (WpFn 𝓤 H (𝓣 .C) (𝓣 .Λ) code.function) (apply.spec 𝓤 H A mem run)
   apply-meets =
-      walk-meets 𝓤 H A apply.ended stayed W (goes-none-slice 𝓤 H A W 2 (0 ∷ []) tt (plain (λ _. u32)) yes, (goes-none 𝓤 H A W 2 (λ _. Bk.the-row) yes (λ κs x f. refl), (goes-slice 𝓤 H A W 2 1 tt (plain (λ _. T.the-row)), (goes-none 𝓤 H A W 2 (λ _. Ev.the-row) yes (λ κs x f. refl), tt)))) (apply.clauses 𝓤 H A mem run)
+      walk-meets 𝓤 H A apply.ended stayed W (
+        goes-none-slice 𝓤 H A W 2 (0 ∷ []) tt (plain (λ _. u32)) yes,
+        (
+          goes-none 𝓤 H A W 2 (λ _. Bk.the-row) yes (λ κs x f. refl),
+          (
+            goes-slice 𝓤 H A W 2 1 tt (plain (λ _. T.the-row)),
+            (goes-none 𝓤 H A W 2 (λ _. Ev.the-row) yes (λ κs x f. refl), tt),
+          ),
+        ),
+      )
+      (apply.clauses 𝓤 H A mem run)
       (WpFn 𝓤 H (𝓣 .C) (𝓣 .Λ) code.function) (WpFn-mono 𝓤 H (W .laws) 𝓣 code.function) apply-walks
 
 pub apply-spec : {M : Type 1} → stated.statement M

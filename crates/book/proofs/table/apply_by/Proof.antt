@@ -127,7 +127,8 @@ module _ {M : Type 1} (𝓤 : URA M) (H : Heap 𝓤) (A : Atoms 𝓤) (W : Given
       suffices ! _ (ends-at 𝓤 H A apply-by.ended stayed (apply-by.clauses 𝓤 H A mem run) W (((κ, (κ₁, (κ₂, tt))), (q, (q₁, (q₂, tt))), tt, x, at), tt) av answer (tt, (tt, (ts, (us, (tt, tt))))) (tt, (tt, (lt, (lu, (tt, tt)))))) $ says ! (refl, e) $
       nothing ! $ move ! (4 ∷ 0 ∷ []) $ join ! $ move ! (2 ∷ 0 ∷ []) $ join ! $ move ! (3 ∷ 0 ∷ []) $ join ! $ frame ! $
       -- [the table; the numbers; what calendar owns]
-      nothing ! $ owned ! Ev.the-row (Is Ev.the-row) (EL.makes Ev.the-type Ev′.the-plain 𝓤 H A) en _ ge $ fjoin ! $ move ! (2 ∷ 0 ∷ []) $ fjoin ! $ move ! (1 ∷ 0 ∷ []) $ fjoin ! $ owned ! Bk.the-row (Is Bk.the-row) (LL.makes Bk.the-type Bk′.the-plain 𝓤 H A) bk _ gb $ fjoin ! $ move ! (1 ∷ 0 ∷ []) $ fjoin ! $ frame ! $
+      nothing ! $ owned ! Ev.the-row (Is Ev.the-row) (EL.makes Ev.the-type Ev′.the-plain 𝓤 H A) en _ ge $ fjoin ! $ move ! (2 ∷ 0 ∷ []) $ fjoin ! $ move ! (1 ∷ 0 ∷ []) $ fjoin ! $
+      owned ! Bk.the-row (Is Bk.the-row) (LL.makes Bk.the-type Bk′.the-plain 𝓤 H A) bk _ gb $ fjoin ! $ move ! (1 ∷ 0 ∷ []) $ fjoin ! $ frame ! $
       owned ! B.the-row (Is B.the-row) (LL.makes B.the-type B′.the-plain 𝓤 H A) answer _ ga $ done !
 
   -- ---- the call of `apply_first`, at the numbers us, which have the table's trades
@@ -164,7 +165,11 @@ module _ {M : Type 1} (𝓤 : URA M) (H : Heap 𝓤) (A : Atoms 𝓤) (W : Given
         -- [the last numbers; …; the tokens and the result]
         move ! (2 ∷ []) $ split ! $ move ! (1 ∷ []) $ peeks ! B.the-row (Is B.the-row) (shows 𝓤 H A B.the-row) r (w ∷ []) (λ is. move ! (1 ∷ []) $ split ! $ move ! (1 ∷ []) $ split ! $
         -- [ν's token; true; calendar's token; the result; the last numbers; …]
-        at-once ! $ show ! (λ (us′ : List ℕ). mean 𝓤 H A (GetsFirst w us′)) (zs .1 .1 .0) $ check ! (e .1 ∙ ap (λ (ts : List Trade). step (now cal) bk ts en .table) same, (l, subst (λ (y : Applied). Is B.the-row y (w ∷ [])) (e .0 ∙ ap (λ (ts : List Trade). appliedOf (step (now cal) bk ts en)) same) is)) $ keep ! (0 ∷ 4 ∷ 2 ∷ []) $ done !)))))
+        at-once ! $ show ! (λ (us′ : List ℕ). mean 𝓤 H A (GetsFirst w us′)) (zs .1 .1 .0) $
+        check ! (
+          e .1 ∙ ap (λ (ts : List Trade). step (now cal) bk ts en .table) same,
+          (l, subst (λ (y : Applied). Is B.the-row y (w ∷ [])) (e .0 ∙ ap (λ (ts : List Trade). appliedOf (step (now cal) bk ts en)) same) is),
+        ) $ keep ! (0 ∷ 4 ∷ 2 ∷ []) $ done !)))))
 
   module _ (C : Calls 𝓤 H) (Λ : Loops 𝓤 H) (fm : FmC 𝓤 H (W .laws) C) (known-in : Triple 𝓤 (C #copy-in) (In 𝓤 H A mem run)) (known-first : Triple 𝓤 (C #first) (First 𝓤 H A mem run)) (known-out : Triple 𝓤 (C #copy-out) (Out 𝓤 H A mem run))
       (room : Room T.the-row n) (flat-room : Room u64 m) (gb : Is Bk.the-row bk (kv ∷ [])) (ge : Is Ev.the-row en (ev ∷ [])) (fits : n * width ≤ m)
@@ -197,7 +202,8 @@ module _ {M : Type 1} (𝓤 : URA M) (H : Heap 𝓤) (A : Atoms 𝓤) (W : Given
     flatMut = tyRef erased mut word
 
     abbrev En : Env 𝓤 H
-    En = (B′.mir, l₀) ∷ (calTy, l₁) ∷ (Bk′.mir, l₂) ∷ (tabTy, l₃) ∷ (flatTy, l₄) ∷ (Ev′.mir, l₅) ∷ (word, l₆) ∷ (B′.mir, l₇) ∷ (tyUnit, l₈) ∷ (tabShr, l₉) ∷ (sliceTy tabShr, l₁₀) ∷ (flatMut, l₁₁) ∷ (sliceTy flatMut, l₁₂) ∷ (flatMut, l₁₃) ∷ (sliceTy flatMut, l₁₄) ∷ (flatShr, l₁₅) ∷ (sliceTy flatShr, l₁₆) ∷ (tabMut, l₁₇) ∷ (sliceTy tabMut, l₁₈) ∷ []
+    En = (B′.mir, l₀) ∷ (calTy, l₁) ∷ (Bk′.mir, l₂) ∷ (tabTy, l₃) ∷ (flatTy, l₄) ∷ (Ev′.mir, l₅) ∷ (word, l₆) ∷ (B′.mir, l₇) ∷ (tyUnit, l₈) ∷ (tabShr, l₉) ∷ (sliceTy tabShr, l₁₀)
+        ∷ (flatMut, l₁₁) ∷ (sliceTy flatMut, l₁₂) ∷ (flatMut, l₁₃) ∷ (sliceTy flatMut, l₁₄) ∷ (flatShr, l₁₅) ∷ (sliceTy flatShr, l₁₆) ∷ (tabMut, l₁₇) ∷ (sliceTy tabMut, l₁₈) ∷ []
 
     -- the locals, with _6 and _7 as given
     abbrev Locals : Item 𝓤 → Item 𝓤 → List (Item 𝓤) → List (Item 𝓤)
@@ -233,7 +239,10 @@ module _ {M : Type 1} (𝓤 : URA M) (H : Heap 𝓤) (A : Atoms 𝓤) (W : Given
         land ! (from ! (stop !)) (init ! 26 refl (e .1 .1)) $
         assigns ! (of-opd ! (loads ! (from ! (stop !)) (look ! 28 refl))) (from ! (stop !)) (init ! 42 refl (LL.lawful B.the-type B′.the-laws 𝓤 H A W .typed answer _ ga .0)) $
         returns ! (look ! 42 refl) $ forget ! 6 refl $ forget ! 8 refl $ forget ! 10 refl $ forget ! 12 refl $ forget ! 26 refl $ forget ! 28 refl $ forget ! 30 refl $ forget ! 32 refl $ forget ! 34 refl $ forget ! 36 refl $ forget ! 38 refl $ forget ! 40 refl $ forget ! 42 refl $
-        move ! (42 ∷ 43 ∷ []) $ free1 ! $ move ! (40 ∷ 41 ∷ []) $ free1 ! $ move ! (38 ∷ 39 ∷ []) $ free1 ! $ move ! (36 ∷ 37 ∷ []) $ free1 ! $ move ! (34 ∷ 35 ∷ []) $ free1 ! $ move ! (32 ∷ 33 ∷ []) $ free1 ! $ move ! (30 ∷ 31 ∷ []) $ free1 ! $ move ! (28 ∷ 29 ∷ []) $ free1 ! $ move ! (26 ∷ 27 ∷ []) $ free1 ! $ move ! (24 ∷ 25 ∷ []) $ free1 ! $ move ! (22 ∷ 23 ∷ []) $ free1 ! $ move ! (20 ∷ 21 ∷ []) $ free1 ! $ move ! (18 ∷ 19 ∷ []) $ free1 ! $ move ! (16 ∷ 17 ∷ []) $ free1 ! $ move ! (14 ∷ 15 ∷ []) $ free1 ! $ move ! (12 ∷ 13 ∷ []) $ free1 ! $ move ! (10 ∷ 11 ∷ []) $ free1 ! $ move ! (8 ∷ 9 ∷ []) $ free1 ! $ move ! (6 ∷ 7 ∷ []) $ free1 ! $ free0 ! $
+        move ! (42 ∷ 43 ∷ []) $ free1 ! $ move ! (40 ∷ 41 ∷ []) $ free1 ! $ move ! (38 ∷ 39 ∷ []) $ free1 ! $ move ! (36 ∷ 37 ∷ []) $ free1 ! $ move ! (34 ∷ 35 ∷ []) $ free1 ! $
+        move ! (32 ∷ 33 ∷ []) $ free1 ! $ move ! (30 ∷ 31 ∷ []) $ free1 ! $ move ! (28 ∷ 29 ∷ []) $ free1 ! $ move ! (26 ∷ 27 ∷ []) $ free1 ! $ move ! (24 ∷ 25 ∷ []) $ free1 ! $
+        move ! (22 ∷ 23 ∷ []) $ free1 ! $ move ! (20 ∷ 21 ∷ []) $ free1 ! $ move ! (18 ∷ 19 ∷ []) $ free1 ! $ move ! (16 ∷ 17 ∷ []) $ free1 ! $ move ! (14 ∷ 15 ∷ []) $ free1 ! $
+        move ! (12 ∷ 13 ∷ []) $ free1 ! $ move ! (10 ∷ 11 ∷ []) $ free1 ! $ move ! (8 ∷ 9 ∷ []) $ free1 ! $ move ! (6 ∷ 7 ∷ []) $ free1 ! $ free0 ! $
         by ! (exits gb ge ga zs us (e .1 .0) long (e .0 ∙ trades)))))))
 
     -- from `apply_first` on
@@ -247,7 +256,11 @@ module _ {M : Type 1} (𝓤 : URA M) (H : Heap 𝓤) (A : Atoms 𝓤) (W : Given
         use3 W (raw (First 𝓤 H A mem run .pre (to-first us same ν δ))) (goes-first us same ν δ gb ge (room .0) (subst (λ (j : ℕ). n * width ≤ j) (sym long) fits)) $
         -- [pre; what is kept of the numbers; what calendar owns; the table; its token; _18 at 5; …]
         calls-at ! fm (First 𝓤 H A mem run) known-first (to-first us same ν δ)
-        (and-then ! (loads ! (from ! (stop !)) (look ! 39 refl)) (and-then ! (loads ! (from ! (stop !)) (look ! 37 refl)) (and-then ! (loads ! (from ! (stop !)) (look ! 13 refl)) (and-then ! (loads ! (from ! (stop !)) (look ! 29 refl)) (and-then ! (loads ! (from ! (stop !)) (look ! 31 refl)) (no-more !)))))) (λ w.
+        (and-then ! (loads ! (from ! (stop !)) (look ! 39 refl))
+        (and-then ! (loads ! (from ! (stop !)) (look ! 37 refl))
+        (and-then ! (loads ! (from ! (stop !)) (look ! 13 refl))
+        (and-then ! (loads ! (from ! (stop !)) (look ! 29 refl))
+        (and-then ! (loads ! (from ! (stop !)) (look ! 31 refl)) (no-more !)))))) (λ w.
         use1 W (later (some (GetsFirst us same ν δ w))) (gets-first us same ν δ w) $ await ! tt $ pick ! (λ zs. learn ! (λ e. split ! $ move ! (1 ∷ []) $ split ! $ move ! (2 ∷ 3 ∷ 0 ∷ []) $
         comes-home ! tt u64 κ₂ q₂ γ′ b′ o′ m us long flat-room ν δ zs (e .1 .0) $ move ! (4 ∷ 5 ∷ []) $
         land ! (from ! (stop !)) (init ! 28 refl (LL.lawful B.the-type B′.the-laws 𝓤 H A W .typed answer _ (e .1 .1) .0)) $
@@ -292,12 +305,17 @@ module _ {M : Type 1} (𝓤 : URA M) (H : Heap 𝓤) (A : Atoms 𝓤) (W : Given
     walk fm known-in known-first known-out gc room flat-room gb ge fits =
         qed W ((‵ (flft κ q) ⊛ ‵ (flft κ₁ q₁) ⊛ ‵ (flft κ₂ q₂) ⊛ ‵ ftrue) ∷ ‵ (owns (ShrSlice (named 0) κ u32 ∷ Bk.the-row ∷ MutSlice (named 1) κ₁ T.the-row ∷ MutSlice (named 2) κ₂ u64 ∷ Ev.the-row ∷ []) x at) ∷ []) ∵
         enter ! C Λ code.function (cv ∷ kv ∷ sliceVal (b, o) n ∷ sliceVal (b′, o′) m ∷ ev ∷ []) _ $
-        alloc1 ! (λ l₀. alloc1 ! (λ l₁. alloc1 ! (λ l₂. alloc1 ! (λ l₃. alloc1 ! (λ l₄. alloc1 ! (λ l₅. alloc1 ! (λ l₆. alloc1 ! (λ l₇. alloc1 ! (λ l₈. alloc1 ! (λ l₉. alloc1 ! (λ l₁₀. alloc1 ! (λ l₁₁. alloc1 ! (λ l₁₂. alloc1 ! (λ l₁₃. alloc1 ! (λ l₁₄. alloc1 ! (λ l₁₅. alloc1 ! (λ l₁₆. alloc1 ! (λ l₁₇. alloc1 ! (λ l₁₈. alloc0 ! $ params1 ! $
+        alloc1 ! (λ l₀. alloc1 ! (λ l₁. alloc1 ! (λ l₂. alloc1 ! (λ l₃. alloc1 ! (λ l₄. alloc1 ! (λ l₅.
+        alloc1 ! (λ l₆. alloc1 ! (λ l₇. alloc1 ! (λ l₈. alloc1 ! (λ l₉. alloc1 ! (λ l₁₀. alloc1 ! (λ l₁₁.
+        alloc1 ! (λ l₁₂. alloc1 ! (λ l₁₃. alloc1 ! (λ l₁₄. alloc1 ! (λ l₁₅. alloc1 ! (λ l₁₆. alloc1 ! (λ l₁₇. alloc1 ! (λ l₁₈. alloc0 ! $ params1 ! $
         pass1 ! (init ! 34 refl (shr-slice-lawful 𝓤 H A W (named 0) κ u32 .typed cal (cv ∷ []) gc .0)) $ pass1 ! (init ! 32 refl (LL.lawful Bk.the-type Bk′.the-laws 𝓤 H A W .typed bk _ gb .0)) $ pass1 ! (init ! 30 refl (tt, (tt, (record { fits = room .0 }, tt)))) $
         pass1 ! (init ! 28 refl (tt, (tt, (record { fits = flat-room .0 }, tt)))) $ pass1 ! (init ! 26 refl (EL.lawful Ev.the-type Ev′.the-laws 𝓤 H A W tt .typed en _ ge .0)) $ pass0 ! $
         starts C Λ fm known-in known-first known-out room flat-room gb ge fits l₀ l₁ l₂ l₃ l₄ l₅ l₆ l₇ l₈ l₉ l₁₀ l₁₁ l₁₂ l₁₃ l₁₄ l₁₅ l₁₆ l₁₇ l₁₈)))))))))))))))))))
 
-module _ {M : Type 1} (𝓤 : URA M) (H : Heap 𝓤) (A : Atoms 𝓤) (W : Given 𝓤 H A) (mem : Memory → SProp 𝓤) (run : Routine → Fun 𝓤) (𝓣 : Tables 𝓤 H) (known-in : Triple 𝓤 (𝓣 .C #copy-in) (In 𝓤 H A mem run)) (known-first : Triple 𝓤 (𝓣 .C #first) (First 𝓤 H A mem run)) (known-out : Triple 𝓤 (𝓣 .C #copy-out) (Out 𝓤 H A mem run)) where
+module _ {M : Type 1} (𝓤 : URA M) (H : Heap 𝓤) (A : Atoms 𝓤) (W : Given 𝓤 H A) (mem : Memory → SProp 𝓤) (run : Routine → Fun 𝓤) (𝓣 : Tables 𝓤 H)
+    (known-in : Triple 𝓤 (𝓣 .C #copy-in) (In 𝓤 H A mem run))
+    (known-first : Triple 𝓤 (𝓣 .C #first) (First 𝓤 H A mem run))
+    (known-out : Triple 𝓤 (𝓣 .C #copy-out) (Out 𝓤 H A mem run)) where
   apply-by-walks : Walks 𝓤 H A apply-by.ended stayed (WpFn 𝓤 H (𝓣 .C) (𝓣 .Λ) code.function) (apply-by.clauses 𝓤 H A mem run)
   apply-by-walks = walked 𝓤 H A apply-by.ended stayed (apply-by.clauses 𝓤 H A mem run) (WpFn 𝓤 H (𝓣 .C) (𝓣 .Λ) code.function)
       (λ κs. (slice-vals, (LL.vals Bk.the-type Bk′.the-laws, (slice-vals, (slice-vals, (EL.vals Ev.the-type Ev′.the-laws, tt))))))
@@ -308,7 +326,20 @@ module _ {M : Type 1} (𝓤 : URA M) (H : Heap 𝓤) (A : Atoms 𝓤) (W : Given
 
   apply-by-meets : Meets 𝓤 H A apply-by.signature (WpFn 𝓤 H (𝓣 .C) (𝓣 .Λ) code.function) (apply-by.spec 𝓤 H A mem run)
   apply-by-meets =
-      walk-meets 𝓤 H A apply-by.ended stayed W (goes-none-slice 𝓤 H A W 3 (0 ∷ []) tt (plain (λ _. u32)) yes, (goes-none 𝓤 H A W 3 (λ _. Bk.the-row) yes (λ κs x f. refl), (goes-slice 𝓤 H A W 3 1 tt (plain (λ _. T.the-row)), (goes-slice 𝓤 H A W 3 2 tt (plain (λ _. u64)), (goes-none 𝓤 H A W 3 (λ _. Ev.the-row) yes (λ κs x f. refl), tt))))) (apply-by.clauses 𝓤 H A mem run)
+      walk-meets 𝓤 H A apply-by.ended stayed W (
+        goes-none-slice 𝓤 H A W 3 (0 ∷ []) tt (plain (λ _. u32)) yes,
+        (
+          goes-none 𝓤 H A W 3 (λ _. Bk.the-row) yes (λ κs x f. refl),
+          (
+            goes-slice 𝓤 H A W 3 1 tt (plain (λ _. T.the-row)),
+            (
+              goes-slice 𝓤 H A W 3 2 tt (plain (λ _. u64)),
+              (goes-none 𝓤 H A W 3 (λ _. Ev.the-row) yes (λ κs x f. refl), tt),
+            ),
+          ),
+        ),
+      )
+      (apply-by.clauses 𝓤 H A mem run)
       (WpFn 𝓤 H (𝓣 .C) (𝓣 .Λ) code.function) (WpFn-mono 𝓤 H (W .laws) 𝓣 code.function) apply-by-walks
 
 pub apply-by-spec : {M : Type 1} → stated.statement M

@@ -132,7 +132,8 @@ module _ {M : Type 1} (𝓤 : URA M) (H : Heap 𝓤) (A : Atoms 𝓤) (W : Given
   gets-by : (w : Val) → ent 𝓤 (By 𝓤 H A mem run .post to-by w) (mean 𝓤 H A (later (some (GetsBy w))))
   gets-by w =
       qed W (raw (By 𝓤 H A mem run .post to-by w) ∷ []) ∵ updating ! $
-      use1 W (later (some (λ (r : Applied). ((‵ (flft κ q) ⊛ ‵ (flft (ν ∷ []) fullShare) ⊛ ‵ (flft (ν′ ∷ []) fullShare) ⊛ ‵ ftrue) ⊛ ‵ (B.the-row .own r (w ∷ []))) ⊛ raw (ensured 𝓤 H A apply-by.ended (apply-by.clauses 𝓤 H A mem run) (κ, (ν ∷ [], (ν′ ∷ [], tt))) by-args tt r)))) (id⊢ 𝓤 _) $ await ! tt $ pick ! (λ r.
+      use1 W (later (some (λ (r : Applied). ((‵ (flft κ q) ⊛ ‵ (flft (ν ∷ []) fullShare) ⊛ ‵ (flft (ν′ ∷ []) fullShare) ⊛ ‵ ftrue) ⊛ ‵ (B.the-row .own r (w ∷ [])))
+      ⊛ raw (ensured 𝓤 H A apply-by.ended (apply-by.clauses 𝓤 H A mem run) (κ, (ν ∷ [], (ν′ ∷ [], tt))) by-args tt r)))) (id⊢ 𝓤 _) $ await ! tt $ pick ! (λ r.
       split ! $ move ! (1 ∷ []) $ use1 W (some (λ (zs : Unit {0} × (Unit {0} × (List Trade × (List ℕ × (Unit {0} × Unit {0}))))). ‵ (lasts apply-by.ended (κ, (ν ∷ [], (ν′ ∷ [], tt))) by-args zs) ⊛ raw (fact 𝓤 ((r ≡ appliedOf left) × (zs .1 .1 .0 ≡ left .table))))) (id⊢ 𝓤 _) $ pick ! (λ zs.
       split ! $ move ! (1 ∷ []) $ heard ! ((r ≡ appliedOf left) × (zs .1 .1 .0 ≡ left .table)) (λ e. fsplit ! $ drop ! $ fsplit ! $ drop ! $ fsplit ! $ fsplit ! $ move ! (1 ∷ []) $ feqL ! (λ len. move ! (1 ∷ []) $ fsplit ! $ fsplit ! $
       -- [the last numbers; how many; …; the last table; the tokens and the result]
@@ -196,7 +197,11 @@ module _ {M : Type 1} (𝓤 : URA M) (H : Heap 𝓤) (A : Atoms 𝓤) (W : Given
         use3 W (raw (By 𝓤 H A mem run .pre (to-lent fs ν δ ν′ δ′))) (goes-by 𝓤 H A W mem run κ q cal bk en b o ys l₅ fs ν δ ν′ δ′ gb ge (all-fit few len)) $
         -- [pre; what calendar owns; what is kept of the table; of the numbers; _10 at 4; …; _6 at 12; that _5 dies at 14; _4 at 15; …]
         calls-at ! fm (By 𝓤 H A mem run) known-by (to-lent fs ν δ ν′ δ′)
-        (and-then ! (loads ! (from ! (stop !)) (look ! 21 refl)) (and-then ! (loads ! (from ! (stop !)) (look ! 19 refl)) (and-then ! (loads ! (from ! (stop !)) (look ! 8 refl)) (and-then ! (loads ! (from ! (stop !)) (look ! 4 refl)) (and-then ! (loads ! (from ! (stop !)) (look ! 15 refl)) (no-more !)))))) (λ w.
+        (and-then ! (loads ! (from ! (stop !)) (look ! 21 refl))
+        (and-then ! (loads ! (from ! (stop !)) (look ! 19 refl))
+        (and-then ! (loads ! (from ! (stop !)) (look ! 8 refl))
+        (and-then ! (loads ! (from ! (stop !)) (look ! 4 refl))
+        (and-then ! (loads ! (from ! (stop !)) (look ! 15 refl)) (no-more !)))))) (λ w.
         use1 W (later (some (GetsBy 𝓤 H A W mem run κ q cal bk en b o ys l₅ fs ν δ ν′ δ′ w))) (gets-by 𝓤 H A W mem run κ q cal bk en b o ys l₅ fs ν δ ν′ δ′ w) $ await ! tt $ pick ! (λ zs. learn ! (λ e. split ! $ move ! (1 ∷ []) $ split ! $ move ! (1 ∷ []) $ split ! $ move ! (1 ∷ []) $ split ! $
         -- [the last numbers; calendar's token; ν′'s token; the last table; ν's token; what calendar owns; what is kept of the table; of the numbers; _10 at 8; …]
         move ! (4 ∷ 6 ∷ 3 ∷ []) $ comes-home ! tt T.the-row κ₁ q₁ γ b o n ys refl room ν δ (zs .0) (e .1 .0) $
@@ -205,7 +210,9 @@ module _ {M : Type 1} (𝓤 : URA M) (H : Heap 𝓤) (A : Atoms 𝓤) (W : Given
         land ! (from ! (stop !)) (init ! 24 refl (LL.lawful B.the-type B′.the-laws 𝓤 H A W .typed result _ (e .1 .1) .0)) $
         rewrite ! 24 (λ (r : Val). ‵ (fat fullShare B′.mir l₀ 0 r)) (ap only (LL.tells B.the-type B′.the-laws result (w ∷ []) (e .1 .1))) refl $
         returns ! (look ! 24 refl) $ forget ! 0 refl $ forget ! 5 refl $ forget ! 7 refl $ forget ! 9 refl $ forget ! 11 refl $ forget ! 13 refl $ forget ! 16 refl $ forget ! 18 refl $ forget ! 20 refl $ forget ! 22 refl $ forget ! 24 refl $
-        move ! (24 ∷ 25 ∷ []) $ free1 ! $ move ! (22 ∷ 23 ∷ []) $ free1 ! $ move ! (20 ∷ 21 ∷ []) $ free1 ! $ move ! (18 ∷ 19 ∷ []) $ free1 ! $ move ! (16 ∷ 17 ∷ []) $ free1 ! $ move ! (0 ∷ 15 ∷ []) $ free1 ! $ move ! (12 ∷ 13 ∷ []) $ free1 ! $ move ! (10 ∷ 11 ∷ []) $ free1 ! $ move ! (8 ∷ 9 ∷ []) $ free1 ! $ move ! (6 ∷ 7 ∷ []) $ free1 ! $ move ! (4 ∷ 5 ∷ []) $ free1 ! $ free0 ! $
+        move ! (24 ∷ 25 ∷ []) $ free1 ! $ move ! (22 ∷ 23 ∷ []) $ free1 ! $ move ! (20 ∷ 21 ∷ []) $ free1 ! $ move ! (18 ∷ 19 ∷ []) $ free1 ! $ move ! (16 ∷ 17 ∷ []) $ free1 ! $
+        move ! (0 ∷ 15 ∷ []) $ free1 ! $ move ! (12 ∷ 13 ∷ []) $ free1 ! $ move ! (10 ∷ 11 ∷ []) $ free1 ! $ move ! (8 ∷ 9 ∷ []) $ free1 ! $ move ! (6 ∷ 7 ∷ []) $ free1 ! $
+        move ! (4 ∷ 5 ∷ []) $ free1 ! $ free0 ! $
         by ! (exits 𝓤 H A W mem run κ q cal bk en κ₁ q₁ b o γ ys gb ge (subst (Is B.the-row result) (LL.tells B.the-type B′.the-laws result (w ∷ []) (e .1 .1)) (e .1 .1)) (zs .0) (e .1 .0) (e .0)))))))))
 
     abbrev Start : List (Item 𝓤)
@@ -222,7 +229,10 @@ module _ {M : Type 1} (𝓤 : URA M) (H : Heap 𝓤) (A : Atoms 𝓤) (W : Given
         → Is (ShrSlice (named 0) κ u32) cal (calVal cal ∷ []) → Room T.the-row n → Is Bk.the-row bk (bookVal bk ∷ []) → Is Ev.the-row en (entryVal en ∷ []) → n ≤ 4096
         → ent 𝓤 (onEntry 𝓤 H A this.signature (κ, (κ₁, tt)) (q, (q₁, tt)) (args 𝓤 H A W mem run κ q cal bk en κ₁ q₁ b o γ ys) (passed 𝓤 H A W mem run κ q cal bk en κ₁ q₁ b o γ ys)) (WpFn 𝓤 H C Λ code.function (calVal cal ∷ bookVal bk ∷ sliceVal (b, o) n ∷ entryVal en ∷ []) Ends)
     walk fm known-zeros known-by gc room gb ge few =
-        qed W ((‵ (flft κ q) ⊛ ‵ (flft κ₁ q₁) ⊛ ‵ ftrue) ∷ ‵ (owns (ShrSlice (named 0) κ u32 ∷ Bk.the-row ∷ MutSlice (named 1) κ₁ T.the-row ∷ Ev.the-row ∷ []) (args 𝓤 H A W mem run κ q cal bk en κ₁ q₁ b o γ ys) (passed 𝓤 H A W mem run κ q cal bk en κ₁ q₁ b o γ ys)) ∷ []) ∵ enter ! C Λ code.function (calVal cal ∷ bookVal bk ∷ sliceVal (b, o) n ∷ entryVal en ∷ []) _ $
+        qed W ((‵ (flft κ q) ⊛ ‵ (flft κ₁ q₁) ⊛ ‵ ftrue)
+        ∷ ‵ (owns (ShrSlice (named 0) κ u32 ∷ Bk.the-row ∷ MutSlice (named 1) κ₁ T.the-row ∷ Ev.the-row ∷ [])
+        (args 𝓤 H A W mem run κ q cal bk en κ₁ q₁ b o γ ys) (passed 𝓤 H A W mem run κ q cal bk en κ₁ q₁ b o γ ys)) ∷ []) ∵
+        enter ! C Λ code.function (calVal cal ∷ bookVal bk ∷ sliceVal (b, o) n ∷ entryVal en ∷ []) _ $
         alloc1 ! (λ l₀. alloc1 ! (λ l₁. alloc1 ! (λ l₂. alloc1 ! (λ l₃. alloc1 ! (λ l₄. alloc1 ! (λ l₅. alloc1 ! (λ l₆. alloc1 ! (λ l₇. alloc1 ! (λ l₈. alloc1 ! (λ l₉. alloc1 ! (λ l₁₀. alloc0 ! $ params1 ! $
         pass1 ! (init ! 18 refl (shr-slice-lawful 𝓤 H A W (named 0) κ u32 .typed cal (calVal cal ∷ []) gc .0)) $ pass1 ! (init ! 16 refl (LL.lawful Bk.the-type Bk′.the-laws 𝓤 H A W .typed bk _ gb .0)) $
         pass1 ! (init ! 14 refl (tt, (tt, (record { fits = room .0 }, tt)))) $ pass1 ! (init ! 12 refl (EL.lawful Ev.the-type Ev′.the-laws 𝓤 H A W tt .typed en _ ge .0)) $ pass0 ! $
@@ -239,7 +249,17 @@ module _ {M : Type 1} (𝓤 : URA M) (H : Heap 𝓤) (A : Atoms 𝓤) (W : Given
 
   meets : Meets 𝓤 H A this.signature (WpFn 𝓤 H (𝓣 .C) (𝓣 .Λ) code.function) (this.spec 𝓤 H A mem run)
   meets =
-      walk-meets 𝓤 H A this.ended stayed W (goes-none-slice 𝓤 H A W 2 (0 ∷ []) tt (plain (λ _. u32)) yes, (goes-none 𝓤 H A W 2 (λ _. Bk.the-row) yes (λ κs x f. refl), (goes-slice 𝓤 H A W 2 1 tt (plain (λ _. T.the-row)), (goes-none 𝓤 H A W 2 (λ _. Ev.the-row) yes (λ κs x f. refl), tt)))) (this.clauses 𝓤 H A mem run)
+      walk-meets 𝓤 H A this.ended stayed W (
+        goes-none-slice 𝓤 H A W 2 (0 ∷ []) tt (plain (λ _. u32)) yes,
+        (
+          goes-none 𝓤 H A W 2 (λ _. Bk.the-row) yes (λ κs x f. refl),
+          (
+            goes-slice 𝓤 H A W 2 1 tt (plain (λ _. T.the-row)),
+            (goes-none 𝓤 H A W 2 (λ _. Ev.the-row) yes (λ κs x f. refl), tt),
+          ),
+        ),
+      )
+      (this.clauses 𝓤 H A mem run)
       (WpFn 𝓤 H (𝓣 .C) (𝓣 .Λ) code.function) (WpFn-mono 𝓤 H (W .laws) 𝓣 code.function) walks
 
 pub apply-in-numbers-spec : {M : Type 1} → stated.statement M
