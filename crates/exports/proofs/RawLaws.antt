@@ -107,7 +107,14 @@ pub codes-same : (codes : Codes) → isWellFormed codes ≡ true → codesOf (st
 unfolding isWellFormed
 codes-same codes e =
     let h = every-holds _ e in
-    rw (dated-same (codes .dated) (codes .day), day-same (codes .dated) (codes .day) (h .1 .1 .1 .1 .0), phase-same (codes .phase) (leb-true (codes .phase) 2 (h .0)), status-same (codes .status) (leb-true (codes .status) 2 (h .1 .0)), failed-same (codes .failed) (leb-true (codes .failed) 2 (h .1 .1 .0)), short-same (codes .short) (leb-true (codes .short) 3 (h .1 .1 .1 .0))) refl
+    rw (
+      dated-same (codes .dated) (codes .day),
+      day-same (codes .dated) (codes .day) (h .1 .1 .1 .1 .0),
+      phase-same (codes .phase) (leb-true (codes .phase) 2 (h .0)),
+      status-same (codes .status) (leb-true (codes .status) 2 (h .1 .0)),
+      failed-same (codes .failed) (leb-true (codes .failed) 2 (h .1 .1 .0)),
+      short-same (codes .short) (leb-true (codes .short) 3 (h .1 .1 .1 .0)),
+    ) refl
 
 pub raw-same : (raw : RawScalars) → isWellFormed (raw .codes) ≡ true → rawOf (scalarsFrom raw) ≡ raw
 unfolding rawOf scalarsFrom

@@ -180,7 +180,8 @@ module _ {M : Type 1} (𝓤 : URA M) (H : Heap 𝓤) (A : Atoms 𝓤) (W : Given
         -- [_5; calendar's token; _9 at 2; …; _6 at 8; that _5 dies at 10; _4 at 11; …; _0 at 19]
         land ! (from ! (stop !)) (init ! 19 refl (LL.lawful L.the-type L′.the-laws 𝓤 H A W .typed r _ is .0)) $
         returns ! (look ! 19 refl) $ forget ! 0 refl $ forget ! 2 refl $ forget ! 4 refl $ forget ! 6 refl $ forget ! 8 refl $ forget ! 11 refl $ forget ! 13 refl $ forget ! 15 refl $ forget ! 17 refl $ forget ! 19 refl $
-        move ! (19 ∷ 20 ∷ []) $ free1 ! $ move ! (17 ∷ 18 ∷ []) $ free1 ! $ move ! (15 ∷ 16 ∷ []) $ free1 ! $ move ! (13 ∷ 14 ∷ []) $ free1 ! $ move ! (11 ∷ 12 ∷ []) $ free1 ! $ move ! (0 ∷ 10 ∷ []) $ free1 ! $ move ! (7 ∷ 8 ∷ []) $ free1 ! $ move ! (5 ∷ 6 ∷ []) $ free1 ! $ move ! (3 ∷ 4 ∷ []) $ free1 ! $ move ! (1 ∷ 2 ∷ []) $ free1 ! $ free0 ! $
+        move ! (19 ∷ 20 ∷ []) $ free1 ! $ move ! (17 ∷ 18 ∷ []) $ free1 ! $ move ! (15 ∷ 16 ∷ []) $ free1 ! $ move ! (13 ∷ 14 ∷ []) $ free1 ! $ move ! (11 ∷ 12 ∷ []) $ free1 ! $
+        move ! (0 ∷ 10 ∷ []) $ free1 ! $ move ! (7 ∷ 8 ∷ []) $ free1 ! $ move ! (5 ∷ 6 ∷ []) $ free1 ! $ move ! (3 ∷ 4 ∷ []) $ free1 ! $ move ! (1 ∷ 2 ∷ []) $ free1 ! $ free0 ! $
         by ! (exits u (subst (λ (y : Ledger). Is L.the-row y (u ∷ [])) (er ∙ ap (λ (us : List Trade). record { answer = next .answer; book = next .book; table = us }) (e .0)) is))))))))))))
 
   module _ (C : Calls 𝓤 H) (Λ : Loops 𝓤 H) where
@@ -204,7 +205,17 @@ module _ {M : Type 1} (𝓤 : URA M) (H : Heap 𝓤) (A : Atoms 𝓤) (W : Given
 
   meets : Meets 𝓤 H A this.signature (WpFn 𝓤 H (𝓣 .C) (𝓣 .Λ) code.function) (this.spec 𝓤 H A mem run)
   meets =
-      walk-meets 𝓤 H A this.ended stayed W (goes-dropped 𝓤 H A W 1 (SliceRefOf (0 ∷ []) tt (plain (λ _. u32)) (λ _. tt)) yes (λ κs x f. refl), (goes-dropped 𝓤 H A W 1 (plain (λ _. Bk.the-row)) yes (λ κs x f. refl), (goes-dropped 𝓤 H A W 1 (ArrayOf (plain (λ _. T.the-row)) (λ _. tt) 4) yes (λ κs x f. refl), (goes-dropped 𝓤 H A W 1 (plain (λ _. Ev.the-row)) yes (λ κs x f. refl), tt)))) (this.clauses 𝓤 H A mem run)
+      walk-meets 𝓤 H A this.ended stayed W (
+        goes-dropped 𝓤 H A W 1 (SliceRefOf (0 ∷ []) tt (plain (λ _. u32)) (λ _. tt)) yes (λ κs x f. refl),
+        (
+          goes-dropped 𝓤 H A W 1 (plain (λ _. Bk.the-row)) yes (λ κs x f. refl),
+          (
+            goes-dropped 𝓤 H A W 1 (ArrayOf (plain (λ _. T.the-row)) (λ _. tt) 4) yes (λ κs x f. refl),
+            (goes-dropped 𝓤 H A W 1 (plain (λ _. Ev.the-row)) yes (λ κs x f. refl), tt),
+          ),
+        ),
+      )
+      (this.clauses 𝓤 H A mem run)
       (WpFn 𝓤 H (𝓣 .C) (𝓣 .Λ) code.function) (WpFn-mono 𝓤 H (W .laws) 𝓣 code.function) walks
 
 pub apply-spec : {M : Type 1} → stated.statement M
