@@ -19,9 +19,9 @@ use Rattle.money.proofs.Refusals.{hit, skip, clear}
 use Rattle.rules.specs.Limits.{netLimit}
 use Rattle.rules.specs.Book.{answer}
 use Rattle.rules.specs.Days.{paymentDay}
-use Rattle.rules.specs.Trades.{total, outstanding, maturing, maturityAmount, matured, remaining, packed, over}
+use Rattle.rules.specs.Trades.{total, maturing, maturityAmount, matured, remaining, packed, over}
 use Rattle.rules.specs.Fit.{netFit, securitiesFit, cashFit, fit}
-use Rattle.rules.specs.Close.{Evening, mayClose, today, maturedTrades, maturedSheets, maturedAmount, netWithMatured, clearedAtClose, closeCauses, allArrived, served, evening, closedTable, closedBook, closeAnswer}
+use Rattle.rules.specs.Close.{Evening, mayClose, today, maturedTrades, maturedSheets, maturedAmount, netWithMatured, clearedAtClose, closeCauses, allArrived, evening, closedTable, closedBook, closeAnswer}
 use Rattle.rules.proofs.FitParts.{securities-fit, cash-fits}
 use Rattle.rules.proofs.TableFit.{matured-lessens, fewer-fit}
 use Rattle.rules.proofs.EveningFit.{all-arrived-fit}
@@ -33,8 +33,7 @@ use Rattle.core.specs.Redemption.{Redeemed, maturityOf}
 use Rattle.core.specs.Flat.{Rows, rowsOf, tradesTo, tradesOf, bookOf, eveningAt, appliedAt, closedBy, tableBy, Kept}
 use Rattle.core.proofs.FitFacts.{fit-in-use}
 use Rattle.core.proofs.FlatLaws.{length-trades, take-trades}
-use Rattle.core.proofs.VaultLaws.{Sound}
-use Rattle.core.proofs.EveningLaws.{Kept as KeptEvening, applications-sound}
+use Rattle.core.proofs.EveningLaws.{Kept as KeptEvening}
 
 -- ---- the causes, by the code's tests in their order
 
@@ -142,11 +141,6 @@ module _ (book : Book) (s : securitiesFit (book .vault) ≡ true) (c : cashFit (
   evening-begins =
       let arrived = all-arrived-fit (book .cash .client) (book .cash .own) (book .vault) 0 0 (securities-fit (book .vault) s) (cash-fits (book .cash) (book .vault .guarantee) c) in
       record { securities = arrived .securities; free = arrived .cash .free; cash = omega (arith, arrived .cash .sum) }
-
-  -- the vault that they leave has a value
-  pub evening-sound : (left : List Trade) → Sound (evening book left .vault)
-  unfolding evening
-  evening-sound left = applications-sound (served (book .standing)) (outstanding left) (book .withdrawals) (begun book) evening-begins
 
 -- ---- what Close gives back, refused and done
 

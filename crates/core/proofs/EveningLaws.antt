@@ -17,7 +17,7 @@ use Rattle.money.specs.Collateral.{rateOf, unitLimitOf, kindValue}
 use Rattle.rules.specs.Folds.{inTurn}
 use Rattle.rules.specs.Book.{noSecurity}
 use Rattle.rules.specs.Vault.{securityAt, isCash, effectiveOf, frozenOf, value}
-use Rattle.rules.specs.Close.{Evening, fewer, fewerCash, takenOut, covered, mayGo, doneOne, settleOne, settled, applications}
+use Rattle.rules.specs.Close.{Evening, fewer, fewerCash, takenOut, covered, mayGo, doneOne, settleOne, settled}
 use Rattle.rules.proofs.FoldLaws.{by-test, both, in-turn-keeps, at-set}
 use Rattle.rules.proofs.FitParts.{SecurityFits, SecuritiesFit, fit-securities}
 use Rattle.core.specs.Types.{Security, Guarantee, Vault, Withdrawals}
@@ -207,8 +207,3 @@ module _ (served : Bool) (outstanding : ℕ) (withdrawals : Withdrawals) where
     turns-count zero = omega arith
     turns-count (suc n) =
         omega (arith, turns-count n, settled-counts served outstanding (getD (withdrawals .kinds) n 0) (getD (withdrawals .units) n 0) (inTurn n turn evening))
-
-    -- after the applications the vault is sound
-    pub applications-sound : Kept evening → Sound (applications served outstanding withdrawals evening .vault)
-    unfolding applications
-    applications-sound kept = sound-of (inTurn (withdrawals .count) turn evening) (turns-keep (withdrawals .count) kept)

@@ -1,6 +1,6 @@
 -- What a fit book tells an initial trade: today lies in the calendar, and the sum of sheets and the amount stay within their words.
 -- Assumes nothing.
-use mathlib.Core.Path.{_≡_, refl}
+use mathlib.Core.Path.{_≡_}
 use mathlib.Core.Bool.{true, false, not, _||_}
 use mathlib.Core.List.{List}
 use mathlib.Core.Option.{none}

@@ -9,7 +9,7 @@ use native.Mathlib.Numerals.{add-one}
 use native.Mathlib.Omega.{arith}
 use borrow.Author.Tests.{ltb-false}
 use lib.Dec.{eqb}
-use lib.ListN.{length, getD, replicate, length-replicate, getD-replicate, replicate-append-replicate}
+use lib.ListN.{getD, replicate, length-replicate, getD-replicate, replicate-append-replicate}
 use Rattle.money.specs.Causes.{firstOf, numberOf}
 use Rattle.money.proofs.Refusals.{failed}
 use Rattle.money.specs.Days.{Calendar}

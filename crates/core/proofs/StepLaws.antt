@@ -25,9 +25,6 @@ module _ (calendar : Calendar) (book : Book) (table : List Trade) where
       or-true true = refl
       or-true false = refl
 
-  pub not-fit : fit calendar book table ≡ false → unfit calendar book table ≡ true
-  not-fit e = rw e refl
-
   pub not-unfit : fit calendar book table ≡ true → length calendar ≤ 1200 → unfit calendar book table ≡ false
   not-unfit fits few = rw (fits, le-ltb 1200 (length calendar) few) refl
 

@@ -1,7 +1,7 @@
 // Whether contracts differ, by chains: each trade is linked to the last one before it whose contract falls into the same bucket, so that
 // a contract is compared with few others. A chain that gets long shows nothing, and the contracts are sorted instead.
 ghost use mathlib.Core.Path.{_≡_};
-ghost use Prim.Native.Nat.{_+_, _≤_, _<_};
+ghost use Prim.Native.Nat.{_≤_, _<_};
 ghost use lib.ListN.{length, replicate};
 ghost use Rattle.rules.specs.Limits.{capacityLimit};
 ghost use Rattle.core.specs.Flat.{HasSlots};

@@ -1,6 +1,6 @@
 // 10 Early: takes sheets off a trade at the price given; the amount joins today's net.
 ghost use mathlib.Core.Path.{_≡_};
-ghost use Prim.Native.Nat.{_≤_, _<_};
+ghost use Prim.Native.Nat.{_≤_};
 ghost use Rattle.money.specs.Limits.{tradeLimit};
 ghost use Rattle.money.specs.Causes.{firstOf, numberOf};
 ghost use Rattle.rules.specs.Early.{pastDue, orderCauses, namedCauses, takeCauses, earlyCauses, earlyBook, earlyTable};

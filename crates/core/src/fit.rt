@@ -13,7 +13,6 @@ ghost use Rattle.core.specs.Types.{Trade};
 ghost use Rattle.core.specs.Flat.{RowsLong, rowsOf, bookOf, tradesTo, tradesOf, Kept};
 ghost use Rattle.core.specs.Figures.{outstandingAt, latestFirst, summaryOf};
 use crate::days;
-use crate::flat;
 use crate::layout;
 use crate::nets;
 use crate::trades;

@@ -1,7 +1,7 @@
 // Trades with nothing left leave the table, order kept, and the slots that they free are filled with zeros.
 ghost use mathlib.Core.Path.{_≡_};
 ghost use mathlib.Core.List.{_++_};
-ghost use Prim.Native.Nat.{_-_, _≤_, _<_};
+ghost use Prim.Native.Nat.{_-_, _≤_};
 ghost use lib.ListN.{length, set, take, drop, replicate};
 ghost use Rattle.rules.specs.Trades.{noTrade, remaining, packed};
 ghost use Rattle.core.specs.Flat.{HasSlots, HasSlot, tradesTo, tradesOf};

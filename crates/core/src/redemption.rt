@@ -1,7 +1,7 @@
 // Redemption: what it will move, planned before anything is written, and what it leaves of the table.
 ghost use mathlib.Core.Path.{_≡_};
 ghost use mathlib.Core.List.{map};
-ghost use Prim.Native.Nat.{_-_, _≤_, _<_};
+ghost use Prim.Native.Nat.{_≤_};
 ghost use lib.ListN.{set};
 ghost use Rattle.money.specs.Limits.{tradeLimit, priceLimit, termLimit};
 ghost use Rattle.money.specs.Units.{fen, sheets};

@@ -1,6 +1,5 @@
 // 8 Withdraw: puts an application down for the evening.
 ghost use mathlib.Core.Path.{_≡_};
-ghost use mathlib.Core.Bool.{true};
 ghost use Prim.Native.Nat.{_+_, _≤_};
 ghost use lib.Dec.{ltb};
 ghost use Rattle.money.specs.Causes.{firstOf, numberOf};

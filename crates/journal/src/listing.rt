@@ -1,6 +1,6 @@
 // The listing of a journal: a line of text for each event, or that the journal is refused.
 ghost use mathlib.Core.Path.{_≡_};
-ghost use Prim.Native.Nat.{_+_, _*_, _/_, _%_, _≤_};
+ghost use Prim.Native.Nat.{_*_, _/_, _%_, _≤_};
 ghost use lib.ListN.{length};
 ghost use Rattle.money.specs.Limits.{calendarLimit};
 ghost use Rattle.rules.specs.Entry.{eventBytes};

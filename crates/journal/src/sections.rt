@@ -1,5 +1,4 @@
 // A journal's two sections, read one after the other, and the end after them.
-ghost use mathlib.Core.Path.{_≡_};
 ghost use Rattle.journal.specs.Sections.{AreSectionsOf};
 use crate::reader;
 use crate::section::COUNT_BYTES;

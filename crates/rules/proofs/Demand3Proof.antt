@@ -4,7 +4,7 @@ use mathlib.Core.Path.{_≡_, refl, sym, ap, _∙_}
 use mathlib.Core.Bool.{Bool, true, false, cond, _&&_}
 use mathlib.Core.List.{List, [], _∷_, map}
 use mathlib.Core.Option.{Option, none, some}
-use Prim.Native.Nat.{ℕ, zero, suc, _+_}
+use Prim.Native.Nat.{ℕ, zero, suc}
 use native.Mathlib.Omega.{arith}
 use lib.IntN.{pos, _+ℤ_, _-ℤ_, +ℤ-assoc, +ℤ-idl, +ℤ-idr}
 use Rattle.money.specs.Causes.{firstOf}

@@ -25,7 +25,6 @@ use Rattle.rules.specs.Initial.{initialCauses, begun, initialTable}
 use Rattle.rules.specs.Early.{earlyCauses, earlyBook, earlyTable}
 use Rattle.rules.specs.Close.{maturedTrades, maturedSheets, maturedAmount, closeCauses, closeAnswer, closedBook, closedTable}
 use Rattle.rules.specs.Step.{Outcome, outcome, eventCauses, entryCauses, causes, act, actOn, refuseOr, step}
-use Rattle.rules.specs.Cover.{coverOf}
 
 -- a table with more slots behind it
 abbrev pub withRest : Outcome → List Trade → Outcome
@@ -154,10 +153,6 @@ module _ (calendar : Calendar) (book : Book) (front rest : List Trade) (room : b
       by-refusal none done = refl
       by-refusal (some number) done = refl
 
-  cover-front : coverOf calendar book (front ++ rest) ≡ coverOf calendar book front
-  unfolding coverOf
-  cover-front = rw (fit-front, headroom-front, in-use)
-
 -- ---- as many slots as are looked at
 
 module _ (calendar : Calendar) (book : Book) (table : List Trade) (few : length table ≤ 4096) (used : ℕ) (e : used ≡ min (book .trades + 1) (length table)) where
@@ -174,9 +169,3 @@ module _ (calendar : Calendar) (book : Book) (table : List Trade) (few : length 
       looked-at
       (λ room. ap (λ (l : List Trade). step calendar book l entry) (sym (take-append-drop used table)) ∙ step-front calendar book (take used table) (drop used table) room (rw (take-append-drop used table) few) entry)
       (λ all. rw (take-all used table all, drop-of-length-le table all) (sym (no-rest (step calendar book table entry))))
-
-  pub cover-used : coverOf calendar book table ≡ coverOf calendar book (take used table)
-  cover-used =
-      looked-at
-      (λ room. ap (coverOf calendar book) (sym (take-append-drop used table)) ∙ cover-front calendar book (take used table) (drop used table) room (rw (take-append-drop used table) few))
-      (λ all. rw (take-all used table all))

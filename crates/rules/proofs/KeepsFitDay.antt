@@ -21,7 +21,7 @@ use Rattle.money.specs.Days.{Calendar}
 use Rattle.rules.specs.Limits.{netLimit}
 use Rattle.rules.specs.Book.{Cash, Guarantee, Closed, Trading, Paid, Book, isTerminated}
 use Rattle.rules.specs.Days.{following, paymentDay, followed}
-use Rattle.rules.specs.Trades.{Contract, Trade, Terms, inUse, outstanding, emptied, takeOff, remaining, over}
+use Rattle.rules.specs.Trades.{Contract, Trade, Terms, inUse, emptied, takeOff, remaining, over}
 use Rattle.rules.specs.Vault.{value, headroom, outstandingOf}
 use Rattle.rules.specs.Fit.{tradeFit, dayFit}
 use Rattle.rules.specs.Open.{nextDay, turnsTerminated, netWithFallbacks, openCauses, openedBook, openedTable}

@@ -2,12 +2,12 @@
 -- For demand 3, and for the proofs of the events that change the table. Assumes nothing.
 use mathlib.Core.Path.{_≡_, refl, ap, _∙_}
 use mathlib.Core.Logic.{_⊎_, inl, inr}
-use mathlib.Core.Bool.{Bool, true, false, cond, not}
+use mathlib.Core.Bool.{Bool, true, false, cond}
 use mathlib.Core.List.{List, [], _∷_, _++_, map}
 use Prim.Native.Nat.{ℕ, zero, suc, _+_, _-_, _≤_, _<_}
 use native.Mathlib.Numerals.{add-one}
 use native.Mathlib.Omega.{arith}
-use lib.Dec.{leb, eqb}
+use lib.Dec.{leb}
 use lib.ListN.{length, take, drop, set, replicate, length-append, length-drop, length-replicate}
 use lib.Seq.{take-at, take-append-seam, length-take-le, length-front, take-suc-set}
 use Rattle.rules.specs.Trades.{Contract, Trade, noTrade, same, withSheets, total, outstanding, onTable, tradeOf, takeOff, emptied, maturing, matured, leaves, remaining, packed, over}
@@ -65,15 +65,6 @@ pub outstanding-remaining : (l : List Trade) → outstanding (remaining l) ≡ o
 unfolding outstanding
 outstanding-remaining l = total-remaining sheetsOf (λ t e. e) l
 
-pub length-remaining : (l : List Trade) → length (remaining l) ≤ length l
-unfolding remaining
-length-remaining [] = omega arith
-length-remaining (t ∷ l) = go (t .sheets .0) (length-remaining l)
-  where
-    go : (n : ℕ) → length (remaining l) ≤ length l → length (leaves n t (remaining l)) ≤ suc (length l)
-    go zero h = omega arith
-    go (suc n) h = omega arith
-
 leaves-append : (n : ℕ) (t : Trade) (a b : List Trade) → leaves n t (a ++ b) ≡ leaves n t a ++ b
 leaves-append zero t a b = refl
 leaves-append (suc n) t a b = refl
@@ -115,14 +106,6 @@ maturing-le d t = go (leb (t .due) d)
     go : (b : Bool) → cond b (t .sheets .0) 0 ≤ t .sheets .0
     go true = omega arith
     go false = omega arith
-
--- where any sheets mature, all do
-pub matures-whole : (d : ℕ) (t : Trade) → not (eqb (maturing d t) 0) ≡ true → maturing d t ≡ t .sheets .0
-matures-whole d t = go (leb (t .due) d)
-  where
-    go : (b : Bool) → not (eqb (cond b (t .sheets .0) 0) 0) ≡ true → cond b (t .sheets .0) 0 ≡ t .sheets .0
-    go true e = refl
-    go false e = let z : _≡_ {A = ℕ} 0 1 = cc in absurd (omega arith)
 
 pub outstanding-matured : (d : ℕ) (l : List Trade) → outstanding (map (matured d) l) + total (maturing d) l ≡ outstanding l
 unfolding outstanding total

@@ -14,7 +14,7 @@ use Rattle.rules.specs.Folds.{allBelow, every}
 use Rattle.rules.specs.Limits.{capacityLimit, sizeLimit, netLimit, applicationLimit}
 use Rattle.rules.specs.Book.{Nets, Cash, Security, Guarantee, Vault, Day, Never, On, Phase, Withdrawals, Book, isClosed}
 use Rattle.rules.specs.Days.{followed, paymentDay}
-use Rattle.rules.specs.Trades.{Trade, inUse, outstanding, differ}
+use Rattle.rules.specs.Trades.{Trade, inUse, differ}
 use Rattle.rules.specs.Vault.{securityAt, outstandingOf}
 
 -- "capacity (the lent table's length) 4,096, with no more trades than capacity"

@@ -1,4 +1,4 @@
-use mathlib.Core.Path.{_≡_, sym, ap, _∙_}
+use mathlib.Core.Path.{_≡_, ap, _∙_}
 use mathlib.Core.List.{List}
 use borrow.Author.Needs.{needs}
 use lib.ListN.{length}
@@ -6,7 +6,7 @@ use Rattle.rules.specs.Trades.{outstanding, remaining}
 use Rattle.rules.specs.Close.{maturedTrades, evening}
 use Rattle.core.specs.Types.{Book, Trade}
 use Rattle.core.specs.Flat.{tradesTo, tradesOf, securitiesOf, rowsOf, bookOf, eveningAt}
-use Rattle.core.proofs.CloseLaws.{redeemed-kept, trades-after-maturity, packed-after-maturity, evening-sound, rows-cleared, close-done}
+use Rattle.core.proofs.CloseLaws.{redeemed-kept, trades-after-maturity, packed-after-maturity, rows-cleared, close-done}
 use Rattle.core.proofs.close.closed.Statement.{statement}
 use Rattle.core.proofs.close.closed.Tie as tie
 

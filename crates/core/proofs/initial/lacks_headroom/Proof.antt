@@ -1,4 +1,3 @@
-use mathlib.Core.Path.{_∙_}
 use borrow.Author.Needs.{needs}
 use Rattle.rules.specs.Vault.{headroom}
 use Rattle.core.proofs.initial.lacks_headroom.Statement.{statement}
