@@ -2,30 +2,13 @@
 -- Assumes nothing.
 use mathlib.Core.Path.{_≡_, refl}
 use mathlib.Core.List.{List, [], _∷_, _++_, map}
-use Prim.Native.Nat.{ℕ, zero, suc, _+_, _/_, _%_}
+use Prim.Native.Nat.{ℕ, zero, suc, _/_, _%_}
 use lib.ListN.{take, replicate}
-use Rattle.rules.specs.Book.{freshBook}
 use Rattle.rules.specs.Run.{run}
-use Rattle.rules.specs.Step.{step, causes, eventCauses, act}
 use Rattle.money.specs.Causes.{firstOf}
-use Rattle.rules.specs.Fit.{fit, capacityFit, securitiesFit, cashFit, allTrades, sizeFit, netsFit, withdrawalsFit}
-use Rattle.rules.specs.Folds.{every, allBelow, inTurn, sumBelow}
-use Rattle.rules.specs.Trades.{differ, total, outstanding, remaining, onTable}
-use Rattle.rules.specs.Days.{followed, following, paymentDay}
-use Rattle.money.specs.Days.{trades, firstTrading, atOrAfter, nextAfter, earliest}
-use Rattle.rules.specs.Size.{sizeCauses, sized}
-use Rattle.rules.specs.Funds.{fundInCauses, fundedIn}
-use Rattle.rules.specs.Rate.{rateCauses, rated}
-use Rattle.rules.specs.Open.{openCauses, openedBook, openedTable, statusAtOpen, turnsTerminated}
-use Rattle.rules.specs.Pledge.{pledgeCauses, pledged}
-use Rattle.rules.specs.Pay.{payCauses, afterPay}
-use Rattle.rules.specs.Close.{closeCauses, closedBook, closedTable, closeAnswer, maturedTrades, maturedSheets, maturedAmount, evening, applications, allArrived, isShortClose}
-use Rattle.rules.specs.Vault.{value, headroom}
-use Rattle.money.specs.Collateral.{kindValue}
-use Rattle.rules.specs.Initial.{initialCauses, initialBook, initialTable}
-use Rattle.money.specs.Money.{principal, redemption, income}
 use Rattle.rules.specs.Listing.{listingOf, entriesOf, lineOf, linesOf}
 use Rattle.rules.specs.Entry.{decoded, entryOf, unless, littleEndian}
+use Rattle.rules.proofs.Opened.{everyRule}
 use Rattle.journal.specs.Sections.{sectionCauses, journalCauses, wordsOf, calendarOf, eventsOf}
 use Rattle.journal.specs.Text.{placesTo, decimal, spaced, signed, lineFrom, lineText}
 use Rattle.journal.specs.Listing.{linesText, refusedLine, listingBy, listingText}
@@ -92,13 +75,8 @@ printed =
     ++ line 16 0 80 100 6000000 2000000
 
 pub journal-prints : listingText journal ≡ printed
-unfolding freshBook run step causes eventCauses act firstOf fit every capacityFit securitiesFit allBelow cashFit allTrades sizeFit netsFit differ
-    withdrawalsFit followed following paymentDay trades firstTrading atOrAfter nextAfter earliest sizeCauses sized fundInCauses fundedIn rateCauses
-    rated openCauses openedBook openedTable statusAtOpen turnsTerminated pledgeCauses pledged payCauses afterPay closeCauses closedBook closedTable
-    closeAnswer maturedTrades maturedSheets maturedAmount evening applications inTurn allArrived isShortClose total outstanding remaining value
-    sumBelow kindValue headroom initialCauses initialBook initialTable onTable principal redemption income listingOf entriesOf lineOf linesOf decoded
-    entryOf unless littleEndian sectionCauses journalCauses wordsOf calendarOf eventsOf decimal placesTo spaced signed lineFrom lineText linesText
-    listingBy listingText refusedLine
+unfolding everyRule listingOf entriesOf lineOf linesOf decoded entryOf unless littleEndian sectionCauses journalCauses wordsOf calendarOf eventsOf
+    decimal placesTo spaced signed lineFrom lineText linesText listingBy listingText refusedLine
 journal-prints = refl
 
 -- "2 0 0 0 5000000 0 0" and, with a negative headroom, "3 0 -20 120 7 0 15", each with its line end

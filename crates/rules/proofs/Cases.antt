@@ -6,29 +6,18 @@ use Prim.Native.Nat.{ℕ, _+_}
 use lib.IntN.{natAbs}
 use lib.ListN.{replicate}
 use Rattle.money.specs.Units.{fen, sheets, ticks}
-use Rattle.money.specs.Causes.{firstOf}
-use Rattle.money.specs.Days.{Calendar, trades, firstTrading, atOrAfter, nextAfter, earliest}
-use Rattle.money.specs.Money.{principal, income, redemption, redemptionAmount}
-use Rattle.money.specs.Collateral.{kindValue, kindWorth}
-use Rattle.rules.specs.Folds.{sumBelow, allBelow, inTurn, every}
+use Rattle.money.specs.Days.{Calendar}
+use Rattle.money.specs.Money.{redemptionAmount}
+use Rattle.money.specs.Collateral.{kindWorth}
 use Rattle.rules.specs.Book.{Status, Normal, Suspended, Terminated, Book, Answer, freshBook}
-use Rattle.rules.specs.Days.{following, paymentDay, followed}
-use Rattle.rules.specs.Trades.{Trade, noTrade, total, outstanding, onTable, differ, remaining}
-use Rattle.rules.specs.Vault.{value, headroom}
-use Rattle.rules.specs.Fit.{capacityFit, securitiesFit, cashFit, allTrades, sizeFit, netsFit, withdrawalsFit, fit}
+use Rattle.rules.specs.Trades.{Trade, noTrade}
+use Rattle.rules.specs.Vault.{headroom}
 use Rattle.rules.specs.Entry.{Own, Client, Open, FundIn, FundOut, Size, Rate, Pledge, Initial, Pay, Close, Entry, Known}
-use Rattle.rules.specs.Open.{openCauses, openedBook, openedTable, statusAtOpen, turnsTerminated}
-use Rattle.rules.specs.Funds.{fundInCauses, fundedIn, fundOutCauses, fundedOut}
-use Rattle.rules.specs.Size.{sizeCauses, sized}
-use Rattle.rules.specs.Rate.{rateCauses, rated}
-use Rattle.rules.specs.Pledge.{pledgeCauses, pledged}
-use Rattle.rules.specs.Initial.{initialCauses, initialBook, initialTable}
-use Rattle.rules.specs.Pay.{payCauses, afterPay}
-use Rattle.rules.specs.Close.{maturedTrades, maturedSheets, maturedAmount, closeCauses, allArrived, applications, evening, closedTable, isShortClose, closedBook, closeAnswer}
-use Rattle.rules.specs.Step.{eventCauses, causes, act, step}
-use Rattle.rules.specs.Run.{run, lastBook, lastTable}
+use Rattle.rules.specs.Step.{step}
+use Rattle.rules.specs.Run.{lastBook, lastTable}
 use Rattle.rules.specs.Demand3.{seenFrom}
 use Rattle.rules.specs.Listing.{lineOf}
+use Rattle.rules.proofs.Opened.{everyRule}
 
 -- ---- the journal of document 01
 
@@ -90,7 +79,7 @@ listing =
     ∷ []
 
 pub journal-gives-its-listing : map (λ seen. lineOf (seen .left)) (seenFrom week noTrades journal) ≡ listing
-unfolding lineOf freshBook run step causes eventCauses act firstOf fit every capacityFit securitiesFit allBelow cashFit allTrades sizeFit netsFit differ withdrawalsFit followed following paymentDay trades firstTrading atOrAfter nextAfter earliest sizeCauses sized fundInCauses fundedIn rateCauses rated openCauses openedBook openedTable statusAtOpen turnsTerminated pledgeCauses pledged payCauses afterPay closeCauses closedBook closedTable closeAnswer maturedTrades maturedSheets maturedAmount evening applications inTurn allArrived isShortClose total outstanding remaining value sumBelow kindValue headroom initialCauses initialBook initialTable onTable principal redemption income
+unfolding everyRule lineOf
 journal-gives-its-listing = refl
 
 -- ---- M1 to M10
@@ -174,5 +163,5 @@ cases =
     ∷ []
 
 pub worked-cases : map (λ (c : Case). c .gives) cases ≡ map (λ (c : Case). c .says) cases
-unfolding redemptionAmount kindWorth freshBook lastBook lastTable step causes eventCauses act firstOf fit every capacityFit securitiesFit allBelow cashFit allTrades sizeFit netsFit differ withdrawalsFit followed following paymentDay trades firstTrading atOrAfter nextAfter earliest sizeCauses sized fundInCauses fundedIn fundOutCauses fundedOut rateCauses rated openCauses openedBook openedTable statusAtOpen turnsTerminated pledgeCauses pledged payCauses afterPay closeCauses closedBook closedTable closeAnswer maturedTrades maturedSheets maturedAmount evening applications inTurn allArrived isShortClose total outstanding remaining value sumBelow kindValue headroom initialCauses initialBook initialTable onTable principal redemption income
+unfolding everyRule redemptionAmount kindWorth lastBook lastTable
 worked-cases = refl

@@ -24,6 +24,7 @@ pub mod Agree
 pub mod EventsAgree
 pub mod Demand3Proof
 -- the worked cases
+pub mod Opened
 pub mod Cases
 pub mod Slips
 -- laws of the decoder

@@ -6,31 +6,16 @@ use Prim.Native.Nat.{ℕ, _+_}
 use lib.IntN.{natAbs}
 use lib.ListN.{replicate, drop, length}
 use Rattle.money.specs.Units.{fen, sheets, ticks}
-use Rattle.money.specs.Causes.{firstOf}
-use Rattle.money.specs.Days.{Calendar, trades, firstTrading, atOrAfter, nextAfter, earliest}
-use Rattle.money.specs.Money.{principal, income, redemption}
-use Rattle.money.specs.Collateral.{kindValue}
-use Rattle.rules.specs.Folds.{sumBelow, allBelow, inTurn, every}
-use Rattle.rules.specs.Book.{Status, Normal, Suspended, Terminated, FailedRun, NotFailed, FailedOnce, FailedTwice, ShortRun, NotShort, ShortOnce, ShortTwice, ShortThrice, freshBook}
-use Rattle.rules.specs.Days.{following, paymentDay, followed}
-use Rattle.rules.specs.Trades.{total, outstanding, onTable, tradeOf, differ, takeOff, remaining}
-use Rattle.rules.specs.Vault.{value, headroom}
-use Rattle.rules.specs.Fit.{capacityFit, securitiesFit, cashFit, allTrades, sizeFit, netsFit, withdrawalsFit, fit}
+use Rattle.money.specs.Days.{Calendar}
+use Rattle.rules.specs.Book.{Status, Normal, Suspended, Terminated, FailedRun, NotFailed, FailedOnce, FailedTwice, ShortRun, NotShort, ShortOnce, ShortTwice, ShortThrice}
+use Rattle.rules.specs.Vault.{headroom}
 use Rattle.rules.specs.Entry.{Own, Client, Open, FundIn, FundOut, Size, Rate, Pledge, Freeze, Withdraw, Early, Pay, Close, Entry, Known, Undecodable, Fields, unless, entryOf, codeOf}
-use Rattle.rules.specs.Open.{openCauses, openedBook, openedTable, statusAtOpen, turnsTerminated}
-use Rattle.rules.specs.Funds.{fundInCauses, fundedIn, fundOutCauses, fundedOut}
-use Rattle.rules.specs.Size.{sizeCauses, sized}
-use Rattle.rules.specs.Rate.{rateCauses, rated}
-use Rattle.rules.specs.Pledge.{pledgeCauses, pledged}
-use Rattle.rules.specs.Freeze.{freezeCauses, frozen}
-use Rattle.rules.specs.Withdraw.{withdrawCauses, withdrawn, applied}
-use Rattle.rules.specs.Initial.{initialCauses, initialBook, initialTable}
-use Rattle.rules.specs.Early.{earlyCauses, earlyBook, earlyTable}
-use Rattle.rules.specs.Pay.{payCauses, afterPay, failedMore}
-use Rattle.rules.specs.Close.{shortMore, maturedTrades, maturedSheets, maturedAmount, closeCauses, allArrived, takenOut, covered, mayGo, applications, evening, closedTable, isShortClose, closedBook, closeAnswer}
-use Rattle.rules.specs.Step.{eventCauses, causes, act, step}
-use Rattle.rules.specs.Run.{Seen, run}
+use Rattle.rules.specs.Open.{statusAtOpen}
+use Rattle.rules.specs.Pay.{failedMore}
+use Rattle.rules.specs.Close.{shortMore}
+use Rattle.rules.specs.Run.{Seen}
 use Rattle.rules.specs.Demand3.{seenFrom}
+use Rattle.rules.proofs.Opened.{everyRule}
 use Rattle.rules.proofs.Cases.{_then_, noTrades, daily, initial, covers, failedOnce, statusNumber}
 
 -- ---- the status at Open, over every old status and both runs (arts. 69, 70)
@@ -73,7 +58,7 @@ rowOf seen =
 
 -- the rows of some entries after others; who opens this opens every rule, so that it computes
 unfoldable pub rowsBy : (Seen → List ℕ) → Calendar → (earlier entries : List Entry) → List (List ℕ)
-unfolding freshBook run step causes eventCauses act firstOf fit every capacityFit securitiesFit allBelow cashFit allTrades sizeFit netsFit differ withdrawalsFit followed following paymentDay trades firstTrading atOrAfter nextAfter earliest sizeCauses sized fundInCauses fundedIn fundOutCauses fundedOut rateCauses rated openCauses openedBook openedTable statusAtOpen turnsTerminated pledgeCauses pledged payCauses afterPay closeCauses closedBook closedTable closeAnswer maturedTrades maturedSheets maturedAmount evening applications inTurn allArrived isShortClose total outstanding remaining value sumBelow kindValue headroom initialCauses initialBook initialTable onTable principal redemption income freezeCauses frozen withdrawCauses withdrawn applied earlyCauses earlyBook earlyTable tradeOf takeOff takenOut covered mayGo
+unfolding everyRule
 rowsBy row calendar earlier entries = map row (drop (length earlier) (seenFrom calendar noTrades (earlier then entries)))
 
 abbrev rowsAfter : Calendar → (earlier entries : List Entry) → List (List ℕ)

@@ -1,0 +1,40 @@
+-- One name for all that a case computes through: who opens `everyRule` opens every rule.
+-- For the worked cases, here and in the crates above. Assumes nothing.
+use Rattle.money.specs.Causes.{firstOf}
+use Rattle.money.specs.Days.{trades, firstTrading, atOrAfter, nextAfter, earliest}
+use Rattle.money.specs.Money.{principal, income, redemption}
+use Rattle.money.specs.Collateral.{kindValue}
+use Rattle.rules.specs.Folds.{sumBelow, allBelow, inTurn, every}
+use Rattle.rules.specs.Book.{freshBook}
+use Rattle.rules.specs.Days.{following, paymentDay, followed}
+use Rattle.rules.specs.Trades.{total, outstanding, onTable, tradeOf, differ, takeOff, remaining}
+use Rattle.rules.specs.Vault.{value, headroom}
+use Rattle.rules.specs.Fit.{capacityFit, securitiesFit, cashFit, allTrades, sizeFit, netsFit, withdrawalsFit, fit}
+use Rattle.rules.specs.Open.{openCauses, openedBook, openedTable, statusAtOpen, turnsTerminated}
+use Rattle.rules.specs.Funds.{fundInCauses, fundedIn, fundOutCauses, fundedOut}
+use Rattle.rules.specs.Size.{sizeCauses, sized}
+use Rattle.rules.specs.Rate.{rateCauses, rated}
+use Rattle.rules.specs.Pledge.{pledgeCauses, pledged}
+use Rattle.rules.specs.Freeze.{freezeCauses, frozen}
+use Rattle.rules.specs.Withdraw.{withdrawCauses, withdrawn, applied}
+use Rattle.rules.specs.Initial.{initialCauses, initialBook, initialTable}
+use Rattle.rules.specs.Early.{earlyCauses, earlyBook, earlyTable}
+use Rattle.rules.specs.Pay.{payCauses, afterPay}
+use Rattle.rules.specs.Close.{maturedTrades, maturedSheets, maturedAmount, closeCauses, allArrived, takenOut, covered, mayGo, applications, evening, closedTable, isShortClose, closedBook, closeAnswer}
+use Rattle.rules.specs.Step.{eventCauses, causes, act, step}
+use Rattle.rules.specs.Run.{run}
+
+-- it says nothing itself
+unfoldable pub everyRule : Unit {0}
+unfolding freshBook run step causes eventCauses act firstOf every
+    fit capacityFit securitiesFit cashFit allTrades sizeFit netsFit differ withdrawalsFit followed
+    trades firstTrading atOrAfter nextAfter earliest following paymentDay
+    openCauses openedBook openedTable statusAtOpen turnsTerminated
+    fundInCauses fundedIn fundOutCauses fundedOut sizeCauses sized rateCauses rated
+    pledgeCauses pledged freezeCauses frozen withdrawCauses withdrawn applied
+    initialCauses initialBook initialTable earlyCauses earlyBook earlyTable payCauses afterPay
+    closeCauses closedBook closedTable closeAnswer maturedTrades maturedSheets maturedAmount isShortClose
+    evening allArrived applications inTurn takenOut covered mayGo
+    total outstanding remaining onTable tradeOf takeOff
+    value sumBelow allBelow kindValue headroom principal redemption income
+everyRule = tt
