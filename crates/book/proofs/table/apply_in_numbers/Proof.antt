@@ -41,6 +41,7 @@ use denote.Triple.Statement.{Contract, Triple}
 use denote.Triple.Table.{entered, cited}
 use denote.Triple.Walked.{says, needs, Walks, walked, goes-none-slice, goes-slice, goes-none, walk-meets}
 use denote.Exit.{yes}
+use Rattle.rules.specs.Limits.{capacityLimit}
 use Rattle.rules.specs.Step.{Outcome, step}
 use Rattle.rules.proofs.trade.Trade as T
 use Rattle.rules.proofs.book.Book as Bk
@@ -78,7 +79,7 @@ module _ {M : Type 1} (𝓤 : URA M) (H : Heap 𝓤) (A : Atoms 𝓤) (mem : Mem
 
 -- how many numbers there is room for
 abbrev span : ℕ
-span = 16384
+span = capacityLimit * width
 
 flat-room : Room u64 span
 flat-room = (lit< tt, lit< tt)
