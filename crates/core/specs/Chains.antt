@@ -12,6 +12,10 @@ use Rattle.core.specs.Flat.{tradeAt, tradesTo}
 pub use Rattle.core.specs.declared.chains.ChainResult.{ChainResult}
 pub use Rattle.core.specs.declared.chains.ChainResult.the-variants.{Differs, Repeats, TooLong}
 
+-- the most buckets: eight for each slot of the largest table
+abbrev pub mostBuckets : ℕ
+mostBuckets = 32749
+
 abbrev pub bucketOf : (buckets : ℕ) → Contract → ℕ
 bucketOf buckets contract = contract .0 % buckets
 

@@ -5,7 +5,7 @@ ghost use Prim.Native.Nat.{_≤_, _<_};
 ghost use lib.ListN.{length, replicate};
 ghost use Rattle.rules.specs.Limits.{capacityLimit};
 ghost use Rattle.core.specs.Flat.{HasSlots};
-ghost use Rattle.core.specs.Chains.{bucketOf, Falls, Shows, ShowsAll};
+ghost use Rattle.core.specs.Chains.{mostBuckets, bucketOf, Falls, Shows, ShowsAll};
 use crate::flat;
 use rules::trade::Contract;
 
@@ -23,7 +23,10 @@ fn bucket_of(contract: Contract, buckets: usize) -> usize
     (contract.0 % (buckets as u64)) as usize
 }
 
-// A contract looked for along a chain, over 64 trades at most. A link is one more than a place, and 0 at the end.
+// A chain that is longer is not followed to its end.
+const CHAIN_LIMIT: usize = 64;
+
+// A contract looked for along a chain. A link is one more than a place, and 0 at the end.
 fn look_along(table: &[u64], next: &[u16], from: usize, contract: Contract) -> ChainResult
     requires { ⌜ (HasSlots (now table) from) × (from ≤ length (now next)) × (Falls (now next) from) ⌝ }
     ensures { λ r. ⌜ Shows (now (table .entry)) (now (next .entry)) from contract r ⌝ }
@@ -31,7 +34,7 @@ fn look_along(table: &[u64], next: &[u16], from: usize, contract: Contract) -> C
     let mut link = from;
     let mut steps: usize = 0;
     while link != 0 {
-        if steps >= 64 {
+        if steps >= CHAIN_LIMIT {
             return ChainResult::TooLong;
         }
         let place = link - 1;
@@ -55,7 +58,7 @@ pub fn linked_differ(
     requires { ⌜ (HasSlots (now table) count)
         × (count ≤ capacityLimit)
         × (0 < buckets)
-        × (buckets ≤ 32749)
+        × (buckets ≤ mostBuckets)
         × (now heads ≡ replicate buckets 0)
         × (count ≤ length (now next)) ⌝ }
     ensures { λ r. ⌜ ShowsAll (now (table .entry)) count r ⌝ }

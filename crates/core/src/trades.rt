@@ -7,6 +7,7 @@ ghost use Rattle.rules.specs.Trades.{outstanding, differ};
 ghost use Rattle.rules.specs.Fit.{tradeFit};
 ghost use Rattle.core.specs.Flat.{HasSlots, HasSlot, tradeAt, tradesTo, placeOf, contractNumbers, Kept};
 ghost use Rattle.core.specs.Figures.{summaryOf};
+ghost use Rattle.core.specs.Chains.{mostBuckets};
 use crate::chains;
 use crate::chains::ChainResult;
 use crate::flat;
@@ -15,6 +16,16 @@ use money::limits::TRADE_LIMIT;
 use rules::limits::CAPACITY_LIMIT;
 use rules::trade::Contract;
 use sort::order;
+
+// Up to so many trades each is searched among those before it.
+const FEW: usize = 32;
+
+// Eight buckets a trade, of which most stay empty; fewer trades have fewer to clear.
+const SOME: usize = 1_024;
+
+const SOME_BUCKETS: usize = 8_191;
+
+const MANY_BUCKETS: usize = 32_749;
 
 // O, the sheets left on the table.
 pub fn outstanding_of(table: &[u64], count: usize) -> u64
@@ -95,7 +106,7 @@ fn chains_differ(table: &[u64], count: usize, buckets: usize, heads: &mut [u16])
     requires { ⌜ (HasSlots (now table) count)
         × (count ≤ capacityLimit)
         × (0 < buckets)
-        × (buckets ≤ 32749)
+        × (buckets ≤ mostBuckets)
         × (now heads ≡ replicate buckets 0) ⌝ }
     ensures { λ r. ⌜ r ≡ differ (tradesTo (now (table .entry)) count) ⌝ }
 {
@@ -107,21 +118,20 @@ fn chains_differ(table: &[u64], count: usize, buckets: usize, heads: &mut [u16])
     }
 }
 
-// Eight buckets a trade, of which most stay empty; fewer trades have fewer to clear.
 fn some_differ(table: &[u64], count: usize) -> bool
     requires { ⌜ (HasSlots (now table) count) × (count ≤ capacityLimit) ⌝ }
     ensures { λ r. ⌜ r ≡ differ (tradesTo (now (table .entry)) count) ⌝ }
 {
-    let mut heads: [u16; 8191] = [0; 8191];
-    chains_differ(table, count, 8_191, &mut heads)
+    let mut heads: [u16; SOME_BUCKETS] = [0; SOME_BUCKETS];
+    chains_differ(table, count, SOME_BUCKETS, &mut heads)
 }
 
 fn many_differ(table: &[u64], count: usize) -> bool
     requires { ⌜ (HasSlots (now table) count) × (count ≤ capacityLimit) ⌝ }
     ensures { λ r. ⌜ r ≡ differ (tradesTo (now (table .entry)) count) ⌝ }
 {
-    let mut heads: [u16; 32749] = [0; 32749];
-    chains_differ(table, count, 32_749, &mut heads)
+    let mut heads: [u16; MANY_BUCKETS] = [0; MANY_BUCKETS];
+    chains_differ(table, count, MANY_BUCKETS, &mut heads)
 }
 
 // No contract stands twice.
@@ -129,10 +139,10 @@ pub fn contracts_differ(table: &[u64], count: usize) -> bool
     requires { ⌜ (HasSlots (now table) count) × (count ≤ capacityLimit) ⌝ }
     ensures { λ r. ⌜ r ≡ differ (tradesTo (now (table .entry)) count) ⌝ }
 {
-    if count <= 32 {
+    if count <= FEW {
         return few_differ(table, count);
     }
-    if count <= 1_024 {
+    if count <= SOME {
         return some_differ(table, count);
     }
     many_differ(table, count)
