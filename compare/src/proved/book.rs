@@ -29,7 +29,7 @@ pub(super) struct Guarantee {
 #[repr(C)]
 #[derive(Clone, Copy, Debug, PartialEq, Eq)]
 pub struct Codes {
-    pub dated: bool,
+    pub dated: u8,
     pub day: u32,
     pub phase: u8,
     pub status: u8,
@@ -84,7 +84,7 @@ pub(super) fn guarantee(book: &Book) -> Guarantee {
 /// The model's phases and statuses stand in the same order.
 pub(super) fn codes(book: &Book) -> Codes {
     Codes {
-        dated: book.day.is_some(),
+        dated: book.day.is_some().into(),
         day: book.day.unwrap_or(0),
         phase: book.phase as u8,
         status: book.status as u8,

@@ -14,13 +14,15 @@ use model::limits::{FAILED_PAYMENTS, SHORT_CLOSES};
 /// A change after which the codes are not well-formed.
 type Blot = fn(&mut Codes);
 
-const BLOTS: [Blot; 6] = [
+const BLOTS: [Blot; 8] = [
     |codes| codes.phase = 3,
     |codes| codes.status = 3,
     |codes| codes.failed = FAILED_PAYMENTS + 1,
     |codes| codes.short = SHORT_CLOSES + 1,
     |codes| codes.short = u8::MAX,
-    |codes| (codes.dated, codes.day) = (false, 5),
+    |codes| (codes.dated, codes.day) = (0, 5),
+    |codes| codes.dated = 2,
+    |codes| codes.dated = u8::MAX,
 ];
 
 fn assert_refused(ledger: &Ledger, event: &[u8; EVENT_BYTES], blot: Blot) {

@@ -1,7 +1,7 @@
 -- Scalars that go out and come back are as they were: first a book's, then what is well-formed.
 -- For the calls on a book in lent numbers. Assumes nothing.
 use mathlib.Core.Path.{_≡_, refl, sym}
-use mathlib.Core.Bool.{Bool, true, false, _||_}
+use mathlib.Core.Bool.{true, _||_}
 use Prim.Native.Nat.{ℕ, zero, suc, _≤_}
 use native.Mathlib.Omega.{arith}
 use borrow.Author.Tests.{leb-true, eqb-true}
@@ -21,12 +21,12 @@ use Rattle.rules.specs.Days.{dayNumber}
 use Rattle.rules.proofs.FoldLaws.{every-holds}
 use Rattle.exports.specs.declared.codes.Codes.{Codes}
 use Rattle.exports.specs.declared.raw.RawScalars.{RawScalars}
-use Rattle.exports.specs.Codes.{isWellFormed, dayAt, phaseAt, statusAt, failedAt, shortAt, standingAt, isDated, phaseNumber, statusNumber, failedNumber, shortNumber, codesOf}
+use Rattle.exports.specs.Codes.{isWellFormed, dayAt, phaseAt, statusAt, failedAt, shortAt, standingAt, datedNumber, phaseNumber, statusNumber, failedNumber, shortNumber, codesOf}
 use Rattle.exports.specs.Raw.{scalarsFrom, rawOf}
 
 -- ---- a book's scalars
 
-day-back : (day : Day) → dayAt (isDated day) (dayNumber day) ≡ day
+day-back : (day : Day) → dayAt (datedNumber day) (dayNumber day) ≡ day
 unfolding dayAt
 day-back Never = refl
 day-back (On day) = refl
@@ -64,15 +64,17 @@ scalars-back scalars =
 
 -- ---- what is well-formed: shows what the promises mean, and no proof cites it
 
-dated-same : (dated : Bool) (day : ℕ) → isDated (dayAt dated day) ≡ dated
+dated-same : (dated day : ℕ) → dated ≤ 1 → datedNumber (dayAt dated day) ≡ dated
 unfolding dayAt
-dated-same true day = refl
-dated-same false day = refl
+dated-same zero day h = refl
+dated-same (suc zero) day h = refl
+dated-same (suc (suc n)) day h = absurd (omega (arith, h))
 
-day-same : (dated : Bool) (day : ℕ) → (dated || eqb day 0) ≡ true → dayNumber (dayAt dated day) ≡ day
+day-same : (dated day : ℕ) → dated ≤ 1 → (eqb dated 1 || eqb day 0) ≡ true → dayNumber (dayAt dated day) ≡ day
 unfolding dayAt
-day-same true day e = refl
-day-same false day e = sym (eqb-true day 0 e)
+day-same zero day h e = sym (eqb-true day 0 e)
+day-same (suc zero) day h e = refl
+day-same (suc (suc n)) day h e = absurd (omega (arith, h))
 
 phase-same : (code : ℕ) → code ≤ 2 → phaseNumber (phaseAt code) ≡ code
 unfolding phaseAt
@@ -107,9 +109,10 @@ pub codes-same : (codes : Codes) → isWellFormed codes ≡ true → codesOf (st
 unfolding isWellFormed
 codes-same codes e =
     let h = every-holds _ e in
+    let dated = leb-true (codes .dated) 1 (h .1 .1 .1 .1 .0) in
     rw (
-      dated-same (codes .dated) (codes .day),
-      day-same (codes .dated) (codes .day) (h .1 .1 .1 .1 .0),
+      dated-same (codes .dated) (codes .day) dated,
+      day-same (codes .dated) (codes .day) dated (h .1 .1 .1 .1 .1 .0),
       phase-same (codes .phase) (leb-true (codes .phase) 2 (h .0)),
       status-same (codes .status) (leb-true (codes .status) 2 (h .1 .0)),
       failed-same (codes .failed) (leb-true (codes .failed) 2 (h .1 .1 .0)),

@@ -1,7 +1,7 @@
 -- Where a firm stands as codes: no enum crosses to C, so each case is a number, counted from 0.
 -- Assumes nothing.
 use Prim.Native.Nat.{ℕ}
-use mathlib.Core.Bool.{Bool, true, false, cond, _||_}
+use mathlib.Core.Bool.{Bool, cond, _||_}
 use mathlib.Core.List.{[], _∷_}
 use lib.Dec.{leb, eqb}
 use Rattle.rules.specs.Folds.{every}
@@ -22,7 +22,7 @@ use Rattle.exports.specs.declared.codes.Codes.{Codes}
 -- ---- the codes that are well-formed
 
 -- "a phase (Closed, Trading, Paid); a status (normal, suspended, terminated)", "a run of failed payments (0 to 2) and of short closes (0 to
--- 3)"; a day has its number only where there is one
+-- 3)"; "the day, none at first": 1 where there is one, and its number only then
 unfoldable pub isWellFormed : Codes → Bool
 isWellFormed codes =
     every
@@ -30,13 +30,14 @@ isWellFormed codes =
     ∷ leb (codes .status) 2
     ∷ leb (codes .failed) 2
     ∷ leb (codes .short) 3
-    ∷ (codes .dated || eqb (codes .day) 0)
+    ∷ leb (codes .dated) 1
+    ∷ (eqb (codes .dated) 1 || eqb (codes .day) 0)
     ∷ [])
 
 -- ---- where a firm stands, from its codes
 
-unfoldable pub dayAt : Bool → ℕ → Day
-dayAt dated day = cond dated (On day) Never
+unfoldable pub dayAt : (dated day : ℕ) → Day
+dayAt dated day = cond (eqb dated 1) (On day) Never
 
 unfoldable pub phaseAt : ℕ → Phase
 phaseAt code = cond (eqb code 0) Closed (cond (eqb code 1) Trading Paid)
@@ -61,9 +62,9 @@ standingAt codes = record {
 
 -- ---- the codes of where a firm stands; where there is no day its number is 0
 
-abbrev pub isDated : Day → Bool
-isDated Never = false
-isDated (On day) = true
+abbrev pub datedNumber : Day → ℕ
+datedNumber Never = 0
+datedNumber (On day) = 1
 
 abbrev pub phaseNumber : Phase → ℕ
 phaseNumber Closed = 0
@@ -88,7 +89,7 @@ shortNumber ShortThrice = 3
 
 abbrev pub codesOf : Standing → Codes
 codesOf standing = record {
-  dated = isDated (standing .day);
+  dated = datedNumber (standing .day);
   day = dayNumber (standing .day);
   phase = phaseNumber (standing .phase);
   status = statusNumber (standing .status);

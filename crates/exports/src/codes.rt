@@ -1,7 +1,7 @@
 // Where a firm stands as codes, and back: no enum crosses to C, so each case is a number, counted from 0.
 ghost use mathlib.Core.Path.{_≡_};
 ghost use Rattle.rules.specs.Days.{dayNumber};
-ghost use Rattle.exports.specs.Codes.{isWellFormed, dayAt, phaseAt, statusAt, failedAt, shortAt, standingAt, isDated, phaseNumber, statusNumber, failedNumber, shortNumber, codesOf};
+ghost use Rattle.exports.specs.Codes.{isWellFormed, dayAt, phaseAt, statusAt, failedAt, shortAt, standingAt, datedNumber, phaseNumber, statusNumber, failedNumber, shortNumber, codesOf};
 use rules::book::Day;
 use rules::book::FailedRun;
 use rules::book::Phase;
@@ -9,10 +9,10 @@ use rules::book::ShortRun;
 use rules::book::Standing;
 use rules::book::Status;
 
-// `day` counts where `dated`, and is else 0.
+// `dated` is 1 where there is a day, and else 0, and so is `day`: from C every byte is a number.
 #[repr(C)]
 pub struct Codes {
-    pub dated: bool,
+    pub dated: u8,
     pub day: u32,
     pub phase: u8,
     pub status: u8,
@@ -36,16 +36,19 @@ pub fn is_well_formed(codes: Codes) -> bool
     if codes.short > 3 {
         return false;
     }
-    if codes.dated {
+    if codes.dated > 1 {
+        return false;
+    }
+    if codes.dated == 1 {
         return true;
     }
     codes.day == 0
 }
 
-fn day_at(dated: bool, day: u32) -> Day
+fn day_at(dated: u8, day: u32) -> Day
     ensures { λ r. ⌜ r ≡ dayAt dated day ⌝ }
 {
-    if dated {
+    if dated == 1 {
         return Day::On(day);
     }
     Day::Never
@@ -104,12 +107,12 @@ pub fn standing_at(codes: Codes) -> Standing
     }
 }
 
-fn is_dated(day: Day) -> bool
-    ensures { λ r. ⌜ r ≡ isDated day ⌝ }
+fn dated_number(day: Day) -> u8
+    ensures { λ r. ⌜ r ≡ datedNumber day ⌝ }
 {
     match day {
-        Day::Never => false,
-        Day::On(_) => true,
+        Day::Never => 0,
+        Day::On(_) => 1,
     }
 }
 
@@ -172,7 +175,7 @@ pub fn codes_of(standing: Standing) -> Codes
     let failed = standing.failed;
     let short = standing.short;
     Codes {
-        dated: is_dated(day),
+        dated: dated_number(day),
         day: day_number(day),
         phase: phase_number(phase),
         status: status_number(status),

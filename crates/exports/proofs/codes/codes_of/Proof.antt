@@ -2,8 +2,8 @@ use borrow.Author.Needs.{needs}
 use Rattle.exports.proofs.codes.codes_of.Statement.{statement}
 use Rattle.exports.proofs.codes.codes_of.Tie as tie
 
-is-dated-requires : tie.Need-is-dated-requires
-is-dated-requires c κs = search needs
+dated-number-requires : tie.Need-dated-number-requires
+dated-number-requires c κs = search needs
 
 day-number-requires : tie.Need-day-number-requires
 day-number-requires c κs = search needs
@@ -22,9 +22,9 @@ short-number-requires c κs = search needs
 
 returns : tie.Need-returns
 returns c =
-    let at-is-dated : tie.After-is-dated = search needs in
+    let at-dated-number : tie.After-dated-number = search needs in
     let at-day-number : tie.After-day-number = search needs in
-    rw (at-is-dated .is-dated .ensures, at-day-number .day-number .ensures, c .before .before .before .phase-number .ensures, c .before .before .status-number .ensures, c .before .failed-number .ensures, c .short-number .ensures)
+    rw (at-dated-number .dated-number .ensures, at-day-number .day-number .ensures, c .before .before .before .phase-number .ensures, c .before .before .status-number .ensures, c .before .failed-number .ensures, c .short-number .ensures)
 
 pub codes-of-spec : {M : Type 1} → statement M
-codes-of-spec = tie.close (tie.spec is-dated-requires day-number-requires phase-number-requires status-number-requires failed-number-requires short-number-requires returns)
+codes-of-spec = tie.close (tie.spec dated-number-requires day-number-requires phase-number-requires status-number-requires failed-number-requires short-number-requires returns)
