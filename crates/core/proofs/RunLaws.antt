@@ -1,5 +1,5 @@
 -- A run of encoded events, event by event: what has been written, and what is left of the run.
--- For the proofs of run.rt and of table.rt's run. Assumes nothing.
+-- For the proofs of run.rt and listing.rt. Assumes nothing.
 use mathlib.Core.Path.{_≡_, refl, sym, ap, _∙_}
 use mathlib.Core.Bool.{true, false, not}
 use mathlib.Core.List.{List, [], _++_, append-assoc, append-nil}

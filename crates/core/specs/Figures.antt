@@ -28,6 +28,7 @@ outstandingAt scalars table = outstanding (inUse (scalars .trades) table)
 abbrev pub figuresAt : Scalars → (held : List ℕ) → List Trade → Figures
 figuresAt scalars held table = record { outstanding = outstandingAt scalars table; value = value (vaultOf (scalars .guarantee) (securitiesOf held)) }
 
+-- V, where it is known
 abbrev pub IsValue : KnownValue → (value : ℕ) → Type 0
 IsValue (Counted number) value = number ≡ value
 IsValue NotCounted value = Unit {0}
