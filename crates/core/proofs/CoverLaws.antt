@@ -15,7 +15,7 @@ use Rattle.rules.specs.Cover.{coverCounted, coverRefused, coverOf}
 use Rattle.rules.proofs.FitParts.{fit-parts}
 use Rattle.core.specs.Types.{Book, Trade}
 
-small-difference : (a b : ℕ) → a ≤ 10000000000 → b ≤ 10000000000 → natAbs (subℕ a b) ≤ 10000000000
+pub small-difference : (a b : ℕ) → a ≤ 10000000000 → b ≤ 10000000000 → natAbs (subℕ a b) ≤ 10000000000
 small-difference a b h k = by-order (ltb a b)
   where
     by-order : (t : Bool) → natAbs (cond t (negsuc (b - suc a)) (pos (a - b))) ≤ 10000000000
@@ -30,9 +30,3 @@ module _ (calendar : Calendar) (book : Book) (table : List Trade) where
   pub fit-cover : unfit calendar book table ≡ false → coverOf calendar book table ≡ coverCounted book table
   unfolding coverOf
   fit-cover e = rw e
-
-  pub headroom-size : fit calendar book table ≡ true → natAbs (headroom book table) ≤ 10000000000
-  unfolding headroom
-  headroom-size fits =
-      let parts = fit-parts calendar book table fits in
-      small-difference (min (book .size .0) (value (book .vault))) (outstandingOf book table) (omega (arith, parts .size .within)) (omega (arith, parts .size .within, parts .size .covers))

@@ -22,6 +22,7 @@ use Rattle.rules.specs.Early.{named, earlyAmount, earlyCauses}
 use Rattle.rules.proofs.Accepted.{Clear, all-clear}
 use Rattle.core.specs.Types.{Book, Contract, Trade, Early}
 use Rattle.core.specs.Flat.{tradeAt, tradesTo, tradesOf, placeOf, Kept}
+use Rattle.core.specs.Redemption.{amountBound}
 use Rattle.core.proofs.RedemptionLaws.{kept-within}
 use Rattle.core.proofs.Refusing.{done}
 use Rattle.core.proofs.FitFacts.{payment-within, fit-keeps}
@@ -29,7 +30,7 @@ use Rattle.core.proofs.ContractLaws.{below-where-on, trade-here}
 
 -- the amount is within what a net takes in
 pub early-at-most : (calendar : Calendar) (book : Book) (table : List Trade) (contract : Contract) (count : Sheets) (price : Ticks) → length calendar ≤ 1200 → count .0 ≤ tradeLimit → price .0 ≤ priceLimit
-    → earlyAmount calendar book table contract count price ≤ 500000000000000000
+    → earlyAmount calendar book table contract count price ≤ amountBound
 early-at-most calendar book table contract count price few h k =
     omega (arith, redemption-bound (sheets (count .0)) price (paymentDay calendar (book .standing .day) - named book table contract .first) k (omega (arith, payment-within calendar (book .standing .day) few)))
 

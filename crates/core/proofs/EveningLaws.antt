@@ -21,6 +21,7 @@ use Rattle.rules.specs.Close.{Evening, fewer, fewerCash, takenOut, covered, may
 use Rattle.rules.proofs.FoldLaws.{by-test, both, in-turn-keeps, at-set}
 use Rattle.rules.proofs.FitParts.{SecurityFits, SecuritiesFit, fit-securities}
 use Rattle.core.specs.Types.{Security, Guarantee, Vault, Withdrawals}
+use Rattle.core.specs.Figures.{valueBound}
 use Rattle.core.proofs.VaultLaws.{Sound, kind-fits, value-at-part, value-bound-of, value-changed}
 
 -- ---- a list of which the first places are mapped
@@ -105,7 +106,7 @@ module _ (vault : Vault) (kind : ℕ) (had : Security) where
   -- what the code asks for before it judges by what is had
   pub held-fits : (v : ℕ) → Sound vault → kind ≤ 32 → Held vault kind had → v ≡ value vault
       → (kind ≤ 32) × (had .frozen ≤ had .effective) × (had .effective ≤ unitLimitOf kind) × (rateOf kind (had .rate) ≤ 20000)
-      × (kindValue kind (had .effective) (had .frozen) (had .rate) .0 ≤ v) × (v ≤ 67000000000000)
+      × (kindValue kind (had .effective) (had .frozen) (had .rate) .0 ≤ v) × (v ≤ valueBound)
   held-fits v sound h held e =
       let fits = kind-fits vault sound kind h in
       rw (held .effective, held .frozen, held .rate, e) (h, fits .free, fits .within, fits .rate, value-at-part vault sound kind h, value-bound-of vault sound)

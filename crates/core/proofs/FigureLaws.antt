@@ -9,7 +9,7 @@ use borrow.Author.Tests.{ltb-false, leb-false, not-false}
 use lib.ListN.{length, take}
 use Rattle.money.specs.declared.units.Sheets.{Sheets}
 use Rattle.money.specs.declared.units.Ticks.{Ticks}
-use Rattle.money.specs.Units.{sheets}
+use Rattle.money.specs.Units.{sheets, signedSheets}
 use Rattle.money.specs.Causes.{firstOf}
 use Rattle.money.specs.Days.{Calendar}
 use Rattle.rules.specs.Trades.{inUse, outstanding, takeOff}
@@ -116,6 +116,6 @@ moved-after calendar book table entry fits before f applied table′ e t = rw (f
 
 -- the cover that O and V give
 pub counted-from : (book : Book) (table : List Trade) (figures : Figures) → figures ≡ figuresOf book table
-    → record { number = 0; headroom = headroomOf (book .size .0) (figures .value) (figures .outstanding); outstanding = sheets (figures .outstanding) } ≡ coverCounted book table
+    → record { number = 0; headroom = signedSheets (headroomOf (book .size .0) (figures .value .0) (figures .outstanding .0)); outstanding = figures .outstanding } ≡ coverCounted book table
 unfolding headroom
 counted-from book table figures f = rw f

@@ -77,8 +77,8 @@ module _ (calendar : Calendar) (book : Book) (table : List ℕ) (fits : fit cale
       let parts = fit-parts calendar book (tradesOf table) fits in
       kept-of table (book .trades) (parts .capacity) (ap (allTrades tradeFit) (sym fit-in-use) ∙ parts .each)
 
-  pub fit-net : netFit (book .nets .today) ≡ true
-  fit-net = le-leb (natAbs (book .nets .today)) netLimit (fit-parts calendar book (tradesOf table) fits .nets .today)
+  pub fit-net : netFit (book .nets .today .0) ≡ true
+  fit-net = le-leb (natAbs (book .nets .today .0)) netLimit (fit-parts calendar book (tradesOf table) fits .nets .today)
 
   pub fit-redeemable : length calendar ≤ 1200 → Redeemable table (book .trades) (paymentDay calendar (book .standing .day))
   fit-redeemable few =

@@ -1,31 +1,35 @@
 -- A line of the listing: headroom's sign and size, its seven numbers in a row, and what they tell of an outcome.
 -- For the proofs of line.rt and run.rt. Assumes nothing.
-use mathlib.Core.Path.{_≡_, refl, sym}
-use mathlib.Core.Bool.{true, false, false≢true}
+use mathlib.Core.Path.{_≡_}
 use mathlib.Core.List.{List, [], _∷_}
-use Prim.Native.Nat.{ℕ, suc, _+_}
+use Prim.Native.Nat.{ℕ, suc, _+_, _-_, _≤_, _<_}
 use native.Mathlib.Numerals.{add-one}
 use native.Mathlib.Omega.{arith}
-use borrow.Author.Tests.{ltb-true}
-use lib.IntN.{ℤ, pos, negsuc, natAbs}
+use borrow.Author.Tests.{lt-ltb, le-ltb}
+use lib.IntN.{natAbs, subℕ}
 use lib.ListN.{set}
 use lib.Seq.{sets}
-use lib.Signed.{ltZ}
+use Rattle.rules.specs.Vault.{headroomOf, headroom}
 use Rattle.rules.specs.Step.{Outcome}
-use Rattle.rules.specs.Cover.{coverCounted}
 use Rattle.rules.specs.Listing.{signOf, lineOf}
-use Rattle.core.specs.Types.{Trade, Applied, Cover}
+use Rattle.core.specs.Types.{Trade, Applied}
 use Rattle.core.specs.Flat.{appliedOf}
+use Rattle.core.specs.Figures.{Figures, figuresOf}
 
--- ---- headroom's sign and size
+-- ---- headroom's sign and size: a difference of two numbers, by which is smaller
 
-pub signed-below : (z : ℤ) → ltZ z (pos 0) ≡ true → 1 ≡ signOf z
-signed-below (pos n) h = absurd (omega (arith, ltb-true n 0 h))
-signed-below (negsuc n) h = refl
+module _ (covered outstanding : ℕ) where
+  pub short-sign : covered < outstanding → 1 ≡ signOf (subℕ covered outstanding)
+  short-sign h = rw (lt-ltb covered outstanding h)
 
-pub unsigned-from : (z : ℤ) → ltZ z (pos 0) ≡ false → 0 ≡ signOf z
-unsigned-from (pos n) h = refl
-unsigned-from (negsuc n) h = absurd (false≢true (sym h))
+  pub short-size : covered < outstanding → outstanding - covered ≡ natAbs (subℕ covered outstanding)
+  short-size h = rw (lt-ltb covered outstanding h) (omega arith)
+
+  pub ample-sign : outstanding ≤ covered → 0 ≡ signOf (subℕ covered outstanding)
+  ample-sign h = rw (le-ltb covered outstanding h)
+
+  pub ample-size : outstanding ≤ covered → covered - outstanding ≡ natAbs (subℕ covered outstanding)
+  ample-size h = rw (le-ltb covered outstanding h)
 
 -- ---- a row of numbers stored
 
@@ -42,9 +46,16 @@ seven-in-a-row l at a b c d e f g =
 
 -- ---- what a line tells
 
--- its line, from what the code has of it
-pub line-told : (left : Outcome) (applied : Applied) (table : List Trade) {cover : Cover} → applied ≡ appliedOf left → table ≡ left .table → cover ≡ coverCounted (applied .book) table
-    → (applied .answer .number ∷ signOf (cover .headroom) ∷ natAbs (cover .headroom) ∷ cover .outstanding .0
-    ∷ applied .book .cash .own .0 ∷ applied .book .cash .client .0 ∷ (applied .book .vault .guarantee .effective .0 + applied .book .vault .guarantee .arriving .0) ∷ []) ≡ lineOf left
-unfolding lineOf
-line-told left applied table e t c = rw (c, e, t)
+-- its line, from what the code has of it: O and V, and the size
+pub line-told : (left : Outcome) (applied : Applied) (table : List Trade) {figures : Figures} → applied ≡ appliedOf left → table ≡ left .table → figures ≡ figuresOf (applied .book) table
+    → (applied .answer .number
+    ∷ signOf (headroomOf (applied .book .size .0) (figures .value .0) (figures .outstanding .0))
+    ∷ natAbs (headroomOf (applied .book .size .0) (figures .value .0) (figures .outstanding .0))
+    ∷ figures .outstanding .0
+    ∷ applied .book .cash .own .0
+    ∷ applied .book .cash .client .0
+    ∷ (applied .book .vault .guarantee .effective .0 + applied .book .vault .guarantee .arriving .0)
+    ∷ [])
+    ≡ lineOf left
+unfolding lineOf headroom
+line-told left applied table e t f = rw (f, e, t)

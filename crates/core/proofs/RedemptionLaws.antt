@@ -20,6 +20,7 @@ use Rattle.rules.proofs.FoldLaws.{every-holds}
 use Rattle.rules.proofs.TradeLaws.{maturing-le}
 use Rattle.core.specs.Types.{Trade}
 use Rattle.core.specs.Flat.{tradeAt, tradesTo, capacity, tradesOf, Kept, Redeemable}
+use Rattle.core.specs.Redemption.{amountBound}
 use Rattle.core.proofs.FlatLaws.{no-trades, one-more, length-trades, same-trade, total-at-most, all-below}
 
 -- ---- a trade in use
@@ -63,10 +64,10 @@ module _ (table : List ℕ) (count payment : ℕ) (r : Redeemable table count pa
   pub maturity-at-most : (today i : ℕ) → i < count → maturityAmount today payment (tradeAt table i) ≤ 106205500000000
   maturity-at-most today i l = redeemed-at-most (maturing today (tradeAt table i)) (tradeAt table i .price) i (maturing-at-most today i l) (trade-within i l .price)
 
-  pub fallback-bound : total (fallbackAmount payment) (tradesTo table count) ≤ 500000000000000000
+  pub fallback-bound : total (fallbackAmount payment) (tradesTo table count) ≤ amountBound
   fallback-bound = omega (arith, total-at-most (fallbackAmount payment) table 106205500000000 count fallback-at-most, r .kept .few)
 
-  pub maturity-bound : (today : ℕ) → total (maturityAmount today payment) (tradesTo table count) ≤ 500000000000000000
+  pub maturity-bound : (today : ℕ) → total (maturityAmount today payment) (tradesTo table count) ≤ amountBound
   maturity-bound today = omega (arith, total-at-most (maturityAmount today payment) table 106205500000000 count (maturity-at-most today), r .kept .few)
 
 -- ---- every trade is due by the last day of 32 bits

@@ -7,6 +7,7 @@ use Prim.Native.Nat.{ℕ, _+_, max}
 use native.Mathlib.Omega.{arith}
 use borrow.Author.Tests.{le-leb, lt-leb, leb-true, leb-false}
 use lib.Dec.{leb}
+use Rattle.money.specs.Units.{sheets}
 use Rattle.rules.specs.Trades.{outstanding}
 use Rattle.rules.specs.Fit.{tradeFit, allTrades}
 use Rattle.core.specs.Types.{Trade}
@@ -41,16 +42,16 @@ latest-decides (t ∷ trades) day = rw (sym (latest-decides trades day)) (go (le
 
 -- ---- what is summary, where each trade is within its limits and where one is not
 
-pub summary-fit : (trades : List Trade) → allTrades tradeFit trades ≡ true → summaryOf trades ≡ record { fit = true; outstanding = outstanding trades; latest = latestFirst trades }
+pub summary-fit : (trades : List Trade) → allTrades tradeFit trades ≡ true → summaryOf trades ≡ record { fit = true; outstanding = sheets (outstanding trades); latest = latestFirst trades }
 summary-fit trades e = rw e
 
-pub summary-unfit : (trades : List Trade) → allTrades tradeFit trades ≡ false → summaryOf trades ≡ record { fit = false; outstanding = 0; latest = 0 }
+pub summary-unfit : (trades : List Trade) → allTrades tradeFit trades ≡ false → summaryOf trades ≡ record { fit = false; outstanding = sheets 0; latest = 0 }
 summary-unfit trades e = rw e
 
 -- by the test in it
-pub summary-where : (trades : List Trade) (r : Summary) → r ≡ summaryOf trades → (r .fit ≡ allTrades tradeFit trades) × (allTrades tradeFit trades ≡ true → (r .outstanding ≡ outstanding trades) × (r .latest ≡ latestFirst trades))
+pub summary-where : (trades : List Trade) (r : Summary) → r ≡ summaryOf trades → (r .fit ≡ allTrades tradeFit trades) × (allTrades tradeFit trades ≡ true → (r .outstanding .0 ≡ outstanding trades) × (r .latest ≡ latestFirst trades))
 summary-where trades r e = go (allTrades tradeFit trades) refl
   where
-    go : (b : Bool) → allTrades tradeFit trades ≡ b → (r .fit ≡ b) × (b ≡ true → (r .outstanding ≡ outstanding trades) × (r .latest ≡ latestFirst trades))
+    go : (b : Bool) → allTrades tradeFit trades ≡ b → (r .fit ≡ b) × (b ≡ true → (r .outstanding .0 ≡ outstanding trades) × (r .latest ≡ latestFirst trades))
     go true f = rw (e ∙ summary-fit trades f) (refl, λ _. (refl, refl))
     go false f = rw (e ∙ summary-unfit trades f) (refl, λ z. absurd (false≢true z))

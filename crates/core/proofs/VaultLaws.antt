@@ -22,6 +22,7 @@ use Rattle.rules.specs.Close.{fewer, takenOut}
 use Rattle.rules.proofs.FoldLaws.{all-of}
 use Rattle.rules.proofs.FitParts.{securities-fit, withdrawals-fit}
 use Rattle.core.specs.Types.{Cash, Guarantee, Vault, Withdrawals}
+use Rattle.core.specs.Figures.{valueBound}
 use Rattle.core.proofs.SumLaws.{one-fails, sum-bound, sum-part, sum-changed}
 
 -- ---- fit cash
@@ -120,7 +121,7 @@ module _ (vault : Vault) (sound : Sound vault) where
   unfolding value
   value-at-part kind h = sum-part 33 kind (valueAt vault) (omega arith)
 
-  pub value-bound-of : value vault ≤ 67000000000000
+  pub value-bound-of : value vault ≤ valueBound
   unfolding value
   value-bound-of = omega (arith, sum-bound 2000000000000 33 (valueAt vault) (λ kind h. value-at-bound kind (omega arith)))
 

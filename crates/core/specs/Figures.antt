@@ -4,6 +4,7 @@ use Prim.Native.Nat.{ℕ, _+_, max}
 use mathlib.Core.Bool.{true, false, cond}
 use mathlib.Core.Path.{_≡_}
 use mathlib.Core.List.{List, [], _∷_}
+use Rattle.money.specs.Units.{sheets}
 use Rattle.money.specs.Days.{Calendar}
 use Rattle.rules.specs.Trades.{inUse, outstanding}
 use Rattle.rules.specs.Vault.{value, outstandingOf}
@@ -17,32 +18,37 @@ pub use Rattle.core.specs.declared.figures.KnownValue.{KnownValue}
 pub use Rattle.core.specs.declared.figures.KnownValue.the-variants.{Counted, NotCounted}
 pub use Rattle.core.specs.declared.trades.Summary.{Summary}
 
+-- more than any V of a fit book: 32 kinds of 10^12 units at two sheets each, and 10^12 sheets of cash
+abbrev pub valueBound : ℕ
+valueBound = 67000000000000
+
 -- of a book over its table
 abbrev pub figuresOf : Book → List Trade → Figures
-figuresOf book table = record { outstanding = outstandingOf book table; value = value (book .vault) }
+figuresOf book table = record { outstanding = sheets (outstandingOf book table); value = sheets (value (book .vault)) }
 
 -- O of scalars, and both of scalars with the row of securities
 abbrev pub outstandingAt : Scalars → List Trade → ℕ
 outstandingAt scalars table = outstanding (inUse (scalars .trades) table)
 
 abbrev pub figuresAt : Scalars → (held : List ℕ) → List Trade → Figures
-figuresAt scalars held table = record { outstanding = outstandingAt scalars table; value = value (vaultOf (scalars .guarantee) (securitiesOf held)) }
+figuresAt scalars held table =
+    record { outstanding = sheets (outstandingAt scalars table); value = sheets (value (vaultOf (scalars .guarantee) (securitiesOf held))) }
 
 -- V, where it is known
 abbrev pub IsValue : KnownValue → (value : ℕ) → Type 0
-IsValue (Counted number) value = number ≡ value
+IsValue (Counted counted) value = counted .0 ≡ value
 IsValue NotCounted value = Unit {0}
 
 -- what the core may rely on where O, and V if it is known, come with the book
 pub record CountedWhole (calendar : Calendar) (scalars : Scalars) (held kinds units : List ℕ) (table : List Trade) (known : KnownFigures) : Type 0 where
   pub book : FitsWhole calendar scalars held kinds units table
-  pub sheets : known .outstanding ≡ outstandingAt scalars table
-  pub value : IsValue (known .value) (figuresAt scalars held table .value)
+  pub sheets : known .outstanding .0 ≡ outstandingAt scalars table
+  pub value : IsValue (known .value) (figuresAt scalars held table .value .0)
 
 pub record CountedHeld (calendar : Calendar) (scalars : Scalars) (held : List ℕ) (table : List Trade) (known : KnownFigures) : Type 0 where
   pub book : FitsHeld calendar scalars held table
-  pub sheets : known .outstanding ≡ outstandingAt scalars table
-  pub value : IsValue (known .value) (figuresAt scalars held table .value)
+  pub sheets : known .outstanding .0 ≡ outstandingAt scalars table
+  pub value : IsValue (known .value) (figuresAt scalars held table .value .0)
 
 -- what is known of them after an event that is done
 abbrev pub Moved : Event → (before after : Figures) → Type 0
@@ -54,8 +60,8 @@ Moved (Rate kind rate) before after = after .outstanding ≡ before .outstanding
 Moved (Pledge kind units) before after = after .outstanding ≡ before .outstanding
 Moved (Freeze kind units) before after = after .outstanding ≡ before .outstanding
 Moved (Withdraw kind units) before after = after ≡ before
-Moved (Initial terms) before after = (after .outstanding ≡ before .outstanding + terms .sheets .0) × (after .value ≡ before .value)
-Moved (Early contract count price) before after = (before .outstanding ≡ after .outstanding + count .0) × (after .value ≡ before .value)
+Moved (Initial terms) before after = (after .outstanding .0 ≡ before .outstanding .0 + terms .sheets .0) × (after .value ≡ before .value)
+Moved (Early contract count price) before after = (before .outstanding .0 ≡ after .outstanding .0 + count .0) × (after .value ≡ before .value)
 Moved Pay before after = after ≡ before
 Moved Close before after = Unit {0}
 
@@ -72,5 +78,5 @@ latestFirst (trade ∷ trades) = max (trade .first) (latestFirst trades)
 
 abbrev pub summaryOf : List Trade → Summary
 summaryOf trades =
-    cond (allTrades tradeFit trades) (record { fit = true; outstanding = outstanding trades; latest = latestFirst trades })
-    (record { fit = false; outstanding = 0; latest = 0 })
+    cond (allTrades tradeFit trades) (record { fit = true; outstanding = sheets (outstanding trades); latest = latestFirst trades })
+    (record { fit = false; outstanding = sheets 0; latest = 0 })

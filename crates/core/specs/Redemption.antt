@@ -11,6 +11,10 @@ use Rattle.rules.specs.Early.{earlyAmount}
 use Rattle.core.specs.Types.{Book, Trade, Contract}
 pub use Rattle.core.specs.declared.redemption.Redeemed.{Redeemed}
 
+-- more than any table is redeemed for: 4,096 trades of 10^8 sheets, 10,000 + 100,000 × 38,400 / 3,650 fen each
+abbrev pub amountBound : ℕ
+amountBound = 500000000000000000
+
 -- Close: of some trades those due by a day, at their price
 abbrev pub maturityOf : (today payment : ℕ) → List Trade → Redeemed
 maturityOf today payment trades = record { sheets = sheets (total (maturing today) trades); amount = fen (total (maturityAmount today payment) trades) }

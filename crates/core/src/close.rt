@@ -6,7 +6,7 @@ ghost use mathlib.Core.Option.{none};
 ghost use lib.IntN.{pos};
 ghost use lib.ListN.{length};
 ghost use Rattle.money.specs.Causes.{firstOf};
-ghost use Rattle.money.specs.Units.{sheets};
+ghost use Rattle.money.specs.Units.{sheets, signedFen};
 ghost use Rattle.money.specs.Days.{Calendar};
 ghost use Rattle.rules.specs.Limits.{applicationLimit};
 ghost use Rattle.rules.specs.Vault.{value};
@@ -112,12 +112,12 @@ fn evening_end(
     held: &mut [u64],
     kinds: &[u8],
     units: &[u64],
-    left: u64,
+    left: Sheets,
 ) -> EveningScalars
     requires { ⌜ RowsFit scalars (now held) (now kinds) (now units) ⌝ }
     ensures { λ r.
         let book = bookOf scalars (rowsOf (now (held .entry)) (now (kinds .entry)) (now (units .entry))) in
-        ⌜ ((trades : List Trade) → left ≡ outstanding trades → eveningAt r (securitiesOf (now (held .exit))) ≡ eveningOf book trades)
+        ⌜ ((trades : List Trade) → left .0 ≡ outstanding trades → eveningAt r (securitiesOf (now (held .exit))) ≡ eveningOf book trades)
         × (r .value .0 ≡ value (vaultOf (r .guarantee) (securitiesOf (now (held .exit))))) ⌝ }
 {
     let standing = scalars.standing;
@@ -127,7 +127,7 @@ fn evening_end(
     let begun = EveningScalars {
         own: Fen(scalars.cash.own.0),
         guarantee: arrived,
-        value: Sheets(vault::value_of(&*held, arrived)),
+        value: vault::value_of(&*held, arrived),
         done: 0,
         dropped: 0,
     };
@@ -147,23 +147,23 @@ fn closed_scalars(
     scalars: Scalars,
     cleared: Nets,
     ended: EveningScalars,
-    left: u64,
+    left: Sheets,
     kept: usize,
 ) -> Scalars
     ensures { λ r.
         ⌜ ((calendar : Calendar) (rows : Rows) (held : List ℕ) (trades table : List Trade) →
         let book = bookOf scalars rows in
-        cleared ≡ record { today = pos 0; cleared = clearedAtClose calendar book table }
+        cleared ≡ record { today = signedFen (pos 0); cleared = signedFen (clearedAtClose calendar book table) }
         → eveningAt ended (securitiesOf held) ≡ eveningOf book trades
         → ended .value .0 ≡ value (vaultOf (ended .guarantee) (securitiesOf held))
-        → left ≡ outstanding trades
+        → left .0 ≡ outstanding trades
         → kept ≡ length (remaining trades)
         → bookOf r (rowsOf held (noApplications .kinds) (noApplications .units)) ≡ closedBook calendar book trades table) ⌝ }
 {
     let standing = scalars.standing;
     let short = standing.short;
     let guarantee = ended.guarantee;
-    let is_short = headroom::is_short(scalars.size.0, ended.value.0, left);
+    let is_short = headroom::is_short(scalars.size, ended.value, left);
     let cash = Cash {
         own: Fen(ended.own.0),
         client: Fen(scalars.cash.client.0),
@@ -195,7 +195,7 @@ fn closed(
         let remains = maturedTrades book trades in
         ⌜ ((calendar : Calendar) →
         matured ≡ sheets (maturedSheets book trades)
-        → cleared ≡ record { today = pos 0; cleared = clearedAtClose calendar book trades }
+        → cleared ≡ record { today = signedFen (pos 0); cleared = signedFen (clearedAtClose calendar book trades) }
         → appliedAt r (rowsOf (now (held .exit)) (now (kinds .exit)) (now (units .exit))) ≡ closedBy none calendar book remains trades)
         × (tradesOf (now (table .exit)) ≡ closedTable book remains trades) ⌝ }
 {

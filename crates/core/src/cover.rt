@@ -1,33 +1,39 @@
 // Headroom and O of a book.
 ghost use mathlib.Core.Path.{_≡_};
 ghost use Prim.Native.Nat.{_≤_};
-ghost use Rattle.money.specs.Units.{sheets};
+ghost use Rattle.money.specs.Units.{signedSheets};
 ghost use Rattle.rules.specs.Limits.{sizeLimit};
 ghost use Rattle.rules.specs.Vault.{headroomOf};
 use crate::figures::Figures;
-use crate::nets;
 use money::units::Sheets;
+use money::units::SignedSheets;
 use rules::answer::Cover;
 use scalars::headroom;
 
 // The smaller of S and V, less O.
-fn headroom_from(size: u64, value: u64, outstanding: u64) -> i64
-    requires { ⌜ (size ≤ sizeLimit) × (outstanding ≤ sizeLimit) ⌝ }
-    ensures { λ r. ⌜ r ≡ headroomOf size value outstanding ⌝ }
+fn headroom_from(size: Sheets, value: Sheets, outstanding: Sheets) -> SignedSheets
+    requires { ⌜ (size .0 ≤ sizeLimit) × (outstanding .0 ≤ sizeLimit) ⌝ }
+    ensures { λ r. ⌜ r ≡ signedSheets (headroomOf (size .0) (value .0) (outstanding .0)) ⌝ }
 {
-    nets::difference(headroom::smaller(size, value), outstanding)
+    let covered = headroom::smaller(size, value);
+    let had = covered.0 as i64;
+    let taken = outstanding.0 as i64;
+    let difference = had - taken;
+    SignedSheets(difference)
 }
 
 // From O and V.
-pub fn cover_from(size: u64, figures: Figures) -> Cover
-    requires { ⌜ (size ≤ sizeLimit) × (figures .outstanding ≤ sizeLimit) ⌝ }
+pub fn cover_from(size: Sheets, figures: Figures) -> Cover
+    requires { ⌜ (size .0 ≤ sizeLimit) × (figures .outstanding .0 ≤ sizeLimit) ⌝ }
     ensures { λ r.
-        let headroom = headroomOf size (figures .value) (figures .outstanding) in
-        ⌜ r ≡ record { number = 0; headroom = headroom; outstanding = sheets (figures .outstanding) } ⌝ }
+        let headroom = headroomOf (size .0) (figures .value .0) (figures .outstanding .0) in
+        ⌜ r ≡ record { number = 0; headroom = signedSheets headroom; outstanding = figures .outstanding } ⌝ }
 {
+    let value = figures.value;
+    let outstanding = figures.outstanding;
     Cover {
         number: 0,
-        headroom: headroom_from(size, figures.value, figures.outstanding),
-        outstanding: Sheets(figures.outstanding),
+        headroom: headroom_from(size, value, outstanding),
+        outstanding,
     }
 }

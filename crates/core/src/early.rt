@@ -106,7 +106,8 @@ fn take_refusal(
         ⌜ ((rows : Rows) →
         r ≡ numberOf (firstOf (takeCauses (now (calendar .entry)) (bookOf scalars rows) (tradesOf (now (table .entry))) contract count price))) ⌝ }
 {
-    if flat::sheets_at(table, place) < count.0 {
+    let left = flat::sheets_at(table, place);
+    if left.0 < count.0 {
         return 13;
     }
     let nets = scalars.nets;
@@ -168,8 +169,9 @@ pub fn early(
         return done::answered(refusal, scalars);
     }
     let plan = early_plan(calendar, scalars, &*table, place, contract, count, price);
-    let left = flat::sheets_at(&*table, place) - plan.sheets.0;
-    flat::put_sheets(table, place, left);
+    let had = flat::sheets_at(&*table, place);
+    let left = had.0 - plan.sheets.0;
+    flat::put_sheets(table, place, Sheets(left));
     let nets = scalars.nets;
     let mut next = scalars;
     next.nets = nets::today_plus(nets, plan.amount);

@@ -12,7 +12,9 @@ ghost use Rattle.rules.specs.Fit.{securitiesFit, withdrawalsFit};
 ghost use Rattle.rules.specs.Close.{securityArrived, guaranteeArrived, takenOut, mayGo, applications};
 ghost use Rattle.core.specs.Types.{Vault};
 ghost use Rattle.core.specs.Flat.{vaultOf, securitiesOf, eveningAt, heldLength};
+ghost use Rattle.core.specs.Figures.{valueBound};
 use crate::held;
+use crate::vault;
 use money::limits::CASH_KIND;
 use money::limits::SECURITIES;
 use money::units::Fen;
@@ -85,33 +87,33 @@ fn as_guarantee(security: Security) -> Guarantee
 // Whether an application is done, and V afterwards.
 struct Verdict {
     pub goes: bool,
-    pub value: u64,
+    pub value: Sheets,
 }
 
 // By what is had of the kind alone: V changes by that kind's value, so the other kinds are not looked at.
 fn judged(
     served: bool,
-    outstanding: u64,
+    outstanding: Sheets,
     kind: u8,
     units: u64,
     had: Security,
-    value: u64,
+    value: Sheets,
 ) -> Verdict
     requires { ⌜ (kind ≤ cashKind)
         × (had .frozen ≤ had .effective)
         × (had .effective ≤ unitLimitOf kind)
         × (rateOf kind (had .rate) ≤ rateLimit)
-        × (kindValue kind (had .effective) (had .frozen) (had .rate) .0 ≤ value)
-        × (value ≤ 67000000000000) ⌝ }
+        × (kindValue kind (had .effective) (had .frozen) (had .rate) .0 ≤ value .0)
+        × (value .0 ≤ valueBound) ⌝ }
     ensures { λ r.
         ⌜ ((vault : Vault) →
         length (vault .securities) ≡ cashKind
         → had .effective ≡ effectiveOf vault kind
         → had .frozen ≡ frozenOf vault kind
         → had .rate ≡ securityAt vault kind .rate
-        → value ≡ valueOf vault
-        → (r .goes ≡ mayGo served outstanding kind units vault)
-        × (r .value ≡ cond (r .goes) (valueOf (takenOut kind units vault)) value)) ⌝ }
+        → value .0 ≡ valueOf vault
+        → (r .goes ≡ mayGo served (outstanding .0) kind units vault)
+        × (r .value .0 ≡ cond (r .goes) (valueOf (takenOut kind units vault)) (value .0))) ⌝ }
 {
     if !served {
         return Verdict { goes: false, value };
@@ -119,14 +121,15 @@ fn judged(
     if had.effective - had.frozen < units {
         return Verdict { goes: false, value };
     }
-    let others = value - crate::vault::worth(kind, had.effective, had.frozen, had.rate);
-    let after = others + crate::vault::worth(kind, had.effective - units, had.frozen, had.rate);
-    if after < outstanding {
+    let with = vault::worth(kind, had.effective, had.frozen, had.rate);
+    let without = vault::worth(kind, had.effective - units, had.frozen, had.rate);
+    let after = value.0 - with.0 + without.0;
+    if after < outstanding.0 {
         return Verdict { goes: false, value };
     }
     Verdict {
         goes: true,
-        value: after,
+        value: Sheets(after),
     }
 }
 
@@ -142,7 +145,7 @@ pub struct EveningScalars {
 // The applications in order: of each one's kind a copy is looked at, and written back if it goes.
 pub fn applications(
     served: bool,
-    outstanding: u64,
+    outstanding: Sheets,
     kinds: &[u8],
     units: &[u64],
     count: usize,
@@ -163,7 +166,7 @@ pub fn applications(
     ensures { λ r.
         let before = eveningAt begun (securitiesOf (now (held .entry))) in
         ⌜ (eveningAt r (securitiesOf (now (held .exit)))
-        ≡ applications served outstanding (record { kinds = now (kinds .entry); units = now (units .entry); count = count }) before)
+        ≡ applications served (outstanding .0) (record { kinds = now (kinds .entry); units = now (units .entry); count = count }) before)
         × (r .value .0 ≡ valueOf (vaultOf (r .guarantee) (securitiesOf (now (held .exit))))) ⌝ }
 {
     let mut guarantee = begun.guarantee;
@@ -179,8 +182,8 @@ pub fn applications(
         if kind < CASH_KIND {
             had = held::security_at(&*held, kind as usize);
         }
-        let verdict = judged(served, outstanding, kind, amount, had, value);
-        value = verdict.value;
+        let verdict = judged(served, outstanding, kind, amount, had, Sheets(value));
+        value = verdict.value.0;
         if verdict.goes {
             done += 1;
             had.effective = had.effective - amount;

@@ -5,24 +5,25 @@ ghost use Rattle.core.specs.Figures.{CountedHeld, figuresAt, Moved, Move
 ghost use Rattle.core.specs.Flat.{FitsHeld, tradesOf};
 use crate::trades;
 use crate::vault;
+use money::units::Sheets;
 use rules::event::Entry;
 use rules::event::Event;
 use scalars::state::Scalars;
 
 pub struct Figures {
-    pub outstanding: u64,
-    pub value: u64,
+    pub outstanding: Sheets,
+    pub value: Sheets,
 }
 
 // A run has V from the event before; a single call counts it where an event asks.
 pub enum KnownValue {
-    Counted(u64),
+    Counted(Sheets),
     NotCounted,
 }
 
 // O, and what is known of V, as an event begins.
 pub struct KnownFigures {
-    pub outstanding: u64,
+    pub outstanding: Sheets,
     pub value: KnownValue,
 }
 
@@ -50,14 +51,15 @@ pub fn figures_known(
     ensures { λ r. ⌜ r ≡ figuresAt scalars (now (held .entry)) (tradesOf (now (table .entry))) ⌝ }
 {
     let guarantee = scalars.guarantee;
+    let outstanding = known.outstanding;
     let value = known.value;
     match value {
-        KnownValue::Counted(number) => Figures {
-            outstanding: known.outstanding,
-            value: number,
+        KnownValue::Counted(counted) => Figures {
+            outstanding,
+            value: counted,
         },
         KnownValue::NotCounted => Figures {
-            outstanding: known.outstanding,
+            outstanding,
             value: vault::value_of(held, guarantee),
         },
     }
@@ -73,12 +75,13 @@ fn revalued(
 ) -> Figures
     requires { let trades = tradesOf (now table) in
         ⌜ (FitsHeld (now calendar) scalars (now held) trades)
-        × (outstanding (inUse (scalars .trades) trades) ≡ before .outstanding) ⌝ }
+        × (outstanding (inUse (scalars .trades) trades) ≡ before .outstanding .0) ⌝ }
     ensures { λ r. ⌜ r ≡ figuresAt scalars (now (held .entry)) (tradesOf (now (table .entry))) ⌝ }
 {
     let guarantee = scalars.guarantee;
+    let outstanding = before.outstanding;
     Figures {
-        outstanding: before.outstanding,
+        outstanding,
         value: vault::value_of(held, guarantee),
     }
 }
@@ -97,10 +100,11 @@ fn figures_moved(
         × (Moved event before (figuresAt scalars (now held) trades)) ⌝ }
     ensures { λ r. ⌜ r ≡ figuresAt scalars (now (held .entry)) (tradesOf (now (table .entry))) ⌝ }
 {
+    let value = before.value;
     match event {
         Event::Open => Figures {
             outstanding: trades::outstanding_of(table, scalars.trades),
-            value: before.value,
+            value,
         },
         Event::FundIn(_, _) => before,
         Event::FundOut(_, _) => before,
@@ -109,14 +113,20 @@ fn figures_moved(
         Event::Pledge(_, _) => revalued(calendar, before, scalars, held, table),
         Event::Freeze(_, _) => revalued(calendar, before, scalars, held, table),
         Event::Withdraw(_, _) => before,
-        Event::Initial(terms) => Figures {
-            outstanding: before.outstanding + terms.sheets.0,
-            value: before.value,
-        },
-        Event::Early(_, count, _) => Figures {
-            outstanding: before.outstanding - count.0,
-            value: before.value,
-        },
+        Event::Initial(terms) => {
+            let more = before.outstanding.0 + terms.sheets.0;
+            Figures {
+                outstanding: Sheets(more),
+                value,
+            }
+        }
+        Event::Early(_, count, _) => {
+            let less = before.outstanding.0 - count.0;
+            Figures {
+                outstanding: Sheets(less),
+                value,
+            }
+        }
         Event::Pay => before,
         Event::Close => figures_of(calendar, scalars, held, table),
     }

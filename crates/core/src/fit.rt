@@ -18,6 +18,7 @@ use crate::nets;
 use crate::trades;
 use crate::trades::Summary;
 use crate::vault;
+use money::units::Sheets;
 use rules::book::Day;
 use rules::book::Nets;
 use rules::book::Standing;
@@ -37,13 +38,13 @@ fn capacity_fit(count: usize, table: &[u64]) -> bool
 }
 
 // S is within its limit, and the sheets left within S.
-fn size_fit(size: u64, outstanding: u64) -> bool
-    ensures { λ r. ⌜ r ≡ sizeFit size outstanding ⌝ }
+fn size_fit(size: Sheets, outstanding: Sheets) -> bool
+    ensures { λ r. ⌜ r ≡ sizeFit (size .0) (outstanding .0) ⌝ }
 {
-    if size > SIZE_LIMIT {
+    if size.0 > SIZE_LIMIT {
         return false;
     }
-    outstanding <= size
+    outstanding.0 <= size.0
 }
 
 fn nets_fit(nets: Nets) -> bool
@@ -160,7 +161,7 @@ fn is_fit(
     if !within {
         return false;
     }
-    if !size_fit(scalars.size.0, summary.outstanding) {
+    if !size_fit(scalars.size, summary.outstanding) {
         return false;
     }
     others_fit(calendar, scalars, kinds, units, table, summary.latest)
@@ -169,7 +170,7 @@ fn is_fit(
 // Whether a book is fit, and O of one that is, since the test counts it.
 pub struct Fitness {
     pub fit: bool,
-    pub outstanding: u64,
+    pub outstanding: Sheets,
 }
 
 pub fn fitness_of(
@@ -184,18 +185,19 @@ pub fn fitness_of(
     ensures { λ r.
         let trades = tradesOf (now (table .entry)) in
         ⌜ (r .fit ≡ fit (now (calendar .entry)) (bookOf scalars (rowsOf (now (held .entry)) (now (kinds .entry)) (now (units .entry)))) trades)
-        × (r .fit ≡ true → r .outstanding ≡ outstandingAt scalars trades) ⌝ }
+        × (r .fit ≡ true → r .outstanding .0 ≡ outstandingAt scalars trades) ⌝ }
 {
     let count = scalars.trades;
     if !capacity_fit(count, table) {
         return Fitness {
             fit: false,
-            outstanding: 0,
+            outstanding: Sheets(0),
         };
     }
     let summary = trades::summary_of(table, count);
+    let outstanding = summary.outstanding;
     Fitness {
         fit: is_fit(calendar, scalars, held, kinds, units, table, summary),
-        outstanding: summary.outstanding,
+        outstanding,
     }
 }

@@ -23,11 +23,12 @@ pub fn contract_at(table: &[u64], place: usize) -> Contract
     Contract(table[place * layout::WIDTH])
 }
 
-pub fn sheets_at(table: &[u64], place: usize) -> u64
+pub fn sheets_at(table: &[u64], place: usize) -> Sheets
     requires { ⌜ HasSlot (now table) place ⌝ }
-    ensures { λ r. ⌜ r ≡ tradeAt (now (table .entry)) place .sheets .0 ⌝ }
+    ensures { λ r. ⌜ r .0 ≡ tradeAt (now (table .entry)) place .sheets .0 ⌝ }
 {
-    table[place * layout::WIDTH + 1]
+    let number = table[place * layout::WIDTH + 1];
+    Sheets(number)
 }
 
 // Prices and days have 32 bits, and stand two to a number: this is the lower half, and below it the upper.
@@ -79,13 +80,13 @@ pub fn due_at(table: &[u64], place: usize) -> u32
     upper_at(table, place * layout::WIDTH + 3)
 }
 
-pub fn put_sheets(table: &mut [u64], place: usize, count: u64)
+pub fn put_sheets(table: &mut [u64], place: usize, count: Sheets)
     requires { ⌜ HasSlot (now table) place ⌝ }
     ensures { λ _.
         let trades = tradesOf (now (table .entry)) in
-        ⌜ tradesOf (now (table .exit)) ≡ set trades place (withSheets count (tradeAt (now (table .entry)) place)) ⌝ }
+        ⌜ tradesOf (now (table .exit)) ≡ set trades place (withSheets (count .0) (tradeAt (now (table .entry)) place)) ⌝ }
 {
-    table[place * layout::WIDTH + 1] = count;
+    table[place * layout::WIDTH + 1] = count.0;
 }
 
 // What a freed slot is filled with.
@@ -126,7 +127,7 @@ pub fn trade_at(table: &[u64], place: usize) -> Trade
 {
     Trade {
         contract: contract_at(table, place),
-        sheets: Sheets(sheets_at(table, place)),
+        sheets: sheets_at(table, place),
         price: price_at(table, place),
         fallback: fallback_at(table, place),
         first: first_at(table, place),

@@ -44,13 +44,13 @@ fn put_frozen(held: &mut [u64], kind: u8, units: u64)
     held::put_security(held, at, security);
 }
 
-fn cash_frozen(guarantee: Guarantee, units: u64) -> Guarantee
-    ensures { λ r. ⌜ r ≡ cashFrozen units guarantee ⌝ }
+fn cash_frozen(guarantee: Guarantee, amount: Fen) -> Guarantee
+    ensures { λ r. ⌜ r ≡ cashFrozen (amount .0) guarantee ⌝ }
 {
     Guarantee {
         effective: Fen(guarantee.effective.0),
         arriving: Fen(guarantee.arriving.0),
-        frozen: Fen(units),
+        frozen: amount,
     }
 }
 
@@ -69,7 +69,7 @@ pub fn freeze(scalars: Scalars, held: &mut [u64], kind: u8, units: u64) -> Done
     if kind == CASH_KIND {
         let guarantee = scalars.guarantee;
         let mut next = scalars;
-        next.guarantee = cash_frozen(guarantee, units);
+        next.guarantee = cash_frozen(guarantee, Fen(units));
         return done::answered(0, next);
     }
     put_frozen(held, kind, units);

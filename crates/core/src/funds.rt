@@ -13,27 +13,23 @@ use scalars::done;
 use scalars::done::Done;
 use scalars::state::Scalars;
 
-fn balance(account: Account, cash: Cash) -> u64
-    ensures { λ r. ⌜ r ≡ holds account cash ⌝ }
+fn balance(account: Account, cash: Cash) -> Fen
+    ensures { λ r. ⌜ r .0 ≡ holds account cash ⌝ }
 {
     match account {
-        Account::Own => cash.own.0,
-        Account::Client => cash.client.0,
+        Account::Own => cash.own,
+        Account::Client => cash.client,
     }
 }
 
-fn with_account(account: Account, sum: u64, cash: Cash) -> Cash
-    ensures { λ r. ⌜ r ≡ withAccount account sum cash ⌝ }
+fn with_account(account: Account, sum: Fen, cash: Cash) -> Cash
+    ensures { λ r. ⌜ r ≡ withAccount account (sum .0) cash ⌝ }
 {
+    let own = cash.own;
+    let client = cash.client;
     match account {
-        Account::Own => Cash {
-            own: Fen(sum),
-            client: Fen(cash.client.0),
-        },
-        Account::Client => Cash {
-            own: Fen(cash.own.0),
-            client: Fen(sum),
-        },
+        Account::Own => Cash { own: sum, client },
+        Account::Client => Cash { own, client: sum },
     }
 }
 
@@ -67,7 +63,9 @@ pub fn fund_in(scalars: Scalars, account: Account, amount: Fen) -> Done
     }
     let cash = scalars.cash;
     let mut next = scalars;
-    next.cash = with_account(account, balance(account, cash) + amount.0, cash);
+    let held = balance(account, cash);
+    let sum = held.0 + amount.0;
+    next.cash = with_account(account, Fen(sum), cash);
     done::answered(0, next)
 }
 
@@ -78,7 +76,8 @@ fn fund_out_refusal(scalars: Scalars, account: Account, amount: Fen) -> u8
         return 7;
     }
     let cash = scalars.cash;
-    if balance(account, cash) < amount.0 {
+    let held = balance(account, cash);
+    if held.0 < amount.0 {
         return 13;
     }
     0
@@ -96,6 +95,8 @@ pub fn fund_out(scalars: Scalars, account: Account, amount: Fen) -> Done
     }
     let cash = scalars.cash;
     let mut next = scalars;
-    next.cash = with_account(account, balance(account, cash) - amount.0, cash);
+    let held = balance(account, cash);
+    let rest = held.0 - amount.0;
+    next.cash = with_account(account, Fen(rest), cash);
     done::answered(0, next)
 }

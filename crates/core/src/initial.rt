@@ -38,16 +38,16 @@ use scalars::standing;
 use scalars::state;
 use scalars::state::Scalars;
 
-fn bad_count(count: u64) -> bool
-    ensures { λ r. ⌜ r ≡ badCount count ⌝ }
+fn bad_count(count: Sheets) -> bool
+    ensures { λ r. ⌜ r ≡ badCount (count .0) ⌝ }
 {
-    if count == 0 {
+    if count.0 == 0 {
         return true;
     }
-    if count % 10 != 0 {
+    if count.0 % 10 != 0 {
         return true;
     }
-    count > TRADE_LIMIT
+    count.0 > TRADE_LIMIT
 }
 
 fn bad_prices(price: Ticks, fallback: Ticks) -> bool
@@ -102,15 +102,15 @@ fn lacks_headroom(
     held: &[u64],
     table: &[u64],
     known: KnownFigures,
-    count: u64,
+    count: Sheets,
 ) -> bool
-    requires { ⌜ (CountedHeld (now calendar) scalars (now held) (tradesOf (now table)) known) × (count ≤ tradeLimit) ⌝ }
+    requires { ⌜ (CountedHeld (now calendar) scalars (now held) (tradesOf (now table)) known) × (count .0 ≤ tradeLimit) ⌝ }
     ensures { λ r.
         ⌜ ((kinds units : List ℕ) →
-        r ≡ ltZ (headroom (bookOf scalars (rowsOf (now (held .entry)) kinds units)) (tradesOf (now (table .entry)))) (pos count)) ⌝ }
+        r ≡ ltZ (headroom (bookOf scalars (rowsOf (now (held .entry)) kinds units)) (tradesOf (now (table .entry)))) (pos (count .0))) ⌝ }
 {
     let figures = figures::figures_known(calendar, scalars, held, table, known);
-    headroom::above_headroom(scalars.size.0, figures.value, figures.outstanding, count)
+    headroom::above_headroom(scalars.size, figures.value, figures.outstanding, count)
 }
 
 // The causes, group by group as the rules have them: when a trade may begin, its prices and its due day, the table's room, and
@@ -176,11 +176,11 @@ fn sheet_refusal(
         let book = bookOf scalars (rowsOf (now (held .entry)) kinds units) in
         r ≡ numberOf (firstOf (sheetCauses book (tradesOf (now (table .entry))) terms))) ⌝ }
 {
-    if lacks_headroom(calendar, scalars, held, table, known, terms.sheets.0) {
+    let count = terms.sheets;
+    if lacks_headroom(calendar, scalars, held, table, known, count) {
         return 12;
     }
     let nets = scalars.nets;
-    let count = terms.sheets;
     if nets::over_less(nets, principal_of(count)) {
         return 14;
     }
@@ -207,7 +207,7 @@ fn initial_refusal(
     if at_this_time != 0 {
         return at_this_time;
     }
-    if bad_count(terms.sheets.0) {
+    if bad_count(terms.sheets) {
         return 7;
     }
     let on_these_terms = term_refusal(calendar, scalars, terms);

@@ -5,6 +5,7 @@ ghost use mathlib.Core.Bool.{true, false};
 ghost use Prim.Native.Nat.{ℕ, _*_, _≤_};
 ghost use lib.ListN.{getD, set};
 ghost use Rattle.money.specs.Causes.{firstOf, numberOf};
+ghost use Rattle.money.specs.Units.{sheets};
 ghost use Rattle.rules.specs.Trades.{noTrade};
 ghost use Rattle.rules.specs.Step.{outcome};
 ghost use Rattle.rules.specs.Listing.{lengthCauses};
@@ -22,6 +23,7 @@ use crate::flat;
 use crate::layout;
 use crate::layout::HELD_LENGTH;
 use crate::run;
+use money::units::Sheets;
 use rules::answer::Cover;
 use rules::event::Entry;
 use rules::limits::APPLICATION_LIMIT;
@@ -52,11 +54,11 @@ fn is_whole(scalars: Scalars, held: &[u64], kinds: &[u8], units: &[u64], table: 
 
 // For numbers that hold no fit book.
 fn not_fit() -> Fitness
-    ensures { λ r. ⌜ r ≡ record { fit = false; outstanding = 0 } ⌝ }
+    ensures { λ r. ⌜ r ≡ record { fit = false; outstanding = sheets 0 } ⌝ }
 {
     Fitness {
         fit: false,
-        outstanding: 0,
+        outstanding: Sheets(0),
     }
 }
 
@@ -73,7 +75,7 @@ fn fitness_in(
         let before = lent scalars (now (held .entry)) (now (kinds .entry)) (now (units .entry)) (now (table .entry)) in
         let trades = tradesOf (now (table .entry)) in
         ⌜ (r .fit ≡ fitIn (now (calendar .entry)) before)
-        × (r .fit ≡ true → r .outstanding ≡ outstandingAt scalars trades) ⌝ }
+        × (r .fit ≡ true → r .outstanding .0 ≡ outstandingAt scalars trades) ⌝ }
 {
     if !is_whole(scalars, held, kinds, units, table) {
         return not_fit();
@@ -105,6 +107,7 @@ pub fn apply(
     if !fits {
         return done::answered(1, scalars);
     }
+    let outstanding = tested.outstanding;
     dispatch::entry_on(
         calendar,
         scalars,
@@ -113,7 +116,7 @@ pub fn apply(
         units,
         table,
         KnownFigures {
-            outstanding: tested.outstanding,
+            outstanding,
             value: KnownValue::NotCounted,
         },
         entry,
@@ -139,7 +142,7 @@ pub fn cover(
         return headroom::cover_refused();
     }
     let figures = figures::figures_of(calendar, scalars, held, table);
-    cover::cover_from(scalars.size.0, figures)
+    cover::cover_from(scalars.size, figures)
 }
 
 // The lent lengths: whole events, no more than a journal's, and room for their lines.

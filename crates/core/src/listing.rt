@@ -11,6 +11,7 @@ use crate::lent;
 use crate::run;
 use money::units::Fen;
 use money::units::Sheets;
+use money::units::SignedFen;
 use rules::book::Cash;
 use rules::book::Day;
 use rules::book::FailedRun;
@@ -30,8 +31,8 @@ fn fresh_scalars() -> Scalars
 {
     Scalars {
         nets: Nets {
-            today: 0,
-            cleared: 0,
+            today: SignedFen(0),
+            cleared: SignedFen(0),
         },
         cash: Cash {
             own: Fen(0),

@@ -4,6 +4,7 @@ ghost use Prim.Native.Nat.{_≤_};
 ghost use lib.ListN.{length};
 ghost use Rattle.money.specs.Limits.{calendarLimit};
 ghost use Rattle.money.specs.Causes.{firstOf};
+ghost use Rattle.money.specs.Units.{signedFen};
 ghost use Rattle.rules.specs.Open.{statusAtOpen, turnsTerminated, openedStanding, netWithFallbacks, openCauses, openedBook, openedTable};
 ghost use Rattle.core.specs.Types.{Normal, NotFailed, FailedOnce};
 ghost use Rattle.core.specs.Flat.{Rows, bookOf, Fits, Opening, Ending, appliedAt, tradesOf, appliedBy, tableBy};
@@ -103,7 +104,7 @@ fn with_fallbacks(calendar: &[u32], scalars: Scalars, table: &[u64], after: Stan
         let trades = tradesOf (now (table .entry)) in
         ⌜ ((rows : Rows) →
         let book = bookOf scalars rows in
-        r ≡ record { today = scalars .nets .today; cleared = netWithFallbacks (now (calendar .entry)) book trades }) ⌝ }
+        r ≡ record { today = scalars .nets .today; cleared = signedFen (netWithFallbacks (now (calendar .entry)) book trades) }) ⌝ }
 {
     let nets = scalars.nets;
     let day = after.day;

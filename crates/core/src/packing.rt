@@ -17,7 +17,8 @@ fn move_up(table: &mut [u64], count: usize) -> usize
     let mut kept = 0;
     let mut i = 0;
     while i < count {
-        if flat::sheets_at(table, i) == 0 {
+        let left = flat::sheets_at(table, i);
+        if left.0 == 0 {
             i += 1;
             continue;
         }

@@ -35,39 +35,45 @@ fn pay_refusal(scalars: Scalars) -> u8
 }
 
 // What the payer of the net due holds.
-fn payer_holds(nets: Nets, cash: Cash) -> u64
-    ensures { λ r. ⌜ r ≡ payerHolds (nets .cleared) cash ⌝ }
+fn payer_holds(nets: Nets, cash: Cash) -> Fen
+    ensures { λ r. ⌜ r .0 ≡ payerHolds (nets .cleared .0) cash ⌝ }
 {
     if nets::client_pays(nets) {
-        return cash.client.0;
+        return cash.client;
     }
-    cash.own.0
+    cash.own
 }
 
 fn falls_short(nets: Nets, cash: Cash) -> bool
-    requires { ⌜ netFit (nets .cleared) ≡ true ⌝ }
-    ensures { λ r. ⌜ r ≡ ltb (payerHolds (nets .cleared) cash) (natAbs (nets .cleared)) ⌝ }
+    requires { ⌜ netFit (nets .cleared .0) ≡ true ⌝ }
+    ensures { λ r. ⌜ r ≡ ltb (payerHolds (nets .cleared .0) cash) (natAbs (nets .cleared .0)) ⌝ }
 {
-    payer_holds(nets, cash) < nets::net_due(nets)
+    let held = payer_holds(nets, cash);
+    let due = nets::net_due(nets);
+    held.0 < due.0
 }
 
 // The net due moves from the payer's account to the other.
 fn cash_moved(nets: Nets, cash: Cash) -> Cash
-    requires { ⌜ (netFit (nets .cleared) ≡ true)
-        × (natAbs (nets .cleared) ≤ payerHolds (nets .cleared) cash)
+    requires { ⌜ (netFit (nets .cleared .0) ≡ true)
+        × (natAbs (nets .cleared .0) ≤ payerHolds (nets .cleared .0) cash)
         × (cash .own .0 + cash .client .0 ≤ cashLimit) ⌝ }
-    ensures { λ r. ⌜ r ≡ moved (nets .cleared) cash ⌝ }
+    ensures { λ r. ⌜ r ≡ moved (nets .cleared .0) cash ⌝ }
 {
     let due = nets::net_due(nets);
     if nets::client_pays(nets) {
+        let own = cash.own.0 + due.0;
+        let client = cash.client.0 - due.0;
         return Cash {
-            own: Fen(cash.own.0 + due),
-            client: Fen(cash.client.0 - due),
+            own: Fen(own),
+            client: Fen(client),
         };
     }
+    let own = cash.own.0 - due.0;
+    let client = cash.client.0 + due.0;
     Cash {
-        own: Fen(cash.own.0 - due),
-        client: Fen(cash.client.0 + due),
+        own: Fen(own),
+        client: Fen(client),
     }
 }
 
@@ -108,8 +114,8 @@ fn unpaid(scalars: Scalars) -> Scalars
 }
 
 fn paid(scalars: Scalars) -> Scalars
-    requires { ⌜ (netFit (scalars .nets .cleared) ≡ true)
-        × (natAbs (scalars .nets .cleared) ≤ payerHolds (scalars .nets .cleared) (scalars .cash))
+    requires { ⌜ (netFit (scalars .nets .cleared .0) ≡ true)
+        × (natAbs (scalars .nets .cleared .0) ≤ payerHolds (scalars .nets .cleared .0) (scalars .cash))
         × (scalars .cash .own .0 + scalars .cash .client .0 ≤ cashLimit) ⌝ }
     ensures { λ r. ⌜ ((rows : Rows) → bookOf r rows ≡ afterPay false (bookOf scalars rows)) ⌝ }
 {

@@ -70,13 +70,13 @@ fn put_arrived(held: &mut [u64], kind: u8, units: u64)
     held::put_security(held, at, security);
 }
 
-fn cash_arrived(guarantee: Guarantee, units: u64) -> Guarantee
-    requires { ⌜ guarantee .arriving .0 + units ≤ cashLimit ⌝ }
-    ensures { λ r. ⌜ r ≡ cashArrived units guarantee ⌝ }
+fn cash_arrived(guarantee: Guarantee, amount: Fen) -> Guarantee
+    requires { ⌜ guarantee .arriving .0 + amount .0 ≤ cashLimit ⌝ }
+    ensures { λ r. ⌜ r ≡ cashArrived (amount .0) guarantee ⌝ }
 {
     Guarantee {
         effective: Fen(guarantee.effective.0),
-        arriving: Fen(guarantee.arriving.0 + units),
+        arriving: Fen(guarantee.arriving.0 + amount.0),
         frozen: Fen(guarantee.frozen.0),
     }
 }
@@ -100,7 +100,7 @@ pub fn pledge(scalars: Scalars, held: &mut [u64], kind: u8, units: u64) -> Done
         let guarantee = scalars.guarantee;
         let mut next = scalars;
         next.cash.own.0 = own;
-        next.guarantee = cash_arrived(guarantee, units);
+        next.guarantee = cash_arrived(guarantee, Fen(units));
         return done::answered(0, next);
     }
     put_arrived(held, kind, units);

@@ -40,7 +40,7 @@ fn maturing_at(table: &[u64], place: usize, today: u32) -> Sheets
     if flat::due_at(table, place) > today {
         return Sheets(0);
     }
-    Sheets(flat::sheets_at(table, place))
+    flat::sheets_at(table, place)
 }
 
 // "Trades due today or earlier are redeemed at their price."
@@ -73,7 +73,7 @@ pub fn termination_plan(table: &[u64], count: usize, payment: u32) -> Redeemed
     let mut amount = 0;
     let mut i = 0;
     while i < count {
-        let left = Sheets(flat::sheets_at(table, i));
+        let left = flat::sheets_at(table, i);
         let paid = redeemed_for(table, i, left, flat::fallback_at(table, i), payment);
         sheets += left.0;
         amount += paid.0;
@@ -91,8 +91,9 @@ fn redeem_one(table: &mut [u64], place: usize, by: u32)
         ⌜ tradesOf (now (table .exit)) ≡ set (tradesOf (now (table .entry))) place (matured by (tradeAt (now (table .entry)) place)) ⌝ }
 {
     let due = maturing_at(table, place, by);
-    let left = flat::sheets_at(table, place) - due.0;
-    flat::put_sheets(table, place, left);
+    let had = flat::sheets_at(table, place);
+    let left = had.0 - due.0;
+    flat::put_sheets(table, place, Sheets(left));
 }
 
 // Of each trade in use that is due by then, nothing is left.

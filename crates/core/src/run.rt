@@ -8,7 +8,6 @@ ghost use Rattle.rules.specs.Step.{step};
 ghost use Rattle.rules.specs.Listing.{lineNumbers, lineOf, runDone};
 ghost use Rattle.core.specs.Flat.{FitsWhole, rowsOf, bookOf, tradesOf};
 ghost use Rattle.core.specs.Figures.{figuresAt};
-use crate::cover;
 use crate::dispatch;
 use crate::figures;
 use crate::figures::Figures;
@@ -52,6 +51,8 @@ fn run_event(
         × (r .figures ≡ figuresAt (r .scalars) (now (held .exit)) (tradesOf (now (table .exit)))) ⌝ }
 {
     let entry = decoder::entry::decode(bytes);
+    let outstanding = figures.outstanding;
+    let value = figures.value;
     let done = dispatch::entry_on(
         calendar,
         scalars,
@@ -60,8 +61,8 @@ fn run_event(
         units,
         table,
         KnownFigures {
-            outstanding: figures.outstanding,
-            value: KnownValue::Counted(figures.value),
+            outstanding,
+            value: KnownValue::Counted(value),
         },
         entry,
     );
@@ -76,8 +77,15 @@ fn run_event(
         &*held,
         &*table,
     );
-    let cover = cover::cover_from(after.size.0, next);
-    line::write_line(lines, at, answer.number, cover, after.cash, after.guarantee);
+    line::write_line(
+        lines,
+        at,
+        answer.number,
+        after.size,
+        next,
+        after.cash,
+        after.guarantee,
+    );
     Turn {
         scalars: after,
         figures: next,

@@ -13,25 +13,25 @@ use scalars::done;
 use scalars::done::Done;
 use scalars::state::Scalars;
 
-fn size_refusal(outstanding: u64, size: Sheets) -> u8
+fn size_refusal(outstanding: Sheets, size: Sheets) -> u8
     ensures { λ r.
         ⌜ ((book : Book) (table : List Trade) →
-        outstanding ≡ outstandingOf book table → r ≡ numberOf (firstOf (sizeCauses book table size))) ⌝ }
+        outstanding .0 ≡ outstandingOf book table → r ≡ numberOf (firstOf (sizeCauses book table size))) ⌝ }
 {
     if size.0 > SIZE_LIMIT {
         return 14;
     }
-    if size.0 < outstanding {
+    if size.0 < outstanding.0 {
         return 15;
     }
     0
 }
 
-pub fn set_size(scalars: Scalars, outstanding: u64, size: Sheets) -> Done
+pub fn set_size(scalars: Scalars, outstanding: Sheets, size: Sheets) -> Done
     ensures { λ r.
         ⌜ ((rows : Rows) (table : List Trade) →
         let book = bookOf scalars rows in
-        outstanding ≡ outstandingAt scalars table
+        outstanding .0 ≡ outstandingAt scalars table
         → appliedAt r rows ≡ appliedBy (firstOf (sizeCauses book table size)) book (sized book size)) ⌝ }
 {
     let refusal = size_refusal(outstanding, size);

@@ -13,6 +13,7 @@ use crate::chains::ChainResult;
 use crate::flat;
 use money::limits::PRICE_LIMIT;
 use money::limits::TRADE_LIMIT;
+use money::units::Sheets;
 use rules::limits::CAPACITY_LIMIT;
 use rules::trade::Contract;
 use sort::order;
@@ -28,17 +29,18 @@ const SOME_BUCKETS: usize = 8_191;
 const MANY_BUCKETS: usize = 32_749;
 
 // O, the sheets left on the table.
-pub fn outstanding_of(table: &[u64], count: usize) -> u64
+pub fn outstanding_of(table: &[u64], count: usize) -> Sheets
     requires { ⌜ Kept (now table) count ⌝ }
-    ensures { λ r. ⌜ r ≡ outstanding (tradesTo (now (table .entry)) count) ⌝ }
+    ensures { λ r. ⌜ r .0 ≡ outstanding (tradesTo (now (table .entry)) count) ⌝ }
 {
     let mut sum = 0;
     let mut place = 0;
     while place < count {
-        sum += flat::sheets_at(table, place);
+        let left = flat::sheets_at(table, place);
+        sum += left.0;
         place += 1;
     }
-    sum
+    Sheets(sum)
 }
 
 // Where a contract's trade stands, or the count where it is not on the table.
@@ -152,7 +154,8 @@ fn trade_fits(table: &[u64], place: usize) -> bool
     requires { ⌜ HasSlot (now table) place ⌝ }
     ensures { λ r. ⌜ r ≡ tradeFit (tradeAt (now (table .entry)) place) ⌝ }
 {
-    if flat::sheets_at(table, place) > TRADE_LIMIT {
+    let left = flat::sheets_at(table, place);
+    if left.0 > TRADE_LIMIT {
         return false;
     }
     let price = flat::price_at(table, place);
@@ -175,7 +178,7 @@ fn later(a: u32, b: u32) -> u32
 // What one walk tells: whether each trade is within its limits, and if so O and the latest first payment day.
 pub struct Summary {
     pub fit: bool,
-    pub outstanding: u64,
+    pub outstanding: Sheets,
     pub latest: u32,
 }
 
@@ -190,17 +193,18 @@ pub fn summary_of(table: &[u64], count: usize) -> Summary
         if !trade_fits(table, i) {
             return Summary {
                 fit: false,
-                outstanding: 0,
+                outstanding: Sheets(0),
                 latest: 0,
             };
         }
-        outstanding += flat::sheets_at(table, i);
+        let left = flat::sheets_at(table, i);
+        outstanding += left.0;
         latest = later(latest, flat::first_at(table, i));
         i += 1;
     }
     Summary {
         fit: true,
-        outstanding,
+        outstanding: Sheets(outstanding),
         latest,
     }
 }

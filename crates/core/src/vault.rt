@@ -17,6 +17,7 @@ use money::limits::CASH_LIMIT;
 use money::limits::RATE_LIMIT;
 use money::limits::SECURITIES;
 use money::limits::UNIT_LIMIT;
+use money::units::Sheets;
 use rules::book::Cash;
 use rules::book::Guarantee;
 use rules::book::Security;
@@ -109,35 +110,38 @@ pub fn withdrawals_fit(kinds: &[u8], units: &[u64], count: usize) -> bool
 }
 
 // A kind's value within the limits, where nothing refuses it.
-pub fn worth(kind: u8, effective: u64, frozen: u64, rate: u64) -> u64
+pub fn worth(kind: u8, effective: u64, frozen: u64, rate: u64) -> Sheets
     requires { ⌜ (kind ≤ cashKind) × (frozen ≤ effective) × (effective ≤ unitLimitOf kind) × (rateOf kind rate ≤ rateLimit) ⌝ }
-    ensures { λ r. ⌜ r ≡ kindValue kind effective frozen rate .0 ⌝ }
+    ensures { λ r. ⌜ r ≡ kindValue kind effective frozen rate ⌝ }
 {
     let worth = money::collateral::kind_worth(kind, effective, frozen, rate);
-    worth.sheets.0
+    worth.sheets
 }
 
 // V: the value of the 32 securities, and of the guarantee cash.
-pub fn value_of(held: &[u64], guarantee: Guarantee) -> u64
+pub fn value_of(held: &[u64], guarantee: Guarantee) -> Sheets
     requires { ⌜ (length (now held) ≡ heldLength)
         × (securitiesFit (vaultOf guarantee (securitiesOf (now held))) ≡ true)
         × (guarantee .frozen .0 ≤ guarantee .effective .0)
         × (guarantee .effective .0 ≤ cashLimit) ⌝ }
-    ensures { λ r. ⌜ r ≡ value (vaultOf guarantee (securitiesOf (now (held .entry)))) ⌝ }
+    ensures { λ r. ⌜ r .0 ≡ value (vaultOf guarantee (securitiesOf (now (held .entry)))) ⌝ }
 {
     let mut sum = 0;
     let mut kind: usize = 0;
     while kind < SECURITIES {
         let security = held::security_at(held, kind);
-        sum += worth(
+        let of_kind = worth(
             kind as u8,
             security.effective,
             security.frozen,
             security.rate,
         );
+        sum += of_kind.0;
         kind += 1;
     }
-    sum + worth(CASH_KIND, guarantee.effective.0, guarantee.frozen.0, 0)
+    let of_cash = worth(CASH_KIND, guarantee.effective.0, guarantee.frozen.0, 0);
+    let of_all = sum + of_cash.0;
+    Sheets(of_all)
 }
 
 pub fn effective_of(held: &[u64], guarantee: Guarantee, kind: u8) -> u64

@@ -36,8 +36,8 @@ view book table = record {
   cash = cashOf book;
   day = book .standing .day;
   rows = inUse (book .trades) table;
-  today = book .nets .today;
-  cleared = book .nets .cleared;
+  today = book .nets .today .0;
+  cleared = book .nets .cleared .0;
   status = book .standing .status;
 }
 

@@ -181,7 +181,7 @@ cases =
     ∷ (M7 is headroomAfter week covers ∷ numberTo week covers (initial 180 7 3650 1000 4) ∷ headroomAfter week (covers then (initial 180 7 3650 1000 4 ∷ [])) ∷ [] gives pos 180 ∷ pos 0 ∷ pos 0 ∷ [])
     ∷ (M8 is headroomAfter week covers ∷ numberTo week covers (initial 190 7 3650 1000 4) ∷ [] gives pos 180 ∷ pos 12 ∷ [])
     -- "contract 7 above matures at the Close of day 6 over 7 - 3 = 4 days": the day, the days, the sheets, the net that is cleared
-    ∷ (M9 is pos (today (after week untilDay6)) ∷ pos daysCounted ∷ pos (answerTo week untilDay6 (Known Close) .matured .0) ∷ after week closedDay6 .nets .cleared ∷ [] gives pos 6 ∷ pos 4 ∷ pos 100 ∷ pos 1000400 ∷ [])
+    ∷ (M9 is pos (today (after week untilDay6)) ∷ pos daysCounted ∷ pos (answerTo week untilDay6 (Known Close) .matured .0) ∷ after week closedDay6 .nets .cleared .0 ∷ [] gives pos 6 ∷ pos 4 ∷ pos 100 ∷ pos 1000400 ∷ [])
     -- "failed runs 1 and 2 open suspended and terminated"
     ∷ (M10 is statusAfter daily (failedOnce then (Known Open ∷ [])) ∷ statusAfter daily (failedTwice then (Known Open ∷ [])) ∷ [] gives pos 1 ∷ pos 2 ∷ [])
     ∷ []
@@ -196,11 +196,11 @@ all-ten = refl
 -- ---- beside them
 
 -- a trade begun on day 3 and due on day 6 runs over 7 - 6 = 1 day, not 3
-pub one-day-over-a-holiday : after week (fromDay3 then (Known Close ∷ [])) .nets .cleared ≡ pos 1000100
+pub one-day-over-a-holiday : after week (fromDay3 then (Known Close ∷ [])) .nets .cleared .0 ≡ pos 1000100
 unfolding everyRule lastBook lastTable
 one-day-over-a-holiday = refl
 
 -- on termination contract 7 is redeemed whole at its fallback price, 1,000 ticks over 3 days, into the net that waits
-pub terminated-at-fallback : after daily (failedTwice then (Known Open ∷ [])) .nets .cleared ≡ pos 82
+pub terminated-at-fallback : after daily (failedTwice then (Known Open ∷ [])) .nets .cleared .0 ≡ pos 82
 unfolding everyRule lastBook lastTable
 terminated-at-fallback = refl

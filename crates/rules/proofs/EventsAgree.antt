@@ -58,7 +58,7 @@ module _ (calendar : Calendar) (book : Book) (table : List Trade) (t : Tally) (i
   trades = inUse (book .trades) table
 
   -- where only the cash changes
-  with-cash : (cash : ℕ) (funds : ℤ) → pos cash ≡ funds → Agrees (record { cash = cash; day = book .standing .day; rows = trades; today = book .nets .today; cleared = book .nets .cleared; status = book .standing .status }) (withFunds funds t)
+  with-cash : (cash : ℕ) (funds : ℤ) → pos cash ≡ funds → Agrees (record { cash = cash; day = book .standing .day; rows = trades; today = book .nets .today .0; cleared = book .nets .cleared .0; status = book .standing .status }) (withFunds funds t)
   with-cash cash funds e = record { day = i .day; rows = i .rows; cash = e; sheets = i .sheets; running = i .running; cleared = i .cleared; ended = i .ended }
 
   pub at-fundIn : (account : Account) (amount : Fen) → Right calendar t (acted calendar book table (FundIn account amount))
@@ -140,8 +140,8 @@ module _ (calendar : Calendar) (book : Book) (table : List Trade) (t : Tally) (i
       })
 
   -- the net due is what is cleared less what is paid
-  net-due : t .cleared -ℤ t .paid ≡ book .nets .cleared
-  net-due = rw (i .cleared) (+ℤ-negℤ-cancel (book .nets .cleared) (t .paid))
+  net-due : t .cleared -ℤ t .paid ≡ book .nets .cleared .0
+  net-due = rw (i .cleared) (+ℤ-negℤ-cancel (book .nets .cleared .0) (t .paid))
 
   pub at-pay : Right calendar t (acted calendar book table Pay)
   unfolding act counted tell afterPay
@@ -151,22 +151,22 @@ module _ (calendar : Calendar) (book : Book) (table : List Trade) (t : Tally) (i
       go true e = record {
         agrees = i;
         initial = λ h a. absurd h;
-        payment = λ h a. rw net-due (payment-nothing (book .cash) (book .nets .cleared) e);
+        payment = λ h a. rw net-due (payment-nothing (book .cash) (book .nets .cleared .0) e);
         moves = rw (+ℤ-invr (pos (book .cash .own .0))) (+ℤ-idr (t .paid));
       }
       go false e = record {
         agrees = record {
           day = i .day;
           rows = i .rows;
-          cash = ap pos (payment-keeps-cash (book .cash) (book .nets .cleared) (book .vault .guarantee) e) ∙ i .cash;
+          cash = ap pos (payment-keeps-cash (book .cash) (book .nets .cleared .0) (book .vault .guarantee) e) ∙ i .cash;
           sheets = i .sheets;
           running = i .running;
           cleared = sym (+ℤ-idl (t .cleared));
           ended = i .ended;
         };
         initial = λ h a. absurd h;
-        payment = λ h a. rw net-due (payment-whole (book .cash) (book .nets .cleared) e);
-        moves = rw (payment-moves-net (book .cash) (book .nets .cleared) e) (+ℤ-comm (t .paid) (book .nets .cleared) ∙ sym (i .cleared));
+        payment = λ h a. rw net-due (payment-whole (book .cash) (book .nets .cleared .0) e);
+        moves = rw (payment-moves-net (book .cash) (book .nets .cleared .0) e) (+ℤ-comm (t .paid) (book .nets .cleared .0) ∙ sym (i .cleared));
       }
 
   pub at-close : Right calendar t (acted calendar book table Close)
@@ -184,7 +184,7 @@ module _ (calendar : Calendar) (book : Book) (table : List Trade) (t : Tally) (i
         cash = ap pos (close-keeps-cash calendar book (maturedTrades book table) table) ∙ i .cash;
         sheets = rw (i .rows, today, rows) (omega (arith, outstanding-remaining (map (matured d) trades), outstanding-matured d trades, sheets-due d trades, i .sheets));
         running = refl;
-        cleared = rw (i .rows, today, payment-day, amount-due d payment trades, ← (i .running), i .cleared) (swap-last (book .nets .cleared) (t .paid) (book .nets .today +ℤ pos (total (maturityAmount d payment) trades)));
+        cleared = rw (i .rows, today, payment-day, amount-due d payment trades, ← (i .running), i .cleared) (swap-last (book .nets .cleared .0) (t .paid) (book .nets .today .0 +ℤ pos (total (maturityAmount d payment) trades)));
         ended = λ h. rw rows (remaining-remaining (map (matured d) trades) ∙ sym (taken-due d trades) ∙ rw (i .ended h));
       })
 
@@ -202,8 +202,8 @@ module _ (calendar : Calendar) (book : Book) (table : List Trade) (t : Tally) (i
         cash = cashOf book;
         day = toDay (following calendar (book .standing .day));
         rows = inUse (book .trades) (cond turns (over (book .trades) (map emptied trades) table) table);
-        today = book .nets .today;
-        cleared = cond turns (netWithFallbacks calendar book table) (book .nets .cleared);
+        today = book .nets .today .0;
+        cleared = cond turns (netWithFallbacks calendar book table) (book .nets .cleared .0);
         status = nextStatus (book .standing);
       })
       (opened terminated calendar t)
@@ -238,7 +238,7 @@ module _ (calendar : Calendar) (book : Book) (table : List Trade) (t : Tally) (i
         cash = i .cash;
         sheets = rw (i .rows, rows) (omega (arith, outstanding-emptied trades, sheets-whole trades, i .sheets));
         running = i .running;
-        cleared = rw (i .rows, next-payment-day, amount-whole payment trades, i .cleared) (swap-last (book .nets .cleared) (t .paid) (pos (total (fallbackAmount payment) trades)));
+        cleared = rw (i .rows, next-payment-day, amount-whole payment trades, i .cleared) (swap-last (book .nets .cleared .0) (t .paid) (pos (total (fallbackAmount payment) trades)));
         ended = λ p. rw rows (remaining-emptied trades);
       }
 

@@ -41,8 +41,8 @@ pub record SizeFits (size outstanding : ℕ) : Type 0 where
   pub covers : outstanding ≤ size
 
 pub record NetsFit (nets : Nets) : Type 0 where
-  pub today : natAbs (nets .today) ≤ netLimit
-  pub cleared : natAbs (nets .cleared) ≤ netLimit
+  pub today : natAbs (nets .today .0) ≤ netLimit
+  pub cleared : natAbs (nets .cleared .0) ≤ netLimit
 
 pub record ApplicationFits (kind units : ℕ) : Type 0 where
   pub known : kind ≤ 32
@@ -124,13 +124,13 @@ fits-size size outstanding f = both-of (leb size sizeLimit) (leb outstanding siz
 pub nets-fit : (nets : Nets) → netsFit nets ≡ true → NetsFit nets
 unfolding netsFit
 nets-fit nets e =
-    let b = both (netFit (nets .today)) (netFit (nets .cleared)) e in
-    record { today = leb-true (natAbs (nets .today)) netLimit (b .0); cleared = leb-true (natAbs (nets .cleared)) netLimit (b .1) }
+    let b = both (netFit (nets .today .0)) (netFit (nets .cleared .0)) e in
+    record { today = leb-true (natAbs (nets .today .0)) netLimit (b .0); cleared = leb-true (natAbs (nets .cleared .0)) netLimit (b .1) }
 
 pub fit-nets : (nets : Nets) → NetsFit nets → netsFit nets ≡ true
 unfolding netsFit
 fit-nets nets f =
-    both-of (netFit (nets .today)) (netFit (nets .cleared)) (le-leb (natAbs (nets .today)) netLimit (f .today)) (le-leb (natAbs (nets .cleared)) netLimit (f .cleared))
+    both-of (netFit (nets .today .0)) (netFit (nets .cleared .0)) (le-leb (natAbs (nets .today .0)) netLimit (f .today)) (le-leb (natAbs (nets .cleared .0)) netLimit (f .cleared))
 
 application-fits : (kind units : ℕ) → applicationFit kind units ≡ true → ApplicationFits kind units
 application-fits kind units e =

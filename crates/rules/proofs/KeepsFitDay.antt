@@ -98,7 +98,7 @@ module _ (calendar : Calendar) (book : Book) (table : List Trade) (f : Fit calen
       (next-day calendar (book .standing .day) (book .standing .phase) Trading table _ (book .trades) (book .trades) (f .day) follows (l .fewer))
     where
       cleared : (goes ended : Bool) → goes ≡ true → (goes && ended && ltb netLimit (natAbs (netWithFallbacks calendar book table))) ≡ false
-          → natAbs (cond ended (netWithFallbacks calendar book table) (book .nets .cleared)) ≤ netLimit
+          → natAbs (cond ended (netWithFallbacks calendar book table) (book .nets .cleared .0)) ≤ netLimit
       cleared true true g h = ltb-false netLimit (natAbs (netWithFallbacks calendar book table)) h
       cleared true false g h = f .nets .cleared
       cleared false ended g h = let z : _≡_ {A = ℕ} 0 1 = cc in absurd (omega arith)
@@ -181,7 +181,7 @@ module _ (calendar : Calendar) (book : Book) (table : List Trade) (f : Fit calen
       go true b = lessened-fits (afterPay true book) table (same-lessens (paymentDay calendar (book .standing .day)) (book .trades) table) refl (f .securities) (f .cash) (f .nets) (f .withdrawals) day
       go false b =
           lessened-fits (afterPay false book) table (same-lessens (paymentDay calendar (book .standing .day)) (book .trades) table) refl (f .securities)
-          (moved-fits (book .nets .cleared) (book .cash) (book .vault .guarantee) (f .cash) b)
+          (moved-fits (book .nets .cleared .0) (book .cash) (book .vault .guarantee) (f .cash) b)
           (record { today = f .nets .today; cleared = omega arith }) (f .withdrawals) day
 
   -- ---- 12 Close

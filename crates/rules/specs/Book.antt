@@ -5,7 +5,7 @@ use mathlib.Core.Bool.{Bool, true, false}
 use lib.IntN.{pos}
 use lib.ListN.{replicate}
 use Rattle.money.specs.declared.units.Sheets.{Sheets}
-use Rattle.money.specs.Units.{fen, sheets}
+use Rattle.money.specs.Units.{fen, sheets, signedFen}
 use Rattle.rules.specs.Limits.{applicationLimit}
 pub use Rattle.rules.specs.declared.book.Nets.{Nets}
 pub use Rattle.rules.specs.declared.book.Cash.{Cash}
@@ -98,7 +98,7 @@ noApplications = record { kinds = replicate applicationLimit 0; units = replicat
 
 unfoldable pub freshBook : Book
 freshBook = record {
-  nets = record { today = pos 0; cleared = pos 0 };
+  nets = record { today = signedFen (pos 0); cleared = signedFen (pos 0) };
   cash = record { own = fen 0; client = fen 0 };
   vault = record { guarantee = record { effective = fen 0; arriving = fen 0; frozen = fen 0 }; securities = replicate 32 noSecurity };
   size = sheets 0;

@@ -7,7 +7,7 @@ use lib.Dec.{ltb, leb}
 use lib.IntN.{ℤ, pos, natAbs, _+ℤ_}
 use lib.ListN.{length, getD, set}
 use lib.Signed.{ltZ}
-use Rattle.money.specs.Units.{fen, sheets}
+use Rattle.money.specs.Units.{fen, sheets, signedFen}
 use Rattle.money.specs.declared.units.Fen.{Fen}
 use Rattle.money.specs.Causes.{Cause, _⇒_}
 use Rattle.money.specs.Days.{Calendar}
@@ -37,10 +37,10 @@ maturedAmount calendar book table =
 -- ---- (b) "today's net joins the cleared net and becomes 0"
 
 abbrev pub netWithMatured : Calendar → Book → List Trade → ℤ
-netWithMatured calendar book table = book .nets .today +ℤ pos (maturedAmount calendar book table)
+netWithMatured calendar book table = book .nets .today .0 +ℤ pos (maturedAmount calendar book table)
 
 abbrev pub clearedAtClose : Calendar → Book → List Trade → ℤ
-clearedAtClose calendar book table = book .nets .cleared +ℤ netWithMatured calendar book table
+clearedAtClose calendar book table = book .nets .cleared .0 +ℤ netWithMatured calendar book table
 
 -- "For Close, 14 looks at today's net as (b) begins and at the cleared net after it"
 unfoldable pub closeCauses : Calendar → Book → List Trade → List Cause
@@ -151,7 +151,7 @@ closedStanding short standing = record { day = standing .day; phase = Closed; st
 
 unfoldable pub closedBook : Calendar → Book → (left table : List Trade) → Book
 closedBook calendar book left table = record {
-  nets = record { today = pos 0; cleared = clearedAtClose calendar book table };
+  nets = record { today = signedFen (pos 0); cleared = signedFen (clearedAtClose calendar book table) };
   cash = record { own = evening book left .own; client = book .cash .client };
   vault = evening book left .vault;
   size = book .size;

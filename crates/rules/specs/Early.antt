@@ -7,6 +7,7 @@ use lib.Dec.{ltb, leb, eqb}
 use lib.IntN.{ℤ, pos, natAbs, _+ℤ_}
 use Rattle.money.specs.declared.units.Sheets.{Sheets}
 use Rattle.money.specs.declared.units.Ticks.{Ticks}
+use Rattle.money.specs.Units.{signedFen}
 use Rattle.money.specs.Limits.{priceLimit}
 use Rattle.money.specs.Causes.{Cause, _⇒_}
 use Rattle.money.specs.Days.{Calendar}
@@ -25,7 +26,7 @@ earlyAmount calendar book table contract count price =
     redeemed (paymentDay calendar (book .standing .day)) (count .0) price (named book table contract)
 
 abbrev pub netWithEarly : Calendar → Book → List Trade → Contract → Sheets → Ticks → ℤ
-netWithEarly calendar book table contract count price = book .nets .today +ℤ pos (earlyAmount calendar book table contract count price)
+netWithEarly calendar book table contract count price = book .nets .today .0 +ℤ pos (earlyAmount calendar book table contract count price)
 
 -- "today at or past due", of a trade that is on the table
 abbrev pub pastDue : Book → List Trade → Contract → Bool
@@ -63,7 +64,7 @@ earlyCauses calendar book table contract count price =
 
 unfoldable pub earlyBook : Calendar → Book → List Trade → Contract → Sheets → Ticks → Book
 earlyBook calendar book table contract count price =
-    withNets (record { today = netWithEarly calendar book table contract count price; cleared = book .nets .cleared }) book
+    withNets (record { today = signedFen (netWithEarly calendar book table contract count price); cleared = book .nets .cleared }) book
 
 unfoldable pub earlyTable : Book → List Trade → Contract → Sheets → List Trade
 earlyTable book table contract count = over (book .trades) (takeOff contract (count .0) (inUse (book .trades) table)) table

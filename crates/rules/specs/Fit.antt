@@ -59,7 +59,7 @@ abbrev pub netFit : ℤ → Bool
 netFit net = leb (natAbs net) netLimit
 
 unfoldable pub netsFit : Nets → Bool
-netsFit nets = netFit (nets .today) && netFit (nets .cleared)
+netsFit nets = netFit (nets .today .0) && netFit (nets .cleared .0)
 
 -- "applications name kinds to 32 and at most 10^16 units"
 abbrev pub applicationFit : (kind units : ℕ) → Bool

@@ -8,6 +8,7 @@ use lib.IntN.{ℤ, pos, natAbs, _-ℤ_}
 use lib.ListN.{length, set}
 use lib.Signed.{ltZ}
 use Rattle.money.specs.declared.units.Ticks.{Ticks}
+use Rattle.money.specs.Units.{signedFen}
 use Rattle.money.specs.Limits.{tradeLimit, priceLimit}
 use Rattle.money.specs.Causes.{Cause, _⇒_}
 use Rattle.money.specs.Days.{Calendar, atOrAfter}
@@ -39,7 +40,7 @@ badPrices price fallback = ltb priceLimit (price .0) || ltb priceLimit (fallback
 
 -- today's net with an initial trade taken from it
 abbrev pub netLess : Book → Terms → ℤ
-netLess book terms = book .nets .today -ℤ pos (principal (terms .sheets) .0)
+netLess book terms = book .nets .today .0 -ℤ pos (principal (terms .sheets) .0)
 
 -- when an initial trade may begin
 abbrev pub timeCauses : Book → List Cause
@@ -96,7 +97,7 @@ begun calendar book terms = record {
 }
 
 unfoldable pub initialBook : Book → Terms → Book
-initialBook book terms = withNets (record { today = netLess book terms; cleared = book .nets .cleared }) (withTrades (book .trades + 1) book)
+initialBook book terms = withNets (record { today = signedFen (netLess book terms); cleared = book .nets .cleared }) (withTrades (book .trades + 1) book)
 
 unfoldable pub initialTable : Calendar → Book → List Trade → Terms → List Trade
 initialTable calendar book table terms = set table (book .trades) (begun calendar book terms)

@@ -4,6 +4,7 @@ use mathlib.Core.Bool.{Bool, true, false, cond, not, _&&_, _||_}
 use mathlib.Core.List.{List, [], _∷_, map}
 use lib.Dec.{ltb}
 use lib.IntN.{ℤ, pos, natAbs, _+ℤ_}
+use Rattle.money.specs.Units.{signedFen}
 use Rattle.money.specs.Causes.{Cause, _⇒_}
 use Rattle.money.specs.Days.{Calendar}
 use Rattle.rules.specs.Limits.{netLimit}
@@ -42,7 +43,7 @@ nextDay calendar standing = toDay (following calendar (standing .day))
 -- "every trade is redeemed whole at its fallback price, the one due that day included, into the cleared net (art. 72)"
 abbrev pub netWithFallbacks : Calendar → Book → List Trade → ℤ
 netWithFallbacks calendar book table =
-    book .nets .cleared +ℤ pos (total (fallbackAmount (paymentDay calendar (nextDay calendar (book .standing)))) (inUse (book .trades) table))
+    book .nets .cleared .0 +ℤ pos (total (fallbackAmount (paymentDay calendar (nextDay calendar (book .standing)))) (inUse (book .trades) table))
 
 -- "for Open, 14 doesn't apply where 16 does"
 unfoldable pub openCauses : Calendar → Book → List Trade → List Cause
@@ -65,8 +66,8 @@ openedStanding calendar standing = record {
 
 unfoldable pub openedBook : Calendar → Book → List Trade → Book
 openedBook calendar book table =
-    let cleared = cond (turnsTerminated (book .standing)) (netWithFallbacks calendar book table) (book .nets .cleared) in
-    withStanding (openedStanding calendar (book .standing)) (withNets (record { today = book .nets .today; cleared = cleared }) book)
+    let cleared = cond (turnsTerminated (book .standing)) (netWithFallbacks calendar book table) (book .nets .cleared .0) in
+    withStanding (openedStanding calendar (book .standing)) (withNets (record { today = book .nets .today; cleared = signedFen cleared }) book)
 
 unfoldable pub openedTable : Book → List Trade → List Trade
 openedTable book table =

@@ -5,7 +5,7 @@ use mathlib.Core.Bool.{Bool, true, false, not}
 use mathlib.Core.List.{List, [], _∷_}
 use lib.Dec.{ltb}
 use lib.IntN.{ℤ, pos, negsuc, natAbs}
-use Rattle.money.specs.Units.{fen}
+use Rattle.money.specs.Units.{fen, signedFen}
 use Rattle.money.specs.Causes.{Cause, _⇒_}
 use Rattle.rules.specs.Book.{Cash, Paid, FailedRun, NotFailed, FailedOnce, FailedTwice, Standing, Book, isTrading, isTerminated, withNets, withCash, withStanding}
 
@@ -20,7 +20,7 @@ moved (negsuc net) cash = record { own = fen (cash .own .0 + suc net); client = 
 
 -- "The payer holding less than |N|: nothing moves, answer 99"
 abbrev pub fails : Book → Bool
-fails book = ltb (payerHolds (book .nets .cleared) (book .cash)) (natAbs (book .nets .cleared))
+fails book = ltb (payerHolds (book .nets .cleared .0) (book .cash)) (natAbs (book .nets .cleared .0))
 
 -- "the failed run grows, at most to 2"
 abbrev pub failedMore : FailedRun → FailedRun
@@ -43,7 +43,7 @@ unfoldable pub afterPay : (failing : Bool) → Book → Book
 afterPay true book = withStanding (paidStanding (failedMore (book .standing .failed)) (book .standing)) book
 afterPay false book =
     withStanding (paidStanding NotFailed (book .standing))
-    (withNets (record { today = book .nets .today; cleared = pos 0 }) (withCash (moved (book .nets .cleared) (book .cash)) book))
+    (withNets (record { today = book .nets .today; cleared = signedFen (pos 0) }) (withCash (moved (book .nets .cleared .0) (book .cash)) book))
 
 abbrev pub payNumber : (failing : Bool) → ℕ
 payNumber true = 99

@@ -1,6 +1,7 @@
 // What a call answers.
 use crate::book::Book;
 use money::units::Sheets;
+use money::units::SignedSheets;
 
 // The number; of an accepted Close also the sheets matured and the applications done and dropped, of any other 0.
 #[repr(C)]
@@ -28,6 +29,6 @@ pub struct Ran {
 #[repr(C)]
 pub struct Cover {
     pub number: u8,
-    pub headroom: i64,
+    pub headroom: SignedSheets,
     pub outstanding: Sheets,
 }

@@ -5,12 +5,13 @@ use crate::limits::APPLICATION_LIMIT;
 use money::limits::SECURITIES;
 use money::units::Fen;
 use money::units::Sheets;
+use money::units::SignedFen;
 
-// Today's net and the cleared net in fen: redemptions plus, initial trades minus.
+// Today's net and the cleared net: redemptions plus, initial trades minus.
 #[repr(C)]
 pub struct Nets {
-    pub today: i64,
-    pub cleared: i64,
+    pub today: SignedFen,
+    pub cleared: SignedFen,
 }
 
 // The two settlement accounts.
@@ -110,8 +111,8 @@ pub fn fresh() -> Book
 {
     Book {
         nets: Nets {
-            today: 0,
-            cleared: 0,
+            today: SignedFen(0),
+            cleared: SignedFen(0),
         },
         cash: Cash {
             own: Fen(0),

@@ -6,33 +6,35 @@ ghost use lib.Signed.{ltZ};
 ghost use Rattle.rules.specs.Vault.{headroomOf};
 ghost use Rattle.rules.specs.Cover.{coverRefused};
 use money::units::Sheets;
+use money::units::SignedSheets;
 use rules::answer::Cover;
 
-pub fn smaller(a: u64, b: u64) -> u64
-    ensures { λ r. ⌜ r ≡ min a b ⌝ }
+pub fn smaller(a: Sheets, b: Sheets) -> Sheets
+    ensures { λ r. ⌜ r .0 ≡ min (a .0) (b .0) ⌝ }
 {
-    if a < b {
+    if a.0 < b.0 {
         return a;
     }
     b
 }
 
 // Headroom below 0.
-pub fn is_short(size: u64, value: u64, outstanding: u64) -> bool
-    ensures { λ r. ⌜ r ≡ ltZ (headroomOf size value outstanding) (pos 0) ⌝ }
+pub fn is_short(size: Sheets, value: Sheets, outstanding: Sheets) -> bool
+    ensures { λ r. ⌜ r ≡ ltZ (headroomOf (size .0) (value .0) (outstanding .0)) (pos 0) ⌝ }
 {
-    smaller(size, value) < outstanding
+    let cover = smaller(size, value);
+    cover.0 < outstanding.0
 }
 
 // Headroom below a count of sheets.
-pub fn above_headroom(size: u64, value: u64, outstanding: u64, count: u64) -> bool
-    ensures { λ r. ⌜ r ≡ ltZ (headroomOf size value outstanding) (pos count) ⌝ }
+pub fn above_headroom(size: Sheets, value: Sheets, outstanding: Sheets, count: Sheets) -> bool
+    ensures { λ r. ⌜ r ≡ ltZ (headroomOf (size .0) (value .0) (outstanding .0)) (pos (count .0)) ⌝ }
 {
     let cover = smaller(size, value);
-    if cover < outstanding {
+    if cover.0 < outstanding.0 {
         return true;
     }
-    cover - outstanding < count
+    cover.0 - outstanding.0 < count.0
 }
 
 // What is answered of a book that is not fit.
@@ -41,7 +43,7 @@ pub fn cover_refused() -> Cover
 {
     Cover {
         number: 1,
-        headroom: 0,
+        headroom: SignedSheets(0),
         outstanding: Sheets(0),
     }
 }

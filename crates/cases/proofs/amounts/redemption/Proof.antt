@@ -8,7 +8,9 @@ redemption-requires : tie.Need-redemption-requires
 redemption-requires c κs = search needs
 
 returns : tie.Need-returns
-returns c = ap (λ (amount : Amount). amount .fen .0) (c .redemption .ensures)
+returns c =
+    let called : tie.After-redemption = search needs in
+    ap (λ (amount : Amount). amount .fen .0) (called .redemption .ensures)
 
 pub redemption-spec : {M : Type 1} → statement M
 redemption-spec = tie.close (tie.spec redemption-requires returns)

@@ -10,21 +10,27 @@ redemption-requires c κs = search needs
 
 expect-requires : tie.Need-expect-requires
 unfolding redemptionAmount firstOf redemption principal income
-expect-requires c κs = eq-eqb (c .redemption .result) 1000400 (c .redemption .ensures)
+expect-requires c κs =
+    let told : tie.After-redemption = search needs in
+    eq-eqb (told .redemption .result .0) 1000400 (told .redemption .ensures)
 
 redemption-requires-2 : tie.Need-redemption-requires-2
 redemption-requires-2 c κs = search needs
 
 expect-requires-2 : tie.Need-expect-requires-2
 unfolding redemptionAmount firstOf redemption principal income
-expect-requires-2 c κs = eq-eqb (c .redemption2 .result) 10001 (c .redemption2 .ensures)
+expect-requires-2 c κs =
+    let told : tie.After-redemption2 = search needs in
+    eq-eqb (told .redemption2 .result .0) 10001 (told .redemption2 .ensures)
 
 redemption-requires-3 : tie.Need-redemption-requires-3
 redemption-requires-3 c κs = search needs
 
 expect-requires-3 : tie.Need-expect-requires-3
 unfolding redemptionAmount firstOf redemption principal income
-expect-requires-3 c κs = eq-eqb (c .redemption3 .result) 10000 (c .redemption3 .ensures)
+expect-requires-3 c κs =
+    let told : tie.After-redemption3 = search needs in
+    eq-eqb (told .redemption3 .result .0) 10000 (told .redemption3 .ensures)
 
 returns : tie.Need-returns
 returns c = search needs

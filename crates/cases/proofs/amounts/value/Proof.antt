@@ -8,7 +8,9 @@ kind-worth-requires : tie.Need-kind-worth-requires
 kind-worth-requires c κs = search needs
 
 returns : tie.Need-returns
-returns c = ap (λ (worth : Worth). worth .sheets .0) (c .kind-worth .ensures)
+returns c =
+    let called : tie.After-kind-worth = search needs in
+    ap (λ (worth : Worth). worth .sheets .0) (called .kind-worth .ensures)
 
 pub value-spec : {M : Type 1} → statement M
 value-spec = tie.close (tie.spec kind-worth-requires returns)

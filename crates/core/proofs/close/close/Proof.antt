@@ -6,7 +6,7 @@ use borrow.Author.Needs.{needs}
 use borrow.Author.Tests.{le-leb}
 use lib.IntN.{ℤ, pos, natAbs, _+ℤ_}
 use Rattle.money.specs.declared.units.Fen.{Fen}
-use Rattle.money.specs.Units.{fen, sheets}
+use Rattle.money.specs.Units.{fen, sheets, signedFen}
 use Rattle.rules.specs.Limits.{netLimit}
 use Rattle.rules.specs.Fit.{netFit}
 use Rattle.rules.specs.Close.{mayClose, maturedTrades, maturedSheets, maturedAmount, netWithMatured, clearedAtClose}
@@ -87,16 +87,16 @@ module _ (c : tie.After-maturity-plan) where
 
 -- today's net as (b) begins, and the cleared net after it
 with-matured : (c : tie.After-today-plus)
-    → c .today-plus .result ≡ record { today = today-net (from-plan (c .before)); cleared = from-plan (c .before) .args .scalars .nets .cleared }
+    → c .today-plus .result ≡ record { today = signedFen (today-net (from-plan (c .before))); cleared = from-plan (c .before) .args .scalars .nets .cleared }
 with-matured c =
     let nets = from-plan (c .before) .args .scalars .nets in
-    c .today-plus .ensures ∙ ap (λ (amount : Fen). record { today = nets .today +ℤ pos (amount .0); cleared = nets .cleared }) (amount-matured (c .before))
+    c .today-plus .ensures ∙ ap (λ (amount : Fen). record { today = signedFen (nets .today .0 +ℤ pos (amount .0)); cleared = nets .cleared }) (amount-matured (c .before))
 
 all-joined : (c : tie.After-joined)
-    → c .joined .result ≡ record { today = pos 0; cleared = cleared-net (from-plan (c .before .before .before .before)) }
+    → c .joined .result ≡ record { today = signedFen (pos 0); cleared = signedFen (cleared-net (from-plan (c .before .before .before .before))) }
 all-joined c =
     let at-today-plus : tie.After-today-plus = search needs in
-    c .joined .ensures ∙ ap (λ (nets : Nets). record { today = pos 0; cleared = nets .cleared +ℤ nets .today }) (with-matured at-today-plus)
+    c .joined .ensures ∙ ap (λ (nets : Nets). record { today = signedFen (pos 0); cleared = signedFen (nets .cleared .0 +ℤ nets .today .0) }) (with-matured at-today-plus)
 
 -- the tests, as the causes have them
 abbrev from-first : tie.Else1 → tie.Start
@@ -107,11 +107,11 @@ may-go-on c = denied-not (c .before .may-close .ensures) (c .if1 .left)
 
 today-asked : (c : tie.After-today-fit)
     → c .today-fit .result ≡ netFit (today-net (from-today c))
-today-asked c = c .today-fit .ensures ∙ ap (λ (nets : Nets). netFit (nets .today)) (with-matured (c .before))
+today-asked c = c .today-fit .ensures ∙ ap (λ (nets : Nets). netFit (nets .today .0)) (with-matured (c .before))
 
 cleared-asked : (c : tie.After-cleared-fit)
     → c .cleared-fit .result ≡ netFit (cleared-net (from-cleared c))
-cleared-asked c = c .cleared-fit .ensures ∙ ap (λ (nets : Nets). netFit (nets .cleared)) (all-joined (c .before))
+cleared-asked c = c .cleared-fit .ensures ∙ ap (λ (nets : Nets). netFit (nets .cleared .0)) (all-joined (c .before))
 
 may-close-requires : tie.Need-may-close-requires
 may-close-requires c κs = search needs
@@ -140,7 +140,7 @@ today-plus-requires : tie.Need-today-plus-requires
 today-plus-requires c κs =
     let s = from-plan c in
     let nets = fit-parts (s .args .calendar .now) (book s) (trades s) (s .pre .fits) .nets in
-    (le-leb (natAbs (s .args .scalars .nets .today)) netLimit (nets .today), rw (c .maturity-plan .ensures) (maturity-bound _ _ _ (redeemable (c .before)) _))
+    (le-leb (natAbs (s .args .scalars .nets .today .0)) netLimit (nets .today), rw (c .maturity-plan .ensures) (maturity-bound _ _ _ (redeemable (c .before)) _))
 
 today-fit-requires : tie.Need-today-fit-requires
 today-fit-requires c κs = search needs
@@ -165,7 +165,7 @@ joined-requires c κs =
     let at-today-plus : tie.After-today-plus = search needs in
     let s = from-today (c .before) in
     let nets = fit-parts (s .args .calendar .now) (book s) (trades s) (s .pre .fits) .nets in
-    (sym (c .before .today-fit .ensures) ∙ holds _ (c .if2 .left), rw (with-matured at-today-plus) (le-leb (natAbs (s .args .scalars .nets .cleared)) netLimit (nets .cleared)))
+    (sym (c .before .today-fit .ensures) ∙ holds _ (c .if2 .left), rw (with-matured at-today-plus) (le-leb (natAbs (s .args .scalars .nets .cleared .0)) netLimit (nets .cleared)))
 
 cleared-fit-requires : tie.Need-cleared-fit-requires
 cleared-fit-requires c κs = search needs

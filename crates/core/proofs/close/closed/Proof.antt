@@ -47,7 +47,7 @@ module _ (c : tie.After-outstanding-of) where
       let due = redeemed c in
       trades-after-maturity (book from-count) _ _ _ (due .before .day-number .ensures) (from-count .pre .1) (due .redeem-due .kept .0) (due .redeem-due .ensures)
 
-  sheets-left : c .outstanding-of .result ≡ outstanding (left-of from-count)
+  sheets-left : c .outstanding-of .result .0 ≡ outstanding (left-of from-count)
   sheets-left = c .outstanding-of .ensures ∙ ap outstanding trades-left
 
 -- the evening's end

@@ -1,10 +1,13 @@
+use Prim.Native.Nat.{_-_}
 use mathlib.Core.Option.{none}
 use mathlib.Core.Path.{_≡_, refl, ap, _∙_}
 use native.Mathlib.Omega.{arith}
 use borrow.Author.Needs.{needs}
+use lib.ListN.{set}
 use Rattle.money.specs.Causes.{firstOf}
+use Rattle.rules.specs.Trades.{withSheets}
 use Rattle.rules.specs.Early.{earlyCauses, earlyBook, earlyTable}
-use Rattle.core.specs.Flat.{Rows, bookOf, tradesOf, Kept}
+use Rattle.core.specs.Flat.{Rows, bookOf, tradeAt, tradesOf, Kept}
 use Rattle.core.specs.Redemption.{Redeemed}
 use Rattle.core.proofs.Refusing.{refused, turned-down, carried-out}
 use Rattle.core.proofs.FitFacts.{fit-keeps, fit-net}
@@ -32,6 +35,16 @@ redeems : (c : tie.Else1) → (let s = start-of c .args in Redeems (s .table .no
 redeems c =
     let start : tie.Start = search needs in
     early-redeems (start .args .calendar .now) (bookOf (start .args .scalars) (start .pre .rows)) _ _ _ _ _ (start .pre .fits) (placed c .place-of .ensures) (clear c (start .pre .rows))
+
+-- back from the end, a few steps at a time: a search looks so far and no further
+abbrev counted : tie.After-put-sheets → tie.After-sheets-at
+counted c = search needs
+
+abbrev planned : tie.After-sheets-at → tie.After-early-plan
+planned c = search needs
+
+abbrev allowed : tie.After-early-plan → tie.Else1
+allowed c = search needs
 
 place-of-requires : tie.Need-place-of-requires
 place-of-requires c κs =
@@ -74,7 +87,8 @@ sub-left c =
     let past1 : tie.Else1 = search needs in
     let start : tie.Start = search needs in
     let at-early-plan : tie.After-early-plan = search needs in
-    omega (arith, redeems past1 .enough, c .before .sheets-at .ensures, ap (λ (plan : Redeemed). plan .sheets .0) (at-early-plan .early-plan .ensures (start .pre .rows)))
+    let had : tie.After-sheets-at = search needs in
+    omega (arith, redeems past1 .enough, had .sheets-at .ensures, ap (λ (plan : Redeemed). plan .sheets .0) (at-early-plan .early-plan .ensures (start .pre .rows)))
 
 put-sheets-requires : tie.Need-put-sheets-requires
 put-sheets-requires c κs =
@@ -102,14 +116,18 @@ same-length-2 c = search needs
 returns-2 : tie.Need-returns-2
 unfolding earlyBook earlyTable
 returns-2 c rows =
-    let past1 : tie.Else1 = search needs in
-    let at-sheets-at : tie.After-sheets-at = search needs in
     let at-put-sheets : tie.After-put-sheets = search needs in
-    let at-place-of : tie.After-place-of = search needs in
-    let at-early-plan : tie.After-early-plan = search needs in
-    let start : tie.Start = search needs in
+    let at-sheets-at = counted at-put-sheets in
+    let at-early-plan = planned at-sheets-at in
+    let past1 = allowed at-early-plan in
+    let at-place-of = placed past1 in
+    let start = start-of past1 in
     let r = redeems past1 in
-    let written = rw (at-sheets-at .sheets-at .ensures, at-early-plan .early-plan .ensures rows) at (at-put-sheets .put-sheets .ensures) in
+    let a = start .args in
+    let trade = tradeAt (a .table .now) (at-place-of .place-of .result) in
+    let rest : at-sheets-at .sheets-at .result .0 - at-early-plan .early-plan .result .sheets .0 ≡ trade .sheets .0 - a .count .0 =
+    omega (arith, at-sheets-at .sheets-at .ensures, ap (λ (plan : Redeemed). plan .sheets .0) (at-early-plan .early-plan .ensures rows)) in
+    let written = at-put-sheets .put-sheets .ensures ∙ ap (λ n. set (tradesOf (a .table .now)) (at-place-of .place-of .result) (withSheets n trade)) rest in
     let taken-off = take-off-here _ _ _ _ (kept start .room) (at-place-of .place-of .ensures) _ (r .below) in
     let e = clear past1 rows in
     (carried-out _ _ rows _ _ e (c .answered2 .ensures) (rw (c .before .today-plus .ensures, at-early-plan .early-plan .ensures rows)), rw e (written ∙ taken-off))

@@ -54,7 +54,8 @@ returns-2 c rows =
     let at-early-plan : tie.After-early-plan = search needs in
     let enough : tie.Else1 = search needs in
     let s = start enough in
-    let has = not-short-of _ _ _ _ (kept s .room) (s .pre .named .stands) _ _ (enough .before .before .sheets-at .ensures) (s .pre .below) (enough .if1 .left) in
+    let read : tie.After-sheets-at = search needs in
+    let has = not-short-of _ _ _ _ (kept s .room) (s .pre .named .stands) _ _ (read .sheets-at .ensures) (s .pre .below) (enough .if1 .left) in
     let net = rw (at-early-plan .early-plan .ensures rows) at (c .before .over-plus .ensures) in search column depth 20
 
 returns-3 : tie.Need-returns-3
@@ -62,7 +63,8 @@ returns-3 c rows =
     let at-early-plan : tie.After-early-plan = search needs in
     let enough : tie.Else1 = search needs in
     let s = start enough in
-    let has = not-short-of _ _ _ _ (kept s .room) (s .pre .named .stands) _ _ (enough .before .before .sheets-at .ensures) (s .pre .below) (enough .if1 .left) in
+    let read : tie.After-sheets-at = search needs in
+    let has = not-short-of _ _ _ _ (kept s .room) (s .pre .named .stands) _ _ (read .sheets-at .ensures) (s .pre .below) (enough .if1 .left) in
     let net = rw (at-early-plan .early-plan .ensures rows) at (c .before .over-plus .ensures) in search column depth 20
 
 pub take-refusal-spec : {M : Type 1} → statement M

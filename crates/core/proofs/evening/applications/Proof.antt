@@ -49,7 +49,7 @@ abbrev Inv-loop : tie.InvT-loop
 Inv-loop served outstanding kinds units count held₀ guarantee₀ own₀ value₀ done₀ dropped₀ i₀ held guarantee own value done dropped i =
     (i ≤ count)
     × (length held ≡ length held₀)
-    × (made own (vaultFrom held guarantee) done dropped ≡ inTurn i (turn served outstanding (asked kinds units count)) (made own₀ (vaultFrom held₀ guarantee₀) done₀ dropped₀))
+    × (made own (vaultFrom held guarantee) done dropped ≡ inTurn i (turn served (outstanding .0) (asked kinds units count)) (made own₀ (vaultFrom held₀ guarantee₀) done₀ dropped₀))
     × (value ≡ valueOf (vaultFrom held guarantee))
 
 abbrev μ-loop : tie.MeasureT-loop
@@ -88,7 +88,7 @@ module _ (c : tie.In-loop Inv-loop μ-loop) where
   before = made (c .before .loop .own) vault (c .before .loop .done) (c .before .loop .dropped)
 
   abbrev turns : ℕ → Evening → Evening
-  turns = turn (s .args .served) (s .args .outstanding) w
+  turns = turn (s .args .served) (s .args .outstanding .0) w
 
   few : w .count ≤ 128
   few = withdrawals-fit w (s .pre .0 .3) .count
@@ -99,14 +99,14 @@ module _ (c : tie.In-loop Inv-loop μ-loop) where
   kept : Kept before
   kept =
       rw (c .before .loop .inv .2)
-      (turns-keep (s .args .served) (s .args .outstanding) w first i (record { securities = securities-fit _ (s .pre .1 .0); free = s .pre .1 .1; cash = s .pre .1 .3 }))
+      (turns-keep (s .args .served) (s .args .outstanding .0) w first i (record { securities = securities-fit _ (s .pre .1 .0); free = s .pre .1 .1; cash = s .pre .1 .3 }))
 
   seen : before .done + before .dropped ≡ i
   seen =
       omega (
         arith,
         ap (λ (e : Evening). e .done + e .dropped) (c .before .loop .inv .2),
-        turns-count (s .args .served) (s .args .outstanding) w first i,
+        turns-count (s .args .served) (s .args .outstanding .0) w first i,
         s .pre .1 .5,
         s .pre .1 .6,
       )
@@ -164,13 +164,13 @@ module _ (c : tie.After-judged Inv-loop μ-loop) where
   abbrev turn-at : tie.In-loop Inv-loop μ-loop
   turn-at = search needs
 
-  judgement : (c .judged .result .goes ≡ mayGo (s turn-at .args .served) (s turn-at .args .outstanding) (kind turn-at) (units turn-at) (vault turn-at))
-      × (c .judged .result .value ≡ cond (c .judged .result .goes) (valueOf (takenOut (kind turn-at) (units turn-at) (vault turn-at))) (turn-at .before .loop .value))
+  judgement : (c .judged .result .goes ≡ mayGo (s turn-at .args .served) (s turn-at .args .outstanding .0) (kind turn-at) (units turn-at) (vault turn-at))
+      × (c .judged .result .value .0 ≡ cond (c .judged .result .goes) (valueOf (takenOut (kind turn-at) (units turn-at) (vault turn-at))) (turn-at .before .loop .value))
   judgement = c .judged .ensures (vault turn-at) (full turn-at) (held (c .before) .effective) (held (c .before) .frozen) (held (c .before) .rate) (turn-at .before .loop .inv .3)
 
   enough : c .judged .result .goes ≡ true → units turn-at ≤ effectiveOf (vault turn-at) (kind turn-at)
   enough goes =
-      omega (arith, unfrozen (s turn-at .args .served) (s turn-at .args .outstanding) (kind turn-at) (units turn-at) (vault turn-at) (sym (judgement .0) ∙ goes))
+      omega (arith, unfrozen (s turn-at .args .served) (s turn-at .args .outstanding .0) (kind turn-at) (units turn-at) (vault turn-at) (sym (judgement .0) ∙ goes))
 
 add-done : tie.Need-add-done Inv-loop μ-loop
 add-done c = let at = turn-at (c .before) in omega (arith, seen at, few at, at .loop-test .taken)
@@ -263,7 +263,7 @@ module _ (c : tie.Joined2 Inv-loop μ-loop) where
       let so = sym (judgement (c .before) .0) in
       ⊎-elim (λ a. went _ _ _ _ (before here) (so ∙ a .0) (a .1) (a .2) (a .3) (a .4)) (λ a. stayed _ _ _ _ (before here) (so ∙ a .0) (a .1) (a .2) (a .3) (a .4)) way
 
-  valued-so : c .before .judged .result .value ≡ valueOf (next)
+  valued-so : c .before .judged .result .value .0 ≡ valueOf (next)
   valued-so =
       let valued : Bool → ℕ = λ goes. cond goes (valueOf (takenOut (kind here) (units here) (vault here))) (here .before .loop .value) in
       ⊎-elim (λ a. judgement (c .before) .1 ∙ ap valued (a .0) ∙ sym (ap valueOf (a .2)))
@@ -284,7 +284,7 @@ returns c =
     let e : c .before .loop .i ≡ s .args .count = omega arith in
     let first = eveningAt (s .args .begun) (securitiesOf (s .args .held .now)) in (
       c .before .loop .inv .2
-          ∙ ap (λ n. inTurn n (turn (s .args .served) (s .args .outstanding) (asked (s .args .kinds .now) (s .args .units .now) (s .args .count))) first) e,
+          ∙ ap (λ n. inTurn n (turn (s .args .served) (s .args .outstanding .0) (asked (s .args .kinds .now) (s .args .units .now) (s .args .count))) first) e,
       c .before .loop .inv .3,
     )
 

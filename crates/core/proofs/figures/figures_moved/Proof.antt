@@ -2,6 +2,7 @@ use Prim.Native.Nat.{ℕ, _+_, _-_}
 use mathlib.Core.Path.{_≡_, sym, ap, _∙_}
 use native.Mathlib.Omega.{arith}
 use borrow.Author.Needs.{needs}
+use Rattle.money.specs.declared.units.Sheets.{Sheets}
 use Rattle.rules.specs.Trades.{outstanding}
 use Rattle.rules.proofs.FitParts.{fit-parts}
 use Rattle.core.specs.Figures.{Figures, figuresAt, Moved}
@@ -44,19 +45,19 @@ enum-told-5 : tie.Need-enum-told-5
 enum-told-5 c = search needs
 
 revalued-requires : tie.Need-revalued-requires
-revalued-requires c κs = let s : tie.Start = search needs in (s .pre .0, told s (c .enum-told5 .given .1))
+revalued-requires c κs = let s : tie.Start = search needs in (s .pre .0, ap (λ (count : Sheets). count .0) (told s (c .enum-told5 .given .1)))
 
 enum-told-6 : tie.Need-enum-told-6
 enum-told-6 c = search needs
 
 revalued-requires-2 : tie.Need-revalued-requires-2
-revalued-requires-2 c κs = let s : tie.Start = search needs in (s .pre .0, told s (c .enum-told6 .given .1))
+revalued-requires-2 c κs = let s : tie.Start = search needs in (s .pre .0, ap (λ (count : Sheets). count .0) (told s (c .enum-told6 .given .1)))
 
 enum-told-7 : tie.Need-enum-told-7
 enum-told-7 c = search needs
 
 revalued-requires-3 : tie.Need-revalued-requires-3
-revalued-requires-3 c κs = let s : tie.Start = search needs in (s .pre .0, told s (c .enum-told7 .given .1))
+revalued-requires-3 c κs = let s : tie.Start = search needs in (s .pre .0, ap (λ (count : Sheets). count .0) (told s (c .enum-told7 .given .1)))
 
 enum-told-8 : tie.Need-enum-told-8
 enum-told-8 c = search needs
@@ -64,8 +65,8 @@ enum-told-8 c = search needs
 enum-known-event : tie.Need-enum-known-event
 enum-known-event c = search needs
 
-add-t11 : tie.Need-add-t11
-add-t11 c =
+add-more : tie.Need-add-more
+add-more c =
     let at-event : tie.After-event = search needs in
     let s : tie.Start = search needs in
     let parts = fit-parts _ _ _ (s .pre .0 .fits) in
@@ -74,8 +75,8 @@ add-t11 c =
 enum-known-event-2 : tie.Need-enum-known-event-2
 enum-known-event-2 c = search needs
 
-sub-t12 : tie.Need-sub-t12
-sub-t12 c =
+sub-less : tie.Need-sub-less
+sub-less c =
     let at-event2 : tie.After-event2 = search needs in
     let s : tie.Start = search needs in
     omega (arith, told s (at-event2 .event2 .given .1) .0)
@@ -162,9 +163,9 @@ figures-moved-spec =
     revalued-requires-3
     enum-told-8
     enum-known-event
-    add-t11
+    add-more
     enum-known-event-2
-    sub-t12
+    sub-less
     enum-told-9
     enum-told-10
     figures-of-requires

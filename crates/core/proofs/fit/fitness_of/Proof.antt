@@ -25,11 +25,15 @@ summary-of-requires c κs =
 is-fit-requires : tie.Need-is-fit-requires
 is-fit-requires c κs =
     let s : tie.Start = search needs in
-    (s .pre, upheld (c .before .before .capacity-fit .ensures) (c .before .if1 .left), c .summary-of .ensures)
+    let tested : tie.After-capacity-fit = search needs in
+    let past1 : tie.Else1 = search needs in
+    let counted : tie.After-summary-of = search needs in
+    (s .pre, upheld (tested .capacity-fit .ensures) (past1 .if1 .left), counted .summary-of .ensures)
 
 returns-2 : tie.Need-returns-2
 returns-2 c =
-    let summary = summary-where _ _ (c .before .summary-of .ensures) in
+    let counted : tie.After-summary-of = search needs in
+    let summary = summary-where _ _ (counted .summary-of .ensures) in
     (c .is-fit .ensures, λ z. let fits = sym (c .is-fit .ensures) ∙ z in summary .1 (fit-keeps _ _ _ fits .within) .0 ∙ ap outstanding (sym (fit-in-use _ _ _ fits)))
 
 pub fitness-of-spec : {M : Type 1} → statement M

@@ -45,11 +45,13 @@ returns c rows = turned-down _ _ rows _ _ (c .before .before .fund-in-refusal .e
 balance-requires : tie.Need-balance-requires
 balance-requires c κs = search needs
 
-add-with-account : tie.Need-add-with-account
-add-with-account c =
-    let q = c .before .before .before in
-    let a = q .before .before .args in
-    omega (arith, c .before .balance .ensures, room (bookOf (a .scalars) noRows) (a .account) (a .amount) (none-applies q noRows))
+add-sum : tie.Need-add-sum
+add-sum c =
+    let s : tie.Start = search needs in
+    let past1 : tie.Else1 = search needs in
+    let held : tie.After-balance = search needs in
+    let a = s .args in
+    omega (arith, held .balance .ensures, room (bookOf (a .scalars) noRows) (a .account) (a .amount) (none-applies past1 noRows))
 
 with-account-requires : tie.Need-with-account-requires
 with-account-requires c κs = search needs
@@ -61,7 +63,8 @@ returns-2 : tie.Need-returns-2
 unfolding fundedIn
 returns-2 c rows =
     let past1 : tie.Else1 = search needs in
-    carried-out _ _ rows _ _ (none-applies past1 rows) (c .answered2 .ensures) (rw (c .before .with-account .ensures, c .before .before .before .balance .ensures))
+    let held : tie.After-balance = search needs in
+    carried-out _ _ rows _ _ (none-applies past1 rows) (c .answered2 .ensures) (rw (c .before .with-account .ensures, held .balance .ensures))
 
 pub fund-in-spec : {M : Type 1} → statement M
 fund-in-spec =
@@ -71,7 +74,7 @@ fund-in-spec =
     answered-requires
     returns
     balance-requires
-    add-with-account
+    add-sum
     with-account-requires
     answered-requires-2
     returns-2)

@@ -38,11 +38,13 @@ returns c rows = turned-down _ _ rows _ _ (c .before .before .fund-out-refusal .
 balance-requires : tie.Need-balance-requires
 balance-requires c κs = search needs
 
-sub-with-account : tie.Need-sub-with-account
-sub-with-account c =
-    let q = c .before .before .before in
-    let a = q .before .before .args in
-    omega (arith, c .before .balance .ensures, covered (bookOf (a .scalars) noRows) (a .account) (a .amount) (none-applies q noRows))
+sub-rest : tie.Need-sub-rest
+sub-rest c =
+    let s : tie.Start = search needs in
+    let past1 : tie.Else1 = search needs in
+    let held : tie.After-balance = search needs in
+    let a = s .args in
+    omega (arith, held .balance .ensures, covered (bookOf (a .scalars) noRows) (a .account) (a .amount) (none-applies past1 noRows))
 
 with-account-requires : tie.Need-with-account-requires
 with-account-requires c κs = search needs
@@ -54,7 +56,8 @@ returns-2 : tie.Need-returns-2
 unfolding fundedOut
 returns-2 c rows =
     let past1 : tie.Else1 = search needs in
-    carried-out _ _ rows _ _ (none-applies past1 rows) (c .answered2 .ensures) (rw (c .before .with-account .ensures, c .before .before .before .balance .ensures))
+    let held : tie.After-balance = search needs in
+    carried-out _ _ rows _ _ (none-applies past1 rows) (c .answered2 .ensures) (rw (c .before .with-account .ensures, held .balance .ensures))
 
 pub fund-out-spec : {M : Type 1} → statement M
 fund-out-spec =
@@ -64,7 +67,7 @@ fund-out-spec =
     answered-requires
     returns
     balance-requires
-    sub-with-account
+    sub-rest
     with-account-requires
     answered-requires-2
     returns-2)

@@ -1,28 +1,22 @@
 use borrow.Author.Needs.{needs}
 use Prim.Native.Nat.{_+_}
-use mathlib.Core.Path.{_≡_}
 use native.Mathlib.Omega.{arith}
-use lib.IntN.{natAbs}
-use mir.Val.{toZ, ofZ}
-use mir.Syntax.{w64}
-use mir.ValLaws.{toZ-ofZ}
+use lib.IntN.{ℤ, natAbs}
+use Rattle.rules.specs.Vault.{headroomOf}
 use Rattle.rules.specs.Listing.{signOf}
 use lib.ListN.{length-set}
 use Rattle.core.proofs.LineLaws.{seven-in-a-row}
 use Rattle.core.proofs.line.write_line.Statement.{statement}
 use Rattle.core.proofs.line.write_line.Tie as tie
 
--- headroom as the machine reads it
-read : (c : tie.After-struct-told) → toZ w64 (ofZ w64 (c .before .before .args .cover .headroom)) ≡ c .before .before .args .cover .headroom
-read c = toZ-ofZ w64 (c .before .before .args .cover .headroom) (record { sfits = c .struct-told .given .1 .0 .1 })
+smaller-requires : tie.Need-smaller-requires
+smaller-requires c κs = search needs
 
 sign-of-requires : tie.Need-sign-of-requires
 sign-of-requires c κs = search needs
 
 size-of-requires : tie.Need-size-of-requires
-size-of-requires c κs =
-    let s : tie.Start = search needs in
-    rw (read (c .before .before)) (omega (arith, s .pre .1))
+size-of-requires c κs = search needs
 
 mul-lines : tie.Need-mul-lines
 mul-lines c = search needs
@@ -93,18 +87,22 @@ same-length c = simp length-set
 returns : tie.Need-returns
 returns c =
     let s : tie.Start = search needs in
-    let sized = c .before in
+    let sized : tie.After-size-of = search needs in
+    let signed : tie.After-sign-of = search needs in
+    let smaller : tie.After-smaller = search needs in
     let a = s .args in
+    let headroom : ℤ = headroomOf (a .size .0) (a .figures .value .0) (a .figures .outstanding .0) in
     rw (
-      rw (read (sized .before .before .before)) at (sized .before .before .sign-of .ensures),
-      rw (read (sized .before .before .before)) at (sized .size-of .ensures),
+      rw (smaller .smaller .ensures) at (signed .sign-of .ensures),
+      rw (smaller .smaller .ensures) at (sized .size-of .ensures),
     )
-    (seven-in-a-row (a .lines .now) (a .at) (a .number) (signOf (a .cover .headroom)) (natAbs (a .cover .headroom)) (a .cover .outstanding .0) (a .cash .own .0) (a .cash .client .0) (a .guarantee .effective .0 + a .guarantee .arriving .0))
+    (seven-in-a-row (a .lines .now) (a .at) (a .number) (signOf headroom) (natAbs headroom) (a .figures .outstanding .0) (a .cash .own .0) (a .cash .client .0) (a .guarantee .effective .0 + a .guarantee .arriving .0))
 
 pub write-line-spec : {M : Type 1} → statement M
 write-line-spec =
     tie.close
     (tie.spec
+    smaller-requires
     sign-of-requires
     size-of-requires
     mul-lines

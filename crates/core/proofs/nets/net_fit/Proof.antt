@@ -1,20 +1,34 @@
-use mathlib.Core.Path.{sym}
+use mathlib.Core.Path.{_≡_, sym}
+use borrow.Author.Needs.{needs}
+use mir.Val.{toZ, ofZ}
 use mir.Syntax.{w64}
 use mir.ValLaws.{toZ-ofZ}
 use Rattle.core.proofs.NetLaws.{above, below, inside}
 use Rattle.core.proofs.nets.net_fit.Statement.{statement}
 use Rattle.core.proofs.nets.net_fit.Tie as tie
 
+module _ (c : tie.After-struct-told) where
+  abbrev s : tie.Start
+  s = search needs
+
+  read : toZ w64 (ofZ w64 (s .args .net .0)) ≡ s .args .net .0
+  read = toZ-ofZ w64 (s .args .net .0) (record { sfits = c .struct-told .given .0 .1 })
+
 returns : tie.Need-returns
-returns c = sym (above (c .before .args .net) (rw (toZ-ofZ w64 (c .before .args .net) (c .before .fits .net)) at (c .if1 .taken)))
+returns c =
+    let n : tie.After-struct-told = search needs in
+    sym (above (s n .args .net .0) (rw (read n) at (c .if1 .taken)))
 
 returns-2 : tie.Need-returns-2
-returns-2 c = sym (below (c .before .before .args .net) (rw (toZ-ofZ w64 (c .before .before .args .net) (c .before .before .fits .net)) at (c .if2 .taken)))
+returns-2 c =
+    let n : tie.After-struct-told = search needs in
+    sym (below (s n .args .net .0) (rw (read n) at (c .if2 .taken)))
 
 returns-3 : tie.Need-returns-3
 returns-3 c =
-    let read = toZ-ofZ w64 (c .before .before .args .net) (c .before .before .fits .net) in
-    sym (inside (c .before .before .args .net) (rw read at (c .before .if1 .left)) (rw read at (c .if2 .left)))
+    let n : tie.After-struct-told = search needs in
+    let past1 : tie.Else1 = search needs in
+    sym (inside (s n .args .net .0) (rw (read n) at (past1 .if1 .left)) (rw (read n) at (c .if2 .left)))
 
 pub net-fit-spec : {M : Type 1} → statement M
 net-fit-spec = tie.close (tie.spec returns returns-2 returns-3)

@@ -13,7 +13,7 @@ today-fit-requires c κs = search needs
 returns : tie.Need-returns
 returns c =
     let a = c .before .before .args in
-    rw (c .today-fit .ensures, c .before .today-less .ensures) (over-is-unfit (a .nets .today -ℤ pos (a .amount .0)))
+    rw (c .today-fit .ensures, c .before .today-less .ensures) (over-is-unfit (a .nets .today .0 -ℤ pos (a .amount .0)))
 
 pub over-less-spec : {M : Type 1} → statement M
 over-less-spec = tie.close (tie.spec today-less-requires today-fit-requires returns)

@@ -22,7 +22,7 @@ net s rows = netWithFallbacks (now (s .args .calendar)) (bookOf (s .args .scalar
 
 -- the code's test is of the net with every trade redeemed
 net-tested : (c : tie.After-cleared-fit) (rows : Rows) → netFit (net (c .before .before .before .before .before) rows) ≡ c .cleared-fit .result
-net-tested c rows = ap (λ (nets : Nets). netFit (nets .cleared)) (sym (c .before .with-fallbacks .ensures rows)) ∙ sym (c .cleared-fit .ensures)
+net-tested c rows = ap (λ (nets : Nets). netFit (nets .cleared .0)) (sym (c .before .with-fallbacks .ensures rows)) ∙ sym (c .cleared-fit .ensures)
 
 with-fallbacks-requires : tie.Need-with-fallbacks-requires
 with-fallbacks-requires c κs = search needs

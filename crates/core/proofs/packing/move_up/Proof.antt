@@ -27,7 +27,9 @@ loop-less c = search needs
 loop-again : tie.Need-loop-again Inv-loop μ-loop
 loop-again c =
     let at-loop-at : tie.At-loop Inv-loop μ-loop = search needs in
-    passed-by _ _ _ _ _ (at-loop-at .loop .inv) (c .before .before .before .loop-test .taken) (sym (c .before .sheets-at .ensures) ∙ c .if1 .taken)
+    let in-loop : tie.In-loop Inv-loop μ-loop = search needs in
+    let read : tie.After-sheets-at Inv-loop μ-loop = search needs in
+    passed-by _ _ _ _ _ (at-loop-at .loop .inv) (in-loop .loop-test .taken) (sym (read .sheets-at .ensures) ∙ c .if1 .taken)
 
 move-trade-requires : tie.Need-move-trade-requires Inv-loop μ-loop
 move-trade-requires c κs = search needs
@@ -46,7 +48,9 @@ loop-again-2 c =
     let at-loop-at : tie.At-loop Inv-loop μ-loop = search needs in
     let moved = c .before .before .move-trade in
     let checked : tie.Else1 Inv-loop μ-loop = search needs in
-    moved-up _ _ _ _ _ (at-loop-at .loop .inv) (checked .before .before .before .loop-test .taken) _ (moved .kept .0) (moved .ensures) (λ z. checked .if1 .left (checked .before .sheets-at .ensures ∙ z))
+    let in-loop : tie.In-loop Inv-loop μ-loop = search needs in
+    let read : tie.After-sheets-at Inv-loop μ-loop = search needs in
+    moved-up _ _ _ _ _ (at-loop-at .loop .inv) (in-loop .loop-test .taken) _ (moved .kept .0) (moved .ensures) (λ z. checked .if1 .left (read .sheets-at .ensures ∙ z))
 
 same-length : tie.Need-same-length Inv-loop μ-loop
 same-length c = c .before .loop .inv .long

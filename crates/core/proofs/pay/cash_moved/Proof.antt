@@ -11,23 +11,39 @@ use Rattle.core.proofs.pay.cash_moved.Tie as tie
 
 -- where the clients pay, and hold the net due
 module _ (c : tie.Then1) where
-  by-client : ltZ (c .before .before .before .args .nets .cleared) (pos 0) ≡ true
-  by-client = sym (c .before .client-pays .ensures) ∙ c .if1 .taken
+  abbrev paid-by : tie.Start
+  paid-by = search needs
 
-  client-covers : c .before .before .net-due .result ≤ c .before .before .before .args .cash .client .0
+  abbrev owed : tie.After-net-due
+  owed = search needs
+
+  by-client : ltZ (paid-by .args .nets .cleared .0) (pos 0) ≡ true
+  by-client =
+      let asked : tie.After-client-pays = search needs in
+      sym (asked .client-pays .ensures) ∙ c .if1 .taken
+
+  client-covers : owed .net-due .result .0 ≤ paid-by .args .cash .client .0
   client-covers =
-      let a = c .before .before .before .args in
-      omega (arith, c .before .before .net-due .ensures, client-holds (a .cash) (a .nets .cleared) by-client, c .before .before .before .pre)
+      let a = paid-by .args in
+      omega (arith, owed .net-due .ensures, client-holds (a .cash) (a .nets .cleared .0) by-client, paid-by .pre)
 
 -- where the firm does
 module _ (c : tie.Else1) where
-  by-own : ltZ (c .before .before .before .args .nets .cleared) (pos 0) ≡ false
-  by-own = sym (c .before .client-pays .ensures) ∙ c .if1 .left
+  abbrev paid-from : tie.Start
+  paid-from = search needs
 
-  own-covers : c .before .before .net-due .result ≤ c .before .before .before .args .cash .own .0
+  abbrev owing : tie.After-net-due
+  owing = search needs
+
+  by-own : ltZ (paid-from .args .nets .cleared .0) (pos 0) ≡ false
+  by-own =
+      let asked : tie.After-client-pays = search needs in
+      sym (asked .client-pays .ensures) ∙ c .if1 .left
+
+  own-covers : owing .net-due .result .0 ≤ paid-from .args .cash .own .0
   own-covers =
-      let a = c .before .before .before .args in
-      omega (arith, c .before .before .net-due .ensures, own-holds (a .cash) (a .nets .cleared) by-own, c .before .before .before .pre)
+      let a = paid-from .args in
+      omega (arith, owing .net-due .ensures, own-holds (a .cash) (a .nets .cleared .0) by-own, paid-from .pre)
 
 net-due-requires : tie.Need-net-due-requires
 net-due-requires c κs = search needs
@@ -35,33 +51,39 @@ net-due-requires c κs = search needs
 client-pays-requires : tie.Need-client-pays-requires
 client-pays-requires c κs = search needs
 
-add-t5 : tie.Need-add-t5
-add-t5 c =
+add-own : tie.Need-add-own
+add-own c =
+    let by : tie.Then1 = search needs in
     let s : tie.Start = search needs in
-    omega (arith, client-covers (c .before), s .pre)
+    omega (arith, client-covers by, s .pre)
 
-sub-t7 : tie.Need-sub-t7
-sub-t7 c = omega (arith, client-covers (c .before .before))
+sub-client : tie.Need-sub-client
+sub-client c =
+    let by : tie.Then1 = search needs in
+    omega (arith, client-covers by)
 
 returns : tie.Need-returns
 returns c =
-    let q = c .before .before in
-    let a = q .before .before .before .args in
-    rw (client-moves (a .cash) (a .nets .cleared) (by-client q), q .before .before .net-due .ensures)
+    let by : tie.Then1 = search needs in
+    let a = paid-by by .args in
+    rw (client-moves (a .cash) (a .nets .cleared .0) (by-client by), ← (owed by .net-due .ensures))
 
-sub-t9 : tie.Need-sub-t9
-sub-t9 c = omega (arith, own-covers (c .before))
+sub-own : tie.Need-sub-own
+sub-own c =
+    let by : tie.Else1 = search needs in
+    omega (arith, own-covers by)
 
-add-t11 : tie.Need-add-t11
-add-t11 c =
+add-client : tie.Need-add-client
+add-client c =
+    let by : tie.Else1 = search needs in
     let s : tie.Start = search needs in
-    omega (arith, own-covers (c .before .before), s .pre)
+    omega (arith, own-covers by, s .pre)
 
 returns-2 : tie.Need-returns-2
 returns-2 c =
-    let q = c .before .before in
-    let a = q .before .before .before .args in
-    rw (own-moves (a .cash) (a .nets .cleared) (by-own q), q .before .before .net-due .ensures)
+    let by : tie.Else1 = search needs in
+    let a = paid-from by .args in
+    rw (own-moves (a .cash) (a .nets .cleared .0) (by-own by), ← (owing by .net-due .ensures))
 
 pub cash-moved-spec : {M : Type 1} → statement M
 cash-moved-spec =
@@ -69,9 +91,9 @@ cash-moved-spec =
     (tie.spec
     net-due-requires
     client-pays-requires
-    add-t5
-    sub-t7
+    add-own
+    sub-client
     returns
-    sub-t9
-    add-t11
+    sub-own
+    add-client
     returns-2)

@@ -9,7 +9,10 @@ net-due-requires : tie.Need-net-due-requires
 net-due-requires c κs = search needs
 
 returns : tie.Need-returns
-returns c = rw (c .net-due .ensures, c .before .payer-holds .ensures)
+returns c =
+    let due : tie.After-net-due = search needs in
+    let held : tie.After-payer-holds = search needs in
+    rw (due .net-due .ensures, held .payer-holds .ensures)
 
 pub falls-short-spec : {M : Type 1} → statement M
 falls-short-spec = tie.close (tie.spec payer-holds-requires net-due-requires returns)

@@ -21,9 +21,9 @@ none-applies : (c : tie.Else1) (rows : Rows) → firstOf (payCauses (bookOf (c .
 unfolding eventCauses
 none-applies c rows = done [] (bookOf (c .before .before .args .scalars) rows) [] Pay _ (c .before .pay-refusal .ensures rows) (c .if1 .left)
 
-cleared-fits : (nets : Nets) → netsFit nets ≡ true → netFit (nets .cleared) ≡ true
+cleared-fits : (nets : Nets) → netsFit nets ≡ true → netFit (nets .cleared .0) ≡ true
 unfolding netsFit
-cleared-fits nets e = both (netFit (nets .today)) (netFit (nets .cleared)) e .1
+cleared-fits nets e = both (netFit (nets .today .0)) (netFit (nets .cleared .0)) e .1
 
 pay-refusal-requires : tie.Need-pay-refusal-requires
 pay-refusal-requires c κs = search needs

@@ -9,13 +9,17 @@ client-pays-requires c κs = search needs
 
 returns : tie.Need-returns
 returns c =
-    let a = c .before .before .args in
-    sym (client-holds (a .cash) (a .nets .cleared) (sym (c .before .client-pays .ensures) ∙ c .if1 .taken))
+    let s : tie.Start = search needs in
+    let asked : tie.After-client-pays = search needs in
+    let by : tie.Then1 = search needs in
+    sym (client-holds (s .args .cash) (s .args .nets .cleared .0) (sym (asked .client-pays .ensures) ∙ by .if1 .taken))
 
 returns-2 : tie.Need-returns-2
 returns-2 c =
-    let a = c .before .before .args in
-    sym (own-holds (a .cash) (a .nets .cleared) (sym (c .before .client-pays .ensures) ∙ c .if1 .left))
+    let s : tie.Start = search needs in
+    let asked : tie.After-client-pays = search needs in
+    let by : tie.Else1 = search needs in
+    sym (own-holds (s .args .cash) (s .args .nets .cleared .0) (sym (asked .client-pays .ensures) ∙ by .if1 .left))
 
 pub payer-holds-spec : {M : Type 1} → statement M
 payer-holds-spec = tie.close (tie.spec client-pays-requires returns returns-2)

@@ -17,7 +17,8 @@ sub-left : tie.Need-sub-left
 sub-left c =
     let start : tie.Start = search needs in
     let due : tie.After-maturing-at = search needs in
-    omega (arith, ap (λ (count : Sheets). count .0) (due .maturing-at .ensures), c .before .sheets-at .ensures, maturing-le (start .args .by) (tradeAt (start .args .table .now) (start .args .place)))
+    let had : tie.After-sheets-at = search needs in
+    omega (arith, ap (λ (count : Sheets). count .0) (due .maturing-at .ensures), had .sheets-at .ensures, maturing-le (start .args .by) (tradeAt (start .args .table .now) (start .args .place)))
 
 put-sheets-requires : tie.Need-put-sheets-requires
 put-sheets-requires c κs = search needs

@@ -7,21 +7,25 @@ use lib.Seq.{sets}
 use Rattle.rules.specs.Fit.{fit}
 use Rattle.rules.specs.Entry.{decoded}
 use Rattle.rules.specs.Step.{Outcome, step}
-use Rattle.rules.specs.Cover.{coverCounted}
 use Rattle.rules.proofs.FitParts.{fit-parts}
 use Rattle.core.specs.Figures.{Figures}
 use Rattle.core.specs.Flat.{Rows, rowsOf, bookOf, appliedAt, tradesOf, appliedOf}
-use Rattle.core.proofs.CoverLaws.{headroom-size}
-use Rattle.core.proofs.FigureLaws.{moved-after, counted-from}
+use Rattle.core.proofs.FigureLaws.{moved-after}
 use Rattle.core.proofs.LineLaws.{line-told}
 use Rattle.core.proofs.RunLaws.{fit-after}
 use Rattle.core.proofs.run.run_event.Statement.{statement}
 use Rattle.core.proofs.run.run_event.Tie as tie
 
 -- what the event leaves, and the rows and the table as the call left them
+abbrev decoded-by : tie.After-entry-on → tie.After-decode
+decoded-by c = search needs
+
+abbrev begun-at : tie.After-decode → tie.Start
+begun-at c = search needs
+
 module _ (c : tie.After-entry-on) where
   abbrev start : tie.Start
-  start = search needs
+  start = begun-at (decoded-by c)
 
   abbrev left : Outcome
   left = step (start .args .calendar .now) (bookOf (start .args .scalars) (rowsOf (start .args .held .now) (start .args .kinds .now) (start .args .units .now))) (tradesOf (start .args .table .now)) (decoded (start .args .bytes .now))
@@ -31,13 +35,11 @@ module _ (c : tie.After-entry-on) where
 
   applied : appliedAt (c .entry-on .result) rows ≡ appliedOf left
   applied =
-      let at-decode : tie.After-decode = search needs in
-      rw (at-decode .decode .ensures) at (c .entry-on .ensures .0)
+      rw (decoded-by c .decode .ensures) at (c .entry-on .ensures .0)
 
   tabled : tradesOf (c .entry-on .last .1 .1 .1 .1 .1 .0) ≡ left .table
   tabled =
-      let at-decode : tie.After-decode = search needs in
-      rw (at-decode .decode .ensures) at (c .entry-on .ensures .1)
+      rw (decoded-by c .decode .ensures) at (c .entry-on .ensures .1)
 
   still-fit : fit (start .args .calendar .now) (bookOf (c .entry-on .result .scalars) rows) (tradesOf (c .entry-on .last .1 .1 .1 .1 .1 .0)) ≡ true
   still-fit = fit-after _ _ _ _ (start .pre .0 .fits) (appliedAt (c .entry-on .result) rows) _ (c .entry-on .ensures .0) (c .entry-on .ensures .1)
@@ -51,7 +53,7 @@ decode-requires c κs = search needs
 entry-on-requires : tie.Need-entry-on-requires
 entry-on-requires c κs =
     let s : tie.Start = search needs in
-    record { book = s .pre .0; sheets = ap (λ (f : Figures). f .outstanding) (s .pre .1); value = ap (λ (f : Figures). f .value) (s .pre .1) }
+    record { book = s .pre .0; sheets = ap (λ (f : Figures). f .outstanding .0) (s .pre .1); value = ap (λ (f : Figures). f .value .0) (s .pre .1) }
 
 figures-after-requires : tie.Need-figures-after-requires
 figures-after-requires c κs =
@@ -60,25 +62,14 @@ figures-after-requires c κs =
       moved-after _ _ _ _ (start called .pre .0 .fits) _ (start called .pre .1) (appliedAt (called .entry-on .result) (rows called)) _ (called .entry-on .ensures .0) (called .entry-on .ensures .1),
     )
 
-cover-from-requires : tie.Need-cover-from-requires
-cover-from-requires c κs =
-    let at-entry-on : tie.After-entry-on = search needs in
-    let size = fit-parts _ _ _ (still-fit at-entry-on) .size in
-    (size .within, rw (c .figures-after .ensures) (omega (arith, size .within, size .covers)))
-
 abbrev called-from : tie.After-figures-after → tie.After-entry-on
 called-from c = search needs
 
--- the cover of what is left
-covered : (c : tie.After-cover-from) → (let called = called-from (c .before) in c .cover-from .result ≡ coverCounted (bookOf (called .entry-on .result .scalars) (rows called)) (tradesOf (called .entry-on .last .1 .1 .1 .1 .1 .0)))
-covered c =
-    let called = called-from (c .before) in
-    c .cover-from .ensures ∙ counted-from (bookOf (called .entry-on .result .scalars) (rows called)) _ _ (c .before .figures-after .ensures)
-
 write-line-requires : tie.Need-write-line-requires
 write-line-requires c κs =
-    let called : tie.After-entry-on = search needs in
-    (start called .pre .2, rw (covered (c .before)) (headroom-size _ _ _ (still-fit called)), omega (arith, fit-parts _ _ _ (still-fit called) .cash .sum))
+    let counted : tie.After-figures-after = search needs in
+    let called = called-from counted in
+    (start called .pre .2, omega (arith, fit-parts _ _ _ (still-fit called) .cash .sum))
 
 same-length : tie.Need-same-length
 same-length c = search needs
@@ -97,13 +88,14 @@ same-length-5 c = search needs
 
 returns : tie.Need-returns
 returns c =
-    let cover : tie.After-cover-from = search needs in
-    let called = called-from (cover .before) in
+    let written : tie.After-write-line = search needs in
+    let counted : tie.After-figures-after = search needs in
+    let called = called-from counted in
     let a = start called .args in
     let e = applied called in
     let t = tabled called in
-    let line = c .before .before .write-line .ensures ∙ ap (λ line. sets (a .lines .now) (a .at) line) (line-told _ _ _ e t (covered cover)) in
-    (ap (λ x. x .book) e, t, line, cover .before .figures-after .ensures)
+    let line = written .write-line .ensures ∙ ap (λ line. sets (a .lines .now) (a .at) line) (line-told _ _ _ e t (counted .figures-after .ensures)) in
+    (ap (λ x. x .book) e, t, line, counted .figures-after .ensures)
 
 pub run-event-spec : {M : Type 1} → statement M
 run-event-spec =
@@ -112,7 +104,6 @@ run-event-spec =
     decode-requires
     entry-on-requires
     figures-after-requires
-    cover-from-requires
     write-line-requires
     same-length
     same-length-2

@@ -35,13 +35,22 @@ loop-holds c =
     (none-run _ _ _ _ _ _ (s .pre .0 .fits), s .pre .0 .held-long, s .pre .0 .kinds-long, s .pre .0 .units-long, c .figures-of .ensures)
 
 mul-bytes : tie.Need-mul-bytes Inv-loop μ-loop
-mul-bytes c = search needs
+mul-bytes c =
+    let here : tie.In-loop Inv-loop μ-loop = search needs in
+    let s = start-of (here .before) in
+    record { fits = omega (arith, here .loop-test .taken, s .good) }
 
 mul-bytes-2 : tie.Need-mul-bytes-2 Inv-loop μ-loop
-mul-bytes-2 c = search needs
+mul-bytes-2 c =
+    let here : tie.In-loop Inv-loop μ-loop = search needs in
+    let s = start-of (here .before) in
+    record { fits = omega (arith, here .loop-test .taken, s .good) }
 
 add-bytes : tie.Need-add-bytes Inv-loop μ-loop
-add-bytes c = search needs
+add-bytes c =
+    let here : tie.In-loop Inv-loop μ-loop = search needs in
+    let s = start-of (here .before) in
+    record { fits = omega (arith, here .loop-test .taken, s .good) }
 
 sub-bytes : tie.Need-sub-bytes Inv-loop μ-loop
 sub-bytes c = search needs
@@ -113,7 +122,7 @@ same-length-5 c = search needs
 returns : tie.Need-returns Inv-loop μ-loop
 returns c =
     let at-loop-at : tie.At-loop Inv-loop μ-loop = search needs in
-    let s : tie.Start Inv-loop μ-loop = search needs in
+    let s = start-of at-loop-at in
     all-run _ _ _ _ _ _ _ _ _ _ refl (at-loop-at .loop .inv .0) (c .before .loop-test .left) (omega (arith, s .pre .1))
 
 pub run-events-spec : {M : Type 1} → statement M

@@ -12,7 +12,7 @@ use Rattle.core.proofs.Refusing.{turned-down, carried-out, done}
 use Rattle.core.proofs.size.set_size.Statement.{statement}
 use Rattle.core.proofs.size.set_size.Tie as tie
 
-none-applies : (c : tie.Else1) (rows : Rows) (table : List Trade) → (let a = c .before .before .args in a .outstanding ≡ outstandingAt (a .scalars) table → firstOf (sizeCauses (bookOf (a .scalars) rows) table (a .size)) ≡ none)
+none-applies : (c : tie.Else1) (rows : Rows) (table : List Trade) → (let a = c .before .before .args in a .outstanding .0 ≡ outstandingAt (a .scalars) table → firstOf (sizeCauses (bookOf (a .scalars) rows) table (a .size)) ≡ none)
 unfolding eventCauses
 none-applies c rows table e =
     let a = c .before .before .args in

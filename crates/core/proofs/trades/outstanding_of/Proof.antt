@@ -18,7 +18,7 @@ abbrev μ-loop : tie.MeasureT-loop
 μ-loop table count sum₀ place₀ sum place = count - place
 
 -- the sum with the next trade stays below 4,096 times the limit of a trade
-room : (c : tie.After-sheets-at Inv-loop μ-loop) → c .before .before .loop .sum + c .sheets-at .result ≤ 409600000000
+room : (c : tie.After-sheets-at Inv-loop μ-loop) → c .before .before .loop .sum + c .sheets-at .result .0 ≤ 409600000000
 room c =
     let s : tie.Start Inv-loop μ-loop = search needs in
     let kept = s .pre in
@@ -32,7 +32,9 @@ sheets-at-requires : tie.Need-sheets-at-requires Inv-loop μ-loop
 sheets-at-requires c κs = omega (arith, c .before .before .before .pre .room)
 
 add-sum : tie.Need-add-sum Inv-loop μ-loop
-add-sum c = omega (arith, room c)
+add-sum c =
+    let read : tie.After-sheets-at Inv-loop μ-loop = search needs in
+    omega (arith, room read)
 
 add-place : tie.Need-add-place Inv-loop μ-loop
 add-place c = search needs
@@ -41,7 +43,10 @@ loop-less : tie.Need-loop-less Inv-loop μ-loop
 loop-less c = search needs
 
 loop-again : tie.Need-loop-again Inv-loop μ-loop
-loop-again c = (search needs, rw (c .before .before .loop .inv .1, c .sheets-at .ensures) (sym (total-more sheetsOf _ _)))
+loop-again c =
+    let at : tie.At-loop Inv-loop μ-loop = search needs in
+    let read : tie.After-sheets-at Inv-loop μ-loop = search needs in
+    (search needs, rw (at .loop .inv .1, read .sheets-at .ensures) (sym (total-more sheetsOf _ _)))
 
 returns : tie.Need-returns Inv-loop μ-loop
 unfolding outstanding

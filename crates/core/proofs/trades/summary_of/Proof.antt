@@ -50,7 +50,9 @@ add-outstanding : tie.Need-add-outstanding Inv-loop μ-loop
 add-outstanding c =
     let at-loop-at : tie.At-loop Inv-loop μ-loop = search needs in
     let s : tie.Start Inv-loop μ-loop = search needs in
-    rw (c .sheets-at .ensures) (omega (arith, few (c .before), at-loop-at .loop .inv .3, c .before .before .before .loop-test .taken, s .pre .1))
+    let read : tie.After-sheets-at Inv-loop μ-loop = search needs in
+    let looked : tie.Else1 Inv-loop μ-loop = search needs in
+    rw (read .sheets-at .ensures) (omega (arith, few looked, at-loop-at .loop .inv .3, looked .before .before .loop-test .taken, s .pre .1))
 
 first-at-requires : tie.Need-first-at-requires Inv-loop μ-loop
 first-at-requires c κs =
@@ -70,8 +72,9 @@ loop-again : tie.Need-loop-again Inv-loop μ-loop
 loop-again c =
     let at-loop-at : tie.At-loop Inv-loop μ-loop = search needs in
     let inv = at-loop-at .loop .inv in
-    let looked = c .before .before .before in
-    let sheets = c .before .before .sheets-at .ensures in (
+    let looked : tie.Else1 Inv-loop μ-loop = search needs in
+    let read : tie.After-sheets-at Inv-loop μ-loop = search needs in
+    let sheets = read .sheets-at .ensures in (
       search needs,
       all-more tradeFit _ _ (inv .1) (within looked),
       rw (inv .2, sheets) (sym (total-more sheetsOf _ _)),

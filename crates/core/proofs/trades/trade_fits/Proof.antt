@@ -9,8 +9,13 @@ use Rattle.core.specs.Flat.{tradeAt}
 use Rattle.core.proofs.trades.trade_fits.Statement.{statement}
 use Rattle.core.proofs.trades.trade_fits.Tie as tie
 
-few : (c : tie.Else1) → leb (tradeAt (c .before .before .before .args .table .now) (c .before .before .before .args .place) .sheets .0) tradeLimit ≡ true
-few c = le-leb _ _ (rw (c .before .sheets-at .ensures) at (c .if1 .left))
+abbrev start : tie.Else1 → tie.Start
+start c = search needs
+
+few : (c : tie.Else1) → leb (tradeAt (start c .args .table .now) (start c .args .place) .sheets .0) tradeLimit ≡ true
+few c =
+    let read : tie.After-sheets-at = search needs in
+    le-leb _ _ (rw (read .sheets-at .ensures) at (c .if1 .left))
 
 -- a test that is the only one left
 only : (test : Bool) → test ≡ cond test true false
@@ -22,14 +27,19 @@ sheets-at-requires c κs = search needs
 
 returns : tie.Need-returns
 unfolding every
-returns c = rw (lt-leb _ _ (rw (c .before .sheets-at .ensures) at (c .if1 .taken)))
+returns c =
+    let read : tie.After-sheets-at = search needs in
+    rw (lt-leb _ _ (rw (read .sheets-at .ensures) at (c .if1 .taken)))
 
 price-at-requires : tie.Need-price-at-requires
 price-at-requires c κs = search needs
 
 returns-2 : tie.Need-returns-2
 unfolding every
-returns-2 c = rw (few (c .before .before .before), lt-leb _ _ (rw (c .before .before .price-at .ensures) at (c .if2 .taken)))
+returns-2 c =
+    let past1 : tie.Else1 = search needs in
+    let read : tie.After-price-at = search needs in
+    rw (few past1, lt-leb _ _ (rw (read .price-at .ensures) at (c .if2 .taken)))
 
 fallback-at-requires : tie.Need-fallback-at-requires
 fallback-at-requires c κs = search needs

@@ -1,8 +1,9 @@
 use Prim.Native.Nat.{_-_, _*_, _≤_}
-use mathlib.Core.Path.{_≡_, sym, _∙_}
+use mathlib.Core.Path.{_≡_, sym, ap, _∙_}
 use native.Mathlib.Omega.{arith}
 use borrow.Author.Needs.{needs}
 use borrow.Author.Tests.{ne-eqb}
+use Rattle.money.specs.declared.units.Sheets.{Sheets}
 use Rattle.rules.specs.Folds.{sumBelow}
 use Rattle.rules.specs.Vault.{securityAt, value}
 use Rattle.rules.proofs.FitParts.{securities-fit}
@@ -50,18 +51,20 @@ worth-requires c κs =
     rw (security c, ne-eqb kind 32 (λ q. omega arith)) (omega arith, fits .free, omega (arith, fits .units), fits .rate)
 
 -- the security's part of V, and that it is small
-part : (c : tie.After-worth Inv-loop μ-loop) → c .worth .result ≡ valueAt (vault (c .before .before .before .before .before)) (c .before .before .before .loop .kind)
+part : (c : tie.After-worth Inv-loop μ-loop) → c .worth .result .0 ≡ valueAt (vault (c .before .before .before .before .before)) (c .before .before .before .loop .kind)
 part c =
     let s : tie.Start Inv-loop μ-loop = search needs in
-    (rw (security (c .before)) at (c .worth .ensures)) ∙ sym (security-value (vault s) _ (c .before .before .loop-test .taken))
+    ap (λ (s : Sheets). s .0) (rw (security (c .before)) at (c .worth .ensures)) ∙ sym (security-value (vault s) _ (c .before .before .loop-test .taken))
 
-small : (c : tie.After-worth Inv-loop μ-loop) → c .worth .result ≤ 2000000000000
+small : (c : tie.After-worth Inv-loop μ-loop) → c .worth .result .0 ≤ 2000000000000
 small c =
     let s : tie.Start Inv-loop μ-loop = search needs in
     rw (part c) (value-at-bound (vault s) (sound s) (c .before .before .before .loop .kind) (omega arith))
 
 add-sum : tie.Need-add-sum Inv-loop μ-loop
-add-sum c = omega (arith, small c)
+add-sum c =
+    let counted : tie.After-worth Inv-loop μ-loop = search needs in
+    omega (arith, small counted)
 
 add-kind : tie.Need-add-kind Inv-loop μ-loop
 add-kind c = search needs
@@ -72,28 +75,32 @@ loop-less c = search needs
 loop-again : tie.Need-loop-again Inv-loop μ-loop
 loop-again c =
     let s : tie.Start Inv-loop μ-loop = search needs in
-    let loop = c .before .before .before .loop in
-    (search needs, rw (loop .inv .1, part c) (sym (sum-more (valueAt (vault s)) (loop .kind))), omega (arith, small c))
+    let counted : tie.After-worth Inv-loop μ-loop = search needs in
+    let loop = counted .before .before .before .loop in
+    (search needs, rw (loop .inv .1, part counted) (sym (sum-more (valueAt (vault s)) (loop .kind))), omega (arith, small counted))
 
 worth-requires-2 : tie.Need-worth-requires-2 Inv-loop μ-loop
 worth-requires-2 c κs = let s = c .before .before .before in (omega arith, s .pre .2, s .pre .3, omega arith)
 
-cash : (c : tie.After-worth2 Inv-loop μ-loop) → c .worth2 .result ≡ valueAt (vault (c .before .before .before .before)) 32
+cash : (c : tie.After-worth2 Inv-loop μ-loop) → c .worth2 .result .0 ≡ valueAt (vault (c .before .before .before .before)) 32
 cash c =
     let s : tie.Start Inv-loop μ-loop = search needs in
-    c .worth2 .ensures ∙ sym (cash-value (vault s))
+    ap (λ (s : Sheets). s .0) (c .worth2 .ensures) ∙ sym (cash-value (vault s))
 
-add-result : tie.Need-add-result Inv-loop μ-loop
-add-result c =
+add-of-all : tie.Need-add-of-all Inv-loop μ-loop
+add-of-all c =
     let s : tie.Start Inv-loop μ-loop = search needs in
-    omega (arith, cash c, value-at-bound (vault s) (sound s) 32 (omega arith))
+    let counted : tie.After-worth2 Inv-loop μ-loop = search needs in
+    omega (arith, cash counted, value-at-bound (vault s) (sound s) 32 (omega arith))
 
 returns : tie.Need-returns Inv-loop μ-loop
 unfolding value
 returns c =
     let s : tie.Start Inv-loop μ-loop = search needs in
-    let e : c .before .before .loop .kind ≡ 32 = omega arith in
-    rw (c .before .before .loop .inv .1, cash c, e) (sym (sum-more (valueAt (vault s)) 32))
+    let counted : tie.After-worth2 Inv-loop μ-loop = search needs in
+    let at : tie.At-loop Inv-loop μ-loop = search needs in
+    let e : at .loop .kind ≡ 32 = omega arith in
+    rw (at .loop .inv .1, cash counted, e) (sym (sum-more (valueAt (vault s)) 32))
 
 pub value-of-spec : {M : Type 1} → statement M
 value-of-spec =
@@ -110,5 +117,5 @@ value-of-spec =
     loop-less
     loop-again
     worth-requires-2
-    add-result
+    add-of-all
     returns)
