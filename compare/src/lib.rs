@@ -1,7 +1,10 @@
 //! The proved calls of the archive that `rt staticlib exports` makes, held
-//! against the model: `proved` has the calls behind safe functions.
+//! against the model: `proved` has the calls behind safe functions, `listings`
+//! and `sides` compare them.
 
+pub mod listings;
 pub mod proved;
+pub mod sides;
 
 use std::io::Write;
 

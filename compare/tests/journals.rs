@@ -1,6 +1,7 @@
 //! The listing of a journal by the proved call against the model's, byte for
 //! byte, for journals of every sort, damaged ones included.
 
+use compare::listings::{Lister, UNWRITTEN};
 use compare::{judge, write_listing};
 use model::coverage::Coverage;
 use model::event::{Event, EVENT_BYTES};
@@ -8,40 +9,9 @@ use model::generator::random::Random;
 use model::generator::{corpus, generate, generate_as, Profile};
 use model::journal::{listing, parse, write, JOURNAL_REFUSED};
 
-/// More than 1,500 lines need: a line has at most 87 characters.
-const ROOM: usize = 1_500 * 87;
-/// What a buffer holds before the call; no listing has it.
-const UNWRITTEN: u8 = 0xa5;
-
-/// A lent buffer that takes any listing.
-struct Lister {
-    buffer: Vec<u8>,
-}
-
-impl Lister {
-    fn new() -> Lister {
-        Lister { buffer: vec![UNWRITTEN; ROOM] }
-    }
-
-    /// Compares both listings and gives them back; past its end the buffer is as it was.
-    fn agreed(&mut self, name: &str, journal: &[u8]) -> String {
-        let wanted = listing(journal);
-        let (number, length) = write_listing(journal, &mut self.buffer);
-        assert_eq!(number, 0, "{name}");
-        let (text, rest) = self.buffer.split_at_mut(length);
-        for (got, wanted) in text.split(|&byte| byte == b'\n').zip(wanted.split('\n')) {
-            assert_eq!(String::from_utf8_lossy(got), wanted, "{name}");
-        }
-        assert_eq!(text.len(), wanted.len(), "{name}");
-        assert!(rest.iter().all(|&byte| byte == UNWRITTEN), "{name}: written past the listing");
-        text.fill(UNWRITTEN);
-        wanted
-    }
-}
-
 #[test]
 fn generated_journals_are_listed_alike_and_meet_every_allowed_answer() {
-    let mut lister = Lister::new();
+    let mut lister = Lister::default();
     let mut coverage = Coverage::default();
     let (mut journals, mut refused) = (0, 0);
     for (name, bytes) in corpus(20_000..40_000) {
@@ -65,7 +35,7 @@ fn small_journals() -> impl Iterator<Item = (String, Vec<u8>)> {
 
 #[test]
 fn every_length_of_some_journals_is_listed_alike() {
-    let mut lister = Lister::new();
+    let mut lister = Lister::default();
     for (name, bytes) in small_journals() {
         for length in 0..bytes.len() {
             let listing = lister.agreed(&format!("{name}, {length} bytes"), &bytes[..length]);
@@ -77,7 +47,7 @@ fn every_length_of_some_journals_is_listed_alike() {
 
 #[test]
 fn bytes_left_over_are_listed_alike() {
-    let mut lister = Lister::new();
+    let mut lister = Lister::default();
     for (name, mut bytes) in small_journals() {
         for more in 1..=2 * EVENT_BYTES {
             bytes.push(more as u8);
@@ -89,7 +59,7 @@ fn bytes_left_over_are_listed_alike() {
 
 #[test]
 fn counts_that_are_wrong_or_past_their_limits_are_listed_alike() {
-    let mut lister = Lister::new();
+    let mut lister = Lister::default();
     for (name, bytes) in small_journals() {
         let journal = parse(&bytes).unwrap();
         let (words, events) = (journal.calendar.len(), journal.events.len());
@@ -108,7 +78,7 @@ fn counts_that_are_wrong_or_past_their_limits_are_listed_alike() {
 
 #[test]
 fn journals_at_and_past_both_limits_are_listed_alike() {
-    let mut lister = Lister::new();
+    let mut lister = Lister::default();
     let events = vec![Event::Open.encode(); 1_501];
     for (words, count) in [(0, 0), (1_200, 1_500), (1_201, 1_500), (1_200, 1_501)] {
         let bytes = write(&vec![u32::MAX; words], &events[..count]);
@@ -120,7 +90,7 @@ fn journals_at_and_past_both_limits_are_listed_alike() {
 /// One bit anywhere: a count, a calendar word, a used or an unused field.
 #[test]
 fn journals_with_a_bit_turned_are_listed_alike() {
-    let mut lister = Lister::new();
+    let mut lister = Lister::default();
     let mut random = Random::new(11);
     for seed in 0..3_000 {
         let mut bytes = generate(seed);

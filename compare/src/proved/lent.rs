@@ -49,6 +49,16 @@ impl Rows {
     pub fn codes(&mut self) -> &mut Codes {
         &mut self.raw.codes
     }
+
+    /// Fails on what differs, part by part.
+    pub fn assert_same(&self, wanted: &Rows) {
+        assert_eq!(self.raw, wanted.raw);
+        for (kind, (got, wanted)) in self.held.chunks(4).zip(wanted.held.chunks(4)).enumerate() {
+            assert_eq!(got, wanted, "effective, arriving, frozen and rate of kind {kind}");
+        }
+        assert_eq!(self.kinds, wanted.kinds, "kinds of the applications");
+        assert_eq!(self.units, wanted.units, "units of the applications");
+    }
 }
 
 extern "C" {

@@ -1,8 +1,8 @@
 //! Lent lengths that no call takes: everything is left as it was, the buffer too.
 
-use crate::sides::{both_run, fill_spare_slots, Lent};
 use compare::proved::lent::{self, Lengths};
 use compare::proved::{book, LINE_NUMBERS};
+use compare::sides::{both_run, fill_spare_slots, Lent};
 use compare::{BAD_LENGTHS, UNWRITTEN};
 use model::answer::Answer;
 use model::cases::ledger::Ledger;

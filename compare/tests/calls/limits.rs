@@ -1,7 +1,7 @@
 //! Books that no journal leads to: nets that come to their limits, books that
 //! are just fit, and evenings with many applications.
 
-use crate::sides::{both, both_run, fill_spare_slots};
+use compare::sides::{both, both_run, fill_spare_slots};
 use model::cases::evenings::evening;
 use model::cases::nets::{self, Case};
 use model::cases::unfit::{busy_ledger, every_event, STILL_FIT};

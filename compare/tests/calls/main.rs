@@ -6,14 +6,13 @@
 mod lengths;
 mod limits;
 mod malformed;
-mod sides;
 mod unfit;
 
+use compare::sides::{both, both_run, fill_spare_slots};
 use model::cases::ledger::Ledger;
 use model::generator::corpus;
 use model::journal::parse;
 use model::limits::CAPACITY;
-use sides::{both, both_run, fill_spare_slots};
 
 #[test]
 fn journals_event_by_event_agree_on_tables_of_many_lengths() {

@@ -1,9 +1,9 @@
 //! Codes of no case are not well-formed: every call answers 1 and leaves
 //! everything as it was, the buffer too.
 
-use crate::sides::Lent;
 use compare::proved::book::Codes;
 use compare::proved::{lent, LINE_NUMBERS};
+use compare::sides::Lent;
 use compare::UNWRITTEN;
 use model::answer::Answer;
 use model::cases::ledger::Ledger;

@@ -1,6 +1,6 @@
 //! An unfit book is answered 1, whatever the event, and left.
 
-use crate::sides::{both, both_run, fill_spare_slots};
+use compare::sides::{both, both_run, fill_spare_slots};
 use model::answer::Answer;
 use model::cases::ledger::Ledger;
 use model::cases::unfit::{busy_ledger, every_event, UNFIT};

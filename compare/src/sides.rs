@@ -1,14 +1,15 @@
 //! A ledger of the model and the proved side of it, which have to answer and to
 //! leave the same.
 
-use compare::proved::book;
-use compare::proved::lent::{self, Rows};
 use model::answer::Answer;
-use model::book::Trade;
+use model::book::{Book, Trade};
 use model::cases::ledger::Ledger;
-use model::event::EVENT_BYTES;
+use model::event::{Event, EVENT_BYTES};
 use model::journal::Line;
 use model::step;
+
+use crate::proved::book;
+use crate::proved::lent::{self, Rows};
 
 /// A book as lent rows, with its table.
 #[derive(Clone, Debug, PartialEq, Eq)]
@@ -28,7 +29,7 @@ impl Lent {
 
     /// Sees that it is as the ledger is.
     fn assert_like(&self, ledger: &Ledger) {
-        assert_eq!(self.rows, Rows::from(&ledger.book));
+        self.rows.assert_same(&Rows::from(&ledger.book));
         assert_eq!(self.table.len(), ledger.table.len());
         for (place, (slot, trade)) in self.table.iter().zip(&ledger.table).enumerate() {
             assert_eq!(*slot, book::Trade::from(trade), "slot {place}");
@@ -41,9 +42,10 @@ pub fn both(ledger: &mut Ledger, event: &[u8; EVENT_BYTES]) -> Answer {
     let mut lent = Lent::of(ledger);
     let got = lent.apply(&ledger.calendar, event);
     let wanted = ledger.does_bytes(event);
-    assert_eq!(got, wanted);
+    assert_eq!(got, wanted, "the answer to {:?}", Event::decode(event));
     lent.assert_like(ledger);
-    assert_eq!(lent::cover(&ledger.calendar, &lent.rows, &lent.table), counted(ledger));
+    let cover = lent::cover(&ledger.calendar, &lent.rows, &lent.table);
+    assert_eq!(cover, counted(ledger), "the number, headroom and O");
     wanted
 }
 
@@ -58,20 +60,45 @@ fn counted(Ledger { calendar, book, table }: &Ledger) -> (u32, i64, u64) {
 
 /// A run on both sides; the same events one at a time have to leave the same.
 pub fn both_run(ledger: &mut Ledger, events: &[[u8; EVENT_BYTES]]) -> Result<Vec<Line>, u8> {
-    let (mut run, mut single) = (Lent::of(ledger), Lent::of(ledger));
-    let got = lent::run(&ledger.calendar, &mut run.rows, &mut run.table, events.as_flattened());
+    let mut single = Lent::of(ledger);
     for event in events {
         single.apply(&ledger.calendar, event);
     }
-    let wanted = lines(ledger, events);
-    assert_eq!(got, wanted);
-    run.assert_like(ledger);
+    let lines = both_run_watched(ledger, events, |_| {});
     single.assert_like(ledger);
+    lines
+}
+
+/// A run on both sides; `watch` sees the model's book after every event.
+pub fn both_run_watched(
+    ledger: &mut Ledger,
+    events: &[[u8; EVENT_BYTES]],
+    watch: impl FnMut(&Book),
+) -> Result<Vec<Line>, u8> {
+    let mut lent = Lent::of(ledger);
+    let got = lent::run(&ledger.calendar, &mut lent.rows, &mut lent.table, events.as_flattened());
+    let wanted = lines(ledger, events, watch);
+    assert_same_lines(&got, &wanted);
+    lent.assert_like(ledger);
     wanted
 }
 
+/// Fails on the first line that differs from the model's.
+fn assert_same_lines(got: &Result<Vec<Line>, u8>, wanted: &Result<Vec<Line>, u8>) {
+    if let (Ok(got), Ok(wanted)) = (got, wanted) {
+        for (place, (got, wanted)) in (1..).zip(got.iter().zip(wanted)) {
+            assert_eq!(got, wanted, "event {place}");
+        }
+    }
+    assert_eq!(got, wanted, "the run");
+}
+
 /// The model's lines, or 1 for an unfit book.
-fn lines(ledger: &mut Ledger, events: &[[u8; EVENT_BYTES]]) -> Result<Vec<Line>, u8> {
+fn lines(
+    ledger: &mut Ledger,
+    events: &[[u8; EVENT_BYTES]],
+    mut watch: impl FnMut(&Book),
+) -> Result<Vec<Line>, u8> {
     if !ledger.is_fit() {
         return Err(1);
     }
@@ -79,6 +106,7 @@ fn lines(ledger: &mut Ledger, events: &[[u8; EVENT_BYTES]]) -> Result<Vec<Line>,
     let mut lines = Vec::with_capacity(events.len());
     step::run(calendar, book, table, events, |_, answer, book, table| {
         lines.push(Line::after(answer, book, table));
+        watch(book);
     });
     Ok(lines)
 }
