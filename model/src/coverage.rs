@@ -96,7 +96,12 @@ impl Coverage {
 
     /// Allowed pairs that were never met.
     pub fn missing(&self) -> Vec<(u8, u32)> {
-        allowed().filter(|&(code, number)| self.count(code, number) == 0).collect()
+        self.missing_of(allowed())
+    }
+
+    /// Those of some pairs that were never met.
+    pub fn missing_of(&self, pairs: impl Iterator<Item = (u8, u32)>) -> Vec<(u8, u32)> {
+        pairs.filter(|&(code, number)| self.count(code, number) == 0).collect()
     }
 
     /// Pairs that were met although the paper does not allow them.
@@ -118,6 +123,17 @@ pub fn allowed() -> impl Iterator<Item = (u8, u32)> {
     (0..).zip(ALLOWED).flat_map(|(code, answers)| answers.iter().map(move |&number| (code, number)))
 }
 
+/// Every pair that a call on any book can meet: the whole table of causes.
+pub fn allowed_on_any_book() -> impl Iterator<Item = (u8, u32)> {
+    let by_calls = OUT_OF_REACH.into_iter();
+    allowed().chain(by_calls.flat_map(|(codes, number, _)| codes.iter().map(move |&code| (code, number))))
+}
+
+/// A pair as people read it: the event's name and the answer.
+pub fn named((code, number): (u8, u32)) -> String {
+    format!("{} {number}", NAMES[usize::from(code)])
+}
+
 pub fn is_allowed(code: u8, number: u32) -> bool {
     ALLOWED[usize::from(code)].contains(&number)
 }
@@ -125,14 +141,16 @@ pub fn is_allowed(code: u8, number: u32) -> bool {
 /// One line an event, one column an answer; "-" marks a pair that is not allowed.
 impl fmt::Display for Coverage {
     fn fmt(&self, f: &mut fmt::Formatter) -> fmt::Result {
+        let most = self.counts.iter().flatten().max().unwrap_or(&0);
+        let width = 8.max(most.to_string().len() + 1);
         write!(f, "{:<10}", "")?;
-        ANSWERS.iter().try_for_each(|number| write!(f, "{number:>8}"))?;
+        ANSWERS.iter().try_for_each(|number| write!(f, "{number:>width$}"))?;
         for (code, name) in (0..).zip(NAMES) {
             write!(f, "\n{name:<10}")?;
             for number in ANSWERS {
                 match (self.count(code, number), is_allowed(code, number)) {
-                    (0, false) => write!(f, "{:>8}", "-")?,
-                    (count, _) => write!(f, "{count:>8}")?,
+                    (0, false) => write!(f, "{:>width$}", "-")?,
+                    (count, _) => write!(f, "{count:>width$}")?,
                 }
             }
         }

@@ -20,7 +20,11 @@ use life::Habits;
 use random::Random;
 use std::ops::Range;
 
+use crate::book::Phase;
+use crate::cases::ledger::Ledger;
+use crate::event::EVENT_BYTES;
 use crate::journal;
+use crate::limits::TRADE_SHEETS;
 
 #[derive(Clone, Copy, Debug, PartialEq, Eq)]
 pub enum Profile {
@@ -158,4 +162,22 @@ pub fn generate_as(profile: Profile, seed: u64) -> Vec<u8> {
         Profile::Damaged => noise::damaged(&mut draft.random, &draft.calendar, &draft.events),
         _ => journal::write(&draft.calendar, &draft.events),
     }
+}
+
+/// An event for a fit book: mostly of the phase it is in, its fields often at
+/// or past a limit, now and then bytes that cannot be decoded.
+pub fn event_for(random: &mut Random, ledger: &Ledger) -> [u8; EVENT_BYTES] {
+    let mut draft = Draft::on(Random::new(random.any()), ledger.clone());
+    (draft.bold, draft.largest_trade) = (random.pick(&[5, 40]), TRADE_SHEETS);
+    if random.percent(3) {
+        return noise::undecodable(&mut draft);
+    }
+    let codes: &[u8] = match ledger.book.phase {
+        _ if random.percent(15) => &[1, 2, 3, 4, 5, 6, 7, 8, 9, 10, 11, 12],
+        Phase::Closed => &[1, 1, 1, 2, 3, 4, 5, 7],
+        Phase::Trading => &[2, 3, 4, 5, 6, 6, 7, 8, 8, 9, 9, 9, 9, 10, 10, 10, 11, 11, 12],
+        Phase::Paid => &[2, 4, 7, 12, 12, 12],
+    };
+    let code = random.pick(codes);
+    draft.draw(code).encode()
 }

@@ -43,7 +43,7 @@ pub fn every_event() -> Vec<[u8; EVENT_BYTES]> {
     events.iter().map(Event::encode).chain([[255; EVENT_BYTES]]).collect()
 }
 
-/// Of any fit book on a day with two trades or more.
+/// Each of them makes a fit book unfit that `can_be_changed`.
 pub const UNFIT: [Change; 47] = [
     ("calendar above 1,200 words", |l| l.calendar.resize(1_201, 0)),
     ("capacity above 4,096", |l| l.table.resize(4_097, Trade::default())),
@@ -104,6 +104,12 @@ pub const UNFIT: [Change; 47] = [
     ("failed run above 2", |l| l.book.failed_run = 3),
     ("short run above 3", |l| l.book.short_run = 4),
 ];
+
+/// Whether a book has what the changes of `UNFIT` lay hands on: a day, two
+/// trades or more, and a sheet left.
+pub fn can_be_changed(Ledger { book, table, .. }: &Ledger) -> bool {
+    book.day.is_some() && book.trades >= 2 && book.outstanding(table) > 0
+}
 
 /// What all cash together lacks to be one above 10^16.
 fn one_above_all_cash(ledger: &Ledger) -> u64 {

@@ -2,6 +2,7 @@
 
 use super::random::Random;
 use crate::book::{Book, Phase, Status, Trade};
+use crate::cases::ledger::Ledger;
 use crate::event::{Account, Event, Terms, EVENT_BYTES};
 use crate::limits::{
     CASH, DAYS_AHEAD, JOURNAL_CAPACITY, JOURNAL_EVENTS, PRICE, RATE, SECURITY_UNITS, SIZE, TRADE_SHEETS,
@@ -24,16 +25,14 @@ pub struct Draft {
 
 impl Draft {
     pub fn new(random: Random, calendar: Vec<u32>) -> Draft {
-        Draft {
-            random,
-            calendar,
-            events: Vec::new(),
-            book: Book::fresh(),
-            table: vec![Trade::default(); JOURNAL_CAPACITY],
-            bold: 10,
-            largest_trade: 10_000,
-            contracts: Vec::new(),
-        }
+        Draft::on(random, Ledger::with_slots(&calendar, JOURNAL_CAPACITY))
+    }
+
+    /// Goes on from a fit book.
+    pub fn on(random: Random, Ledger { calendar, book, table }: Ledger) -> Draft {
+        let contracts = table[..book.trades].iter().map(|trade| trade.contract).collect();
+        let (events, bold, largest_trade) = (Vec::new(), 10, 10_000);
+        Draft { random, calendar, events, book, table, bold, largest_trade, contracts }
     }
 
     pub fn is_full(&self) -> bool {

@@ -1,8 +1,11 @@
 //! Each way of being unfit is answered 1 by every event, and changes nothing.
 
 use model::answer::Answer;
+use model::cases::drawn::drawn;
 use model::cases::ledger::Ledger;
-use model::cases::unfit::{busy_ledger, every_event, STILL_FIT, UNFIT};
+use model::cases::unfit::{busy_ledger, can_be_changed, every_event, STILL_FIT, UNFIT};
+use model::generator::event_for;
+use model::generator::random::Random;
 
 #[test]
 fn every_way_of_being_unfit_is_answered_1() {
@@ -40,5 +43,36 @@ fn books_at_their_limits_are_fit() {
         let mut ledger = busy_ledger();
         change(&mut ledger);
         assert!(ledger.is_fit(), "{name}");
+    }
+}
+
+/// Most drawn books can be changed, and every change tells.
+#[test]
+fn drawn_books_are_fit_until_they_are_changed() {
+    let mut changed = 0;
+    for seed in 0..400 {
+        let ledger = drawn(&mut Random::new(seed));
+        assert!(ledger.is_fit(), "seed {seed}");
+        if !can_be_changed(&ledger) {
+            continue;
+        }
+        changed += 1;
+        for (name, change) in UNFIT {
+            let mut unfit = ledger.clone();
+            change(&mut unfit);
+            assert!(!unfit.is_fit(), "{name}, seed {seed}");
+        }
+    }
+    assert!(changed > 200, "only {changed} of 400 books were changed");
+}
+
+#[test]
+fn drawn_books_stay_fit() {
+    for seed in 0..5_000 {
+        let mut random = Random::new(seed);
+        let mut ledger = drawn(&mut random);
+        let event = event_for(&mut random, &ledger);
+        ledger.does_bytes(&event);
+        assert!(ledger.is_fit(), "seed {seed}");
     }
 }
