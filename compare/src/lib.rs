@@ -1,10 +1,11 @@
 //! The proved calls of the archive that `rt staticlib exports` makes, held
 //! against the model: `proved` has the calls behind safe functions, `listings`
-//! and `sides` compare them.
+//! and `sides` compare them, `soak` does so for as many seeds as are asked for.
 
 pub mod listings;
 pub mod proved;
 pub mod sides;
+pub mod soak;
 
 use std::io::Write;
 
