@@ -2,6 +2,7 @@
 //! against the model: `proved` has the calls behind safe functions, `listings`
 //! and `sides` compare them, `soak` does so for as many seeds as are asked for.
 
+pub mod damage;
 pub mod listings;
 pub mod proved;
 pub mod sides;

@@ -1,12 +1,14 @@
 //! The listing of a journal by the proved call against the model's, byte for
 //! byte, for journals of every sort, damaged ones included.
 
+use compare::damage::{small_journals, with_other_counts};
 use compare::listings::{Lister, UNWRITTEN};
 use compare::{judge, write_listing};
+use model::cases::longest;
 use model::coverage::Coverage;
 use model::event::{Event, EVENT_BYTES};
 use model::generator::random::Random;
-use model::generator::{corpus, generate, generate_as, Profile};
+use model::generator::{corpus, generate};
 use model::journal::{listing, parse, write, JOURNAL_REFUSED};
 
 #[test]
@@ -24,13 +26,6 @@ fn generated_journals_are_listed_alike_and_meet_every_allowed_answer() {
     }
     assert!(journals >= 20_000 && refused >= 1_000);
     judge(&format!("{journals} journals listed, {refused} of them malformed"), &coverage);
-}
-
-/// Small journals for the tests that take many forms of each.
-fn small_journals() -> impl Iterator<Item = (String, Vec<u8>)> {
-    let profiles = [Profile::Troubled, Profile::EmptyCalendar, Profile::ThinCalendar, Profile::Careless];
-    let generated = profiles.into_iter().zip(1..);
-    generated.map(|(profile, seed)| (format!("{profile:?} {seed}"), generate_as(profile, seed)))
 }
 
 #[test]
@@ -61,17 +56,8 @@ fn bytes_left_over_are_listed_alike() {
 fn counts_that_are_wrong_or_past_their_limits_are_listed_alike() {
     let mut lister = Lister::default();
     for (name, bytes) in small_journals() {
-        let journal = parse(&bytes).unwrap();
-        let (words, events) = (journal.calendar.len(), journal.events.len());
-        for (place, count) in [(0, words as u32), (4 + 4 * words, events as u32)] {
-            let near = [count.wrapping_sub(1), count + 1, 1_200, 1_201, 1_500, 1_501];
-            let far =
-                [1 << 16, 1 << 24, 1 << 29, 1 << 30, 1 << 31, u32::MAX / 4 + 1, u32::MAX - 3, u32::MAX];
-            for wrong in near.into_iter().chain(far) {
-                let mut bytes = bytes.clone();
-                bytes[place..place + 4].copy_from_slice(&wrong.to_le_bytes());
-                lister.agreed(&format!("{name}, count {wrong} at {place}"), &bytes);
-            }
+        for (name, bytes) in with_other_counts(&name, &bytes) {
+            lister.agreed(&name, &bytes);
         }
     }
 }
@@ -85,6 +71,11 @@ fn journals_at_and_past_both_limits_are_listed_alike() {
         let listing = lister.agreed(&format!("{words} words, {count} events"), &bytes);
         assert_eq!(listing == JOURNAL_REFUSED, words > 1_200 || count > 1_500);
     }
+}
+
+#[test]
+fn the_longest_listing_is_listed_alike() {
+    Lister::default().agreed("the longest listing", &longest::journal());
 }
 
 /// One bit anywhere: a count, a calendar word, a used or an unused field.

@@ -4,5 +4,6 @@
 pub mod drawn;
 pub mod evenings;
 pub mod ledger;
+pub mod longest;
 pub mod nets;
 pub mod unfit;

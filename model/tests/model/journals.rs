@@ -1,6 +1,7 @@
 //! Parsing: malformed is only a count past its limit, an early end, or bytes left over.
 
 use model::cases::ledger::{FIRST_DAY, WORKED_CALENDAR};
+use model::cases::longest;
 use model::event::Event;
 use model::journal::{listing, parse, write, JOURNAL_REFUSED};
 
@@ -45,4 +46,13 @@ fn an_empty_journal_has_an_empty_listing() {
 #[test]
 fn undecodable_events_are_listed() {
     assert_eq!(listing(&write(&[], &[[255; 40]])), "1 2 0 0 0 0 0\n");
+}
+
+/// Only the lines that lead there are shorter than the longest line.
+#[test]
+fn the_longest_listing_comes_within_1_percent_of_the_bound() {
+    let (listing, bound) = (listing(&longest::journal()), longest::bound());
+    let last = "1500 10 -10000000000 10000000000 3333333333333333 3333333333333333 3333333333333333\n";
+    assert!(listing.ends_with(last), "{:?}", listing.lines().last());
+    assert!(listing.len() <= bound && listing.len() > bound - bound / 100, "{} of {bound}", listing.len());
 }
