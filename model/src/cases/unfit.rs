@@ -44,7 +44,7 @@ pub fn every_event() -> Vec<[u8; EVENT_BYTES]> {
 }
 
 /// Each of them makes a fit book unfit that `can_be_changed`.
-pub const UNFIT: [Change; 47] = [
+pub const UNFIT: [Change; 51] = [
     ("calendar above 1,200 words", |l| l.calendar.resize(1_201, 0)),
     ("capacity above 4,096", |l| l.table.resize(4_097, Trade::default())),
     ("more trades than capacity", |l| l.table.truncate(l.book.trades - 1)),
@@ -72,9 +72,12 @@ pub const UNFIT: [Change; 47] = [
     ("trades together 2^64", |l| (l.table[0].sheets, l.table[1].sheets) = (u64::MAX, 1)),
     ("price above 100,000", |l| l.table[1].price = 100_001),
     ("fallback above 100,000", |l| l.table[0].fallback = u32::MAX),
+    ("last fallback above 100,000", |l| l.table[l.book.trades - 1].fallback = 100_001),
     ("today's net up", |l| l.book.todays_net = 4_000_000_000_000_000_001),
-    ("today's net down", |l| l.book.todays_net = i64::MIN),
-    ("cleared net up", |l| l.book.cleared_net = i64::MAX),
+    ("today's net down", |l| l.book.todays_net = -4_000_000_000_000_000_001),
+    ("today's net at the lowest", |l| l.book.todays_net = i64::MIN),
+    ("cleared net up", |l| l.book.cleared_net = 4_000_000_000_000_000_001),
+    ("cleared net at the highest", |l| l.book.cleared_net = i64::MAX),
     ("cleared net down", |l| l.book.cleared_net = -4_000_000_000_000_000_001),
     ("frozen above effective", |l| l.book.holdings[0].frozen = l.book.holdings[0].effective + 1),
     ("frozen near 2^64", |l| l.book.holdings[31].frozen = u64::MAX),
@@ -98,6 +101,7 @@ pub const UNFIT: [Change; 47] = [
     ("first payment day past today's", |l| {
         l.table[1].first_payment = next_trading_day(&l.calendar, today(l)).1 + 1
     }),
+    ("last first payment day past today's", |l| l.table[l.book.trades - 1].first_payment = u32::MAX),
     ("no day, but trades", |l| (l.book.day, l.book.phase) = (None, Phase::Closed)),
     ("no day, but Trading", |l| (l.book.day, l.book.phase, l.book.trades) = (None, Phase::Trading, 0)),
     ("no day, but Paid", |l| (l.book.day, l.book.phase, l.book.trades) = (None, Phase::Paid, 0)),
