@@ -69,11 +69,11 @@ fn cash_moved(nets: Nets, cash: Cash) -> Cash
             client: Fen(client),
         };
     }
-    let own = cash.own.0 - due.0;
-    let client = cash.client.0 + due.0;
+    let left = cash.own.0 - due.0;
+    let raised = cash.client.0 + due.0;
     Cash {
-        own: Fen(own),
-        client: Fen(client),
+        own: Fen(left),
+        client: Fen(raised),
     }
 }
 

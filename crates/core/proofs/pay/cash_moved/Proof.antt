@@ -68,13 +68,13 @@ returns c =
     let a = paid-by by .args in
     rw (client-moves (a .cash) (a .nets .cleared .0) (by-client by), ← (owed by .net-due .ensures))
 
-sub-own : tie.Need-sub-own
-sub-own c =
+sub-left : tie.Need-sub-left
+sub-left c =
     let by : tie.Else1 = search needs in
     omega (arith, own-covers by)
 
-add-client : tie.Need-add-client
-add-client c =
+add-raised : tie.Need-add-raised
+add-raised c =
     let by : tie.Else1 = search needs in
     let s : tie.Start = search needs in
     omega (arith, own-covers by, s .pre)
@@ -94,6 +94,6 @@ cash-moved-spec =
     add-own
     sub-client
     returns
-    sub-own
-    add-client
+    sub-left
+    add-raised
     returns-2)
