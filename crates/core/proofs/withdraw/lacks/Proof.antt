@@ -27,7 +27,7 @@ abbrev start : tie.Else1 → tie.Start
 start c = search needs
 
 -- units that are effective, with frozen ones, are far below 2^64
-few : (c : tie.After-frozen-of) → start (c .before) .args .amount + c .frozen-of .result ≤ 20000000000000000
+few : (c : tie.After-frozen-of) → start (c .before) .args .count + c .frozen-of .result ≤ 20000000000000000
 few c =
     let s = start (c .before) in
     let a = s .args in
@@ -42,7 +42,7 @@ returns c =
     let s : tie.Start = search needs in
     let a = s .args in
     let book = bookOf (a .scalars) (rowsOf (a .held .now) (a .kinds .now) (a .units .now)) in
-    sym (lt-ltb (effectiveOf (book .vault) (a .kind)) (a .amount + frozenOf (book .vault) (a .kind) + applied (book .withdrawals) (a .kind)) (omega (arith, c .before .effective-of .ensures, c .if1 .taken)))
+    sym (lt-ltb (effectiveOf (book .vault) (a .kind)) (a .count + frozenOf (book .vault) (a .kind) + applied (book .withdrawals) (a .kind)) (omega (arith, c .before .effective-of .ensures, c .if1 .taken)))
 
 frozen-of-requires : tie.Need-frozen-of-requires
 frozen-of-requires c κs = search needs

@@ -20,11 +20,11 @@ use Rattle.core.proofs.withdraw.withdraw.Tie as tie
 abbrev start : tie.Else1 → tie.Start
 start c = search needs
 
-none-applies : (c : tie.Else1) → (let a = start c .args in firstOf (withdrawCauses (bookOf (a .scalars) (rowsOf (a .held .now) (a .kinds .now) (a .units .now))) (a .kind) (a .amount)) ≡ none)
+none-applies : (c : tie.Else1) → (let a = start c .args in firstOf (withdrawCauses (bookOf (a .scalars) (rowsOf (a .held .now) (a .kinds .now) (a .units .now))) (a .kind) (a .count)) ≡ none)
 unfolding eventCauses
 none-applies c =
     let a = start c .args in
-    done [] (bookOf (a .scalars) (rowsOf (a .held .now) (a .kinds .now) (a .units .now))) [] (Withdraw (a .kind) (a .amount)) _ (c .before .withdraw-refusal .ensures) (c .if1 .left)
+    done [] (bookOf (a .scalars) (rowsOf (a .held .now) (a .kinds .now) (a .units .now))) [] (Withdraw (a .kind) (a .count)) _ (c .before .withdraw-refusal .ensures) (c .if1 .left)
 
 room-for-one : (book : Book) (kind units : ℕ) → firstOf (withdrawCauses book kind units) ≡ none → book .withdrawals .count < applicationLimit
 unfolding withdrawCauses
@@ -33,7 +33,7 @@ room-for-one book kind units e = leb-false applicationLimit (book .withdrawals .
 room : (c : tie.Else1) → start c .args .scalars .applications < 128
 room c =
     let a = start c .args in
-    room-for-one (bookOf (a .scalars) (rowsOf (a .held .now) (a .kinds .now) (a .units .now))) (a .kind) (a .amount) (none-applies c)
+    room-for-one (bookOf (a .scalars) (rowsOf (a .held .now) (a .kinds .now) (a .units .now))) (a .kind) (a .count) (none-applies c)
 
 withdraw-refusal-requires : tie.Need-withdraw-refusal-requires
 withdraw-refusal-requires c κs = search needs
