@@ -58,17 +58,18 @@ unfolding entriesOf run linesOf
 line-first calendar book table count bytes left e = rw e
 
 book-next : (calendar : Calendar) (book : Book) (table : List Trade) (count : ℕ) (bytes : List ℕ) (left : Outcome) → step calendar book table (decoded (take 40 bytes)) ≡ left
-    → lastBook calendar book table (entriesOf (suc count) bytes) ≡ lastBook calendar (left .book) (left .table) (entriesOf count (drop 40 bytes))
-unfolding entriesOf lastBook
-book-next calendar book table count bytes left e = ap (λ (o : Outcome). lastBook calendar (o .book) (o .table) (entriesOf count (drop 40 bytes))) e
+    → lastBook book (run calendar book table (entriesOf (suc count) bytes)) ≡ lastBook (left .book) (run calendar (left .book) (left .table) (entriesOf count (drop 40 bytes)))
+unfolding entriesOf run lastBook
+book-next calendar book table count bytes left e = ap (λ (o : Outcome). lastBook (o .book) (run calendar (o .book) (o .table) (entriesOf count (drop 40 bytes)))) e
 
 table-next : (calendar : Calendar) (book : Book) (table : List Trade) (count : ℕ) (bytes : List ℕ) (left : Outcome) → step calendar book table (decoded (take 40 bytes)) ≡ left
-    → lastTable calendar book table (entriesOf (suc count) bytes) ≡ lastTable calendar (left .book) (left .table) (entriesOf count (drop 40 bytes))
-unfolding entriesOf lastTable
-table-next calendar book table count bytes left e = ap (λ (o : Outcome). lastTable calendar (o .book) (o .table) (entriesOf count (drop 40 bytes))) e
+    → lastTable table (run calendar book table (entriesOf (suc count) bytes)) ≡ lastTable (left .table) (run calendar (left .book) (left .table) (entriesOf count (drop 40 bytes)))
+unfolding entriesOf run lastTable
+table-next calendar book table count bytes left e = ap (λ (o : Outcome). lastTable (o .table) (run calendar (o .book) (o .table) (entriesOf count (drop 40 bytes)))) e
 
-no-more : (calendar : Calendar) (book : Book) (table : List Trade) (bytes : List ℕ) → (lastBook calendar book table (entriesOf 0 bytes) ≡ book) × (lastTable calendar book table (entriesOf 0 bytes) ≡ table)
-unfolding entriesOf lastBook lastTable
+no-more : (calendar : Calendar) (book : Book) (table : List Trade) (bytes : List ℕ)
+    → (lastBook book (run calendar book table (entriesOf 0 bytes)) ≡ book) × (lastTable table (run calendar book table (entriesOf 0 bytes)) ≡ table)
+unfolding entriesOf run lastBook lastTable
 no-more calendar book table bytes = (refl, refl)
 
 -- `k` of `count` events are run: their lines stand in front of `lines`, the rest of which is as it was, and the others are still to be run on the book and the table that they left
@@ -79,8 +80,8 @@ pub record RunTo (calendar : Calendar) (book₀ : Book) (bytes table₀ lines₀
   pub wide : length lines ≡ length lines₀
   pub told : linesOf (run calendar book₀ (tradesOf table₀) (entriesOf count bytes)) ≡ take (k * 7) lines ++ linesOf (run calendar book (tradesOf table) (entriesOf (count - k) (drop (k * 40) bytes)))
   pub rest : drop (k * 7) lines ≡ drop (k * 7) lines₀
-  pub booked : lastBook calendar book₀ (tradesOf table₀) (entriesOf count bytes) ≡ lastBook calendar book (tradesOf table) (entriesOf (count - k) (drop (k * 40) bytes))
-  pub tabled : lastTable calendar book₀ (tradesOf table₀) (entriesOf count bytes) ≡ lastTable calendar book (tradesOf table) (entriesOf (count - k) (drop (k * 40) bytes))
+  pub booked : lastBook book₀ (run calendar book₀ (tradesOf table₀) (entriesOf count bytes)) ≡ lastBook book (run calendar book (tradesOf table) (entriesOf (count - k) (drop (k * 40) bytes)))
+  pub tabled : lastTable (tradesOf table₀) (run calendar book₀ (tradesOf table₀) (entriesOf count bytes)) ≡ lastTable (tradesOf table) (run calendar book (tradesOf table) (entriesOf (count - k) (drop (k * 40) bytes)))
 
 module _ (calendar : Calendar) (book₀ : Book) (bytes table₀ lines₀ : List ℕ) (count : ℕ) where
   pub none-run : fit calendar book₀ (tradesOf table₀) ≡ true → RunTo calendar book₀ bytes table₀ lines₀ count table₀ lines₀ book₀ 0

@@ -53,17 +53,17 @@ pub record Agrees (v : View) (t : Tally) : Type 0 where
 
 -- what an entry leaves: the relation, and the claims about that entry
 pub record Right (calendar : Calendar) (t : Tally) (seen : Seen) : Type 0 where
-  pub agrees : Agrees (view (seen .left .book) (seen .left .table)) (tell calendar t (told seen))
+  pub agrees : Agrees (view (seen .left .book) (seen .left .table)) (tell calendar t (told (seen .left) seen))
   pub initial : InitialCovered seen
   pub payment : PaymentRight t seen
-  pub moves : t .paid +ℤ movedAt seen ≡ tell calendar t (told seen) .paid
+  pub moves : t .paid +ℤ movedAt seen ≡ tell calendar t (told (seen .left) seen) .paid
 
 -- an entry that demand 3 claims nothing about by itself
 abbrev pub plain : Entry → Bool
 plain entry = not (isInitial entry || isPay entry)
 
-pub right : (calendar : Calendar) (t : Tally) (seen : Seen) → plain (seen .entry) ≡ true → t .paid ≡ tell calendar t (told seen) .paid
-    → Agrees (view (seen .left .book) (seen .left .table)) (tell calendar t (told seen)) → Right calendar t seen
+pub right : (calendar : Calendar) (t : Tally) (seen : Seen) → plain (seen .entry) ≡ true → t .paid ≡ tell calendar t (told (seen .left) seen) .paid
+    → Agrees (view (seen .left .book) (seen .left .table)) (tell calendar t (told (seen .left) seen)) → Right calendar t seen
 right calendar t seen nothing paid agrees =
     let off = neither (isInitial (seen .entry)) (isPay (seen .entry)) (not-true _ nothing) in
     record {

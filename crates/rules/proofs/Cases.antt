@@ -109,10 +109,10 @@ name is given gives said = record { name = name; gives = given; says = said }
 infix 10 _is_gives_
 -- the book and the table after a list, from a fresh book
 abbrev pub after : Calendar → List Entry → Book
-after calendar entries = lastBook calendar freshBook noTrades entries
+after calendar entries = lastBook freshBook (seenFrom calendar noTrades entries)
 
 abbrev pub tableAfter : Calendar → List Entry → List Trade
-tableAfter calendar entries = lastTable calendar freshBook noTrades entries
+tableAfter calendar entries = lastTable noTrades (seenFrom calendar noTrades entries)
 
 abbrev headroomAfter : Calendar → List Entry → ℤ
 headroomAfter calendar entries = headroom (after calendar entries) (tableAfter calendar entries)

@@ -2,7 +2,7 @@
 -- The claim is the record Demand3 of specs/Demand3. Assumes nothing.
 use mathlib.Core.Path.{_≡_, refl, sym, ap, _∙_}
 use mathlib.Core.Bool.{Bool, true, false, cond, _&&_}
-use mathlib.Core.List.{List, [], _∷_, map}
+use mathlib.Core.List.{List, [], _∷_}
 use mathlib.Core.Option.{Option, none, some}
 use Prim.Native.Nat.{ℕ, zero, suc}
 use native.Mathlib.Omega.{arith}
@@ -13,9 +13,9 @@ use Rattle.rules.specs.Book.{Book, freshBook}
 use Rattle.rules.specs.Trades.{Trade, total, outstanding, remaining}
 use Rattle.rules.specs.Entry.{Open, FundIn, FundOut, Size, Rate, Pledge, Freeze, Withdraw, Initial, Early, Pay, Close, Entry, Known, Undecodable}
 use Rattle.rules.specs.Step.{causes, actOn, refuseOr, step, accepted}
-use Rattle.rules.specs.Run.{Seen, see, run, lastBook, lastTable}
+use Rattle.rules.specs.Run.{Seen, see, run, Follows, lastBook, lastTable}
 use Rattle.rules.specs.Tally.{Tally, blank, tell, tallyOf}
-use Rattle.rules.specs.Demand3.{told, isPay, InitialCovered, PaymentRight, All, AllBeside, movedAt, moneyMoved, seenFrom, tallyBeside, Demand3}
+use Rattle.rules.specs.Demand3.{told, toldOf, isPay, InitialCovered, PaymentRight, All, AllBeside, movedAt, moneyMoved, seenFrom, tallyBeside, Demand3}
 use Rattle.rules.specs.Listing.{journalTable, entriesIn}
 use Rattle.rules.proofs.Signed.{same, diff-parts}
 use Rattle.rules.proofs.Answers.{turned-down}
@@ -68,21 +68,25 @@ module _ (calendar : Calendar) (book : Book) (table : List Trade) (t : Tally) (i
 
 -- ---- a list of entries
 
-record AllRight (calendar : Calendar) (book : Book) (table : List Trade) (t : Tally) (entries : List Entry) : Type 0 where
-  agrees : Agrees (view (lastBook calendar book table entries) (lastTable calendar book table entries)) (tallyOf calendar t (map told (run calendar book table entries)))
-  initials : All InitialCovered (run calendar book table entries)
-  payments : AllBeside calendar PaymentRight t (run calendar book table entries)
-  moves : t .paid +ℤ moneyMoved (run calendar book table entries) ≡ tallyOf calendar t (map told (run calendar book table entries)) .paid
+record AllRight (calendar : Calendar) (book : Book) (table : List Trade) (t : Tally) (list : List Seen) : Type 0 where
+  follows : Follows book table list
+  agrees : Agrees (view (lastBook book list) (lastTable table list)) (tallyOf calendar t (toldOf calendar book table list))
+  initials : All InitialCovered list
+  payments : AllBeside calendar PaymentRight book table t list
+  moves : t .paid +ℤ moneyMoved list ≡ tallyOf calendar t (toldOf calendar book table list) .paid
 
-all-right : (calendar : Calendar) (entries : List Entry) (book : Book) (table : List Trade) (t : Tally) → Agrees (view book table) t → AllRight calendar book table t entries
-unfolding run lastBook lastTable tallyOf moneyMoved
-all-right calendar [] book table t i = record { agrees = i; initials = tt; payments = tt; moves = +ℤ-idr (t .paid) }
+all-right : (calendar : Calendar) (entries : List Entry) (book : Book) (table : List Trade) (t : Tally) → Agrees (view book table) t
+    → AllRight calendar book table t (run calendar book table entries)
+unfolding run lastBook lastTable toldOf tallyOf moneyMoved
+all-right calendar [] book table t i = record { follows = tt; agrees = i; initials = tt; payments = tt; moves = +ℤ-idr (t .paid) }
 all-right calendar (entry ∷ entries) book table t i =
     let seen : Seen = see calendar book table entry in
+    let next : Tally = tell calendar t (told (seen .left) seen) in
     let more : List Seen = run calendar (seen .left .book) (seen .left .table) entries in
     let r : Right calendar t seen = step-right calendar book table t i entry in
-    let k : AllRight calendar (seen .left .book) (seen .left .table) (tell calendar t (told seen)) entries = all-right calendar entries (seen .left .book) (seen .left .table) (tell calendar t (told seen)) (r .agrees) in
+    let k : AllRight calendar (seen .left .book) (seen .left .table) next more = all-right calendar entries (seen .left .book) (seen .left .table) next (r .agrees) in
     record {
+      follows = (refl, refl, k .follows);
       agrees = k .agrees;
       initials = (r .initial, k .initials);
       payments = (r .payment, k .payments);
@@ -95,11 +99,12 @@ fresh-agrees : (table : List Trade) → Agrees (view freshBook table) blank
 unfolding freshBook outstanding total remaining
 fresh-agrees table = record { day = refl; rows = refl; cash = refl; sheets = refl; running = refl; cleared = refl; ended = λ h. refl }
 
-pub demand3 : (calendar : Calendar) (table : List Trade) (entries : List Entry) → Demand3 calendar table entries
+pub demand3 : (calendar : Calendar) (table : List Trade) (entries : List Entry) → Demand3 calendar table (seenFrom calendar table entries)
 demand3 calendar table entries =
     let k = all-right calendar entries freshBook table blank (fresh-agrees table) in
-    let t : Tally = tallyBeside calendar table entries in
+    let t : Tally = tallyBeside calendar table (seenFrom calendar table entries) in
     record {
+      one-book = k .follows;
       cash-is-funds = k .agrees .cash;
       outstanding-is-begun-less-redeemed = same _ _ (omega (arith, k .agrees .sheets, diff-parts (pos (t .begun)) (pos (t .redeemed))));
       initials-covered = k .initials;
@@ -108,5 +113,5 @@ demand3 calendar table entries =
     }
 
 -- of the entries behind a run's lines: `run_listing` writes what this run shows
-pub listing-demand3 : (calendar : Calendar) (bytes : List ℕ) → Demand3 calendar journalTable (entriesIn bytes)
+pub listing-demand3 : (calendar : Calendar) (bytes : List ℕ) → Demand3 calendar journalTable (seenFrom calendar journalTable (entriesIn bytes))
 listing-demand3 calendar bytes = demand3 calendar journalTable (entriesIn bytes)

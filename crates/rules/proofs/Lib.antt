@@ -27,6 +27,7 @@ pub mod Demand3Proof
 pub mod Opened
 pub mod Cases
 pub mod Slips
+pub mod Falls
 -- laws of the decoder
 pub mod Bytes
 pub mod Unused

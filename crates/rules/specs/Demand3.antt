@@ -1,22 +1,22 @@
--- Demand 3: a single claim about every list of entries put to a fresh book. (00, demand 3; 01, Twelve events, "Demand 3")
+-- Demand 3: a single claim about a list of what was seen, on whatever ledger. (00, demand 3; 01, Twelve events, "Demand 3")
 -- Assumes nothing.
 use mathlib.Core.Path.{_≡_}
 use mathlib.Core.Bool.{Bool, cond, _&&_}
-use mathlib.Core.List.{List, [], _∷_, map}
+use mathlib.Core.List.{List, [], _∷_}
 use mathlib.Core.Option.{none, some}
 use Prim.Native.Nat.{ℕ, _≤_, _<_}
 use lib.Dec.{T, eqb}
 use lib.IntN.{ℤ, pos, natAbs, _+ℤ_, _-ℤ_}
 use lib.Signed.{_≤ℤ_}
 use Rattle.money.specs.Days.{Calendar}
-use Rattle.rules.specs.Book.{Cash, freshBook}
+use Rattle.rules.specs.Book.{Cash, Book, freshBook}
 use Rattle.rules.specs.Trades.{Trade}
 use Rattle.rules.specs.Vault.{outstandingOf, headroom}
 use Rattle.rules.specs.Fit.{allCash}
 use Rattle.rules.specs.Entry.{Entry, codeOf}
 use Rattle.rules.specs.Pay.{payerHolds}
-use Rattle.rules.specs.Step.{accepted}
-use Rattle.rules.specs.Run.{Seen, run, lastBook, lastTable}
+use Rattle.rules.specs.Step.{Outcome, step, accepted}
+use Rattle.rules.specs.Run.{Seen, run, Follows, lastBook, lastTable}
 use Rattle.rules.specs.Tally.{Tally, Told, blank, tell, tallyOf}
 
 -- ---- what the tally is told: the entry, its answer's number and, at an Open, the status
@@ -33,12 +33,20 @@ isPay entry = eqb (codeOf entry) 11
 abbrev pub number : Seen → ℕ
 number seen = seen .left .answer .number
 
-abbrev pub told : Seen → Told
-told seen = record {
+-- "at an Open, the status that the rules above give over the same list": `ruled` is what they leave of the same entry
+abbrev pub told : (ruled : Outcome) → Seen → Told
+told ruled seen = record {
   entry = seen .entry;
   number = number seen;
-  status = cond (isOpen (seen .entry)) (some (seen .left .book .standing .status)) none;
+  status = cond (isOpen (seen .entry)) (some (ruled .book .standing .status)) none;
 }
+
+-- of a list, beside which the rules begin with this book and table
+unfoldable pub toldOf : Calendar → Book → List Trade → List Seen → List Told
+toldOf calendar book table [] = []
+toldOf calendar book table (seen ∷ more) =
+    let ruled = step calendar book table (seen .entry) in
+    told ruled seen ∷ toldOf calendar (ruled .book) (ruled .table) more
 
 -- ---- the claims about one entry
 
@@ -74,9 +82,11 @@ All claim [] = Unit {0}
 All claim (seen ∷ more) = claim seen × All claim more
 
 -- each with the tally of what came before it
-abbrev pub AllBeside : Calendar → (Tally → Seen → Type 0) → Tally → List Seen → Type 0
-AllBeside calendar claim t [] = Unit {0}
-AllBeside calendar claim t (seen ∷ more) = claim t seen × AllBeside calendar claim (tell calendar t (told seen)) more
+abbrev pub AllBeside : Calendar → (Tally → Seen → Type 0) → Book → List Trade → Tally → List Seen → Type 0
+AllBeside calendar claim book table t [] = Unit {0}
+AllBeside calendar claim book table t (seen ∷ more) =
+    let ruled = step calendar book table (seen .entry) in
+    claim t seen × AllBeside calendar claim (ruled .book) (ruled .table) (tell calendar t (told ruled seen)) more
 
 -- "The money moved, own before less own after over accepted Pays"
 abbrev pub movedAt : Seen → ℤ
@@ -88,30 +98,31 @@ unfoldable pub moneyMoved : List Seen → ℤ
 moneyMoved [] = pos 0
 moneyMoved (seen ∷ more) = movedAt seen +ℤ moneyMoved more
 
--- a list put to a fresh book over a lent table, and the tally beside it
-abbrev pub seenFrom : Calendar → List Trade → List Entry → List Seen
-seenFrom calendar table entries = run calendar freshBook table entries
+-- "put to a fresh book over any lent table" (00): the tally beside a list, and the cash and O after it
+abbrev pub tallyBeside : Calendar → List Trade → List Seen → Tally
+tallyBeside calendar table list = tallyOf calendar blank (toldOf calendar freshBook table list)
 
-abbrev pub tallyBeside : Calendar → List Trade → List Entry → Tally
-tallyBeside calendar table entries = tallyOf calendar blank (map told (seenFrom calendar table entries))
-
-abbrev pub cashAfter : Calendar → List Trade → List Entry → ℕ
-cashAfter calendar table entries =
-    let last = lastBook calendar freshBook table entries in
+abbrev pub cashAfter : List Seen → ℕ
+cashAfter list =
+    let last = lastBook freshBook list in
     allCash (last .cash) (last .vault .guarantee)
 
-abbrev pub outstandingAfter : Calendar → List Trade → List Entry → ℕ
-outstandingAfter calendar table entries =
-    outstandingOf (lastBook calendar freshBook table entries) (lastTable calendar freshBook table entries)
+abbrev pub outstandingAfter : List Trade → List Seen → ℕ
+outstandingAfter table list = outstandingOf (lastBook freshBook list) (lastTable table list)
 
-pub record Demand3 (calendar : Calendar) (table : List Trade) (entries : List Entry) : Type 0 where
+pub record Demand3 (calendar : Calendar) (table : List Trade) (list : List Seen) : Type 0 where
+  -- "Each event gets the book and the table that the last one left" (00)
+  pub one-book : Follows freshBook table list
   -- "the three kinds of cash, arriving included, together equal funds"
-  pub cash-is-funds : pos (cashAfter calendar table entries) ≡ tallyBeside calendar table entries .funds
+  pub cash-is-funds : pos (cashAfter list) ≡ tallyBeside calendar table list .funds
   -- "and O equals begun less redeemed"
   pub outstanding-is-begun-less-redeemed :
-      pos (outstandingAfter calendar table entries)
-      ≡ pos (tallyBeside calendar table entries .begun) -ℤ pos (tallyBeside calendar table entries .redeemed)
-  pub initials-covered : All InitialCovered (seenFrom calendar table entries)
-  pub payments-whole-or-nothing : AllBeside calendar PaymentRight blank (seenFrom calendar table entries)
+      pos (outstandingAfter table list) ≡ pos (tallyBeside calendar table list .begun) -ℤ pos (tallyBeside calendar table list .redeemed)
+  pub initials-covered : All InitialCovered list
+  pub payments-whole-or-nothing : AllBeside calendar PaymentRight freshBook table blank list
   -- "sums to paid"
-  pub money-moved-is-paid : moneyMoved (seenFrom calendar table entries) ≡ tallyBeside calendar table entries .paid
+  pub money-moved-is-paid : moneyMoved list ≡ tallyBeside calendar table list .paid
+
+-- what is seen where the rules are kept
+abbrev pub seenFrom : Calendar → List Trade → List Entry → List Seen
+seenFrom calendar table entries = run calendar freshBook table entries

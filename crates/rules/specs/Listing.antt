@@ -96,11 +96,9 @@ runCauses calendar book table bytes room = (unfit calendar book table ⇒ 1) ∷
 
 -- a run that nothing refuses: the book and the table after its last event, and a line for each
 unfoldable pub runDone : Calendar → Book → List Trade → (bytes buffer : List ℕ) → RunOutcome
-runDone calendar book table bytes buffer = record {
-  ran = record { number = 0; book = lastBook calendar book table (entriesIn bytes) };
-  table = lastTable calendar book table (entriesIn bytes);
-  lines = writtenBy none (linesOf (run calendar book table (entriesIn bytes))) buffer;
-}
+runDone calendar book table bytes buffer =
+    let seen = run calendar book table (entriesIn bytes) in
+    record { ran = record { number = 0; book = lastBook book seen }; table = lastTable table seen; lines = writtenBy none (linesOf seen) buffer }
 
 -- a refused run leaves all as it was
 abbrev pub refuseRun : Option ℕ → Book → List Trade → List ℕ → RunOutcome → RunOutcome

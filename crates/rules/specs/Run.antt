@@ -1,5 +1,6 @@
 -- A list of entries put to a book: each gets the book and the table that the last one left. (00, demand 3)
 -- Assumes nothing.
+use mathlib.Core.Path.{_≡_}
 use mathlib.Core.List.{List, [], _∷_}
 use Rattle.money.specs.Days.{Calendar}
 use Rattle.rules.specs.Book.{Book}
@@ -23,15 +24,18 @@ run calendar book table (entry ∷ entries) =
     let next = step calendar book table entry in
     see calendar book table entry ∷ run calendar (next .book) (next .table) entries
 
--- the book and the table after the list
-unfoldable pub lastBook : Calendar → Book → List Trade → List Entry → Book
-lastBook calendar book table [] = book
-lastBook calendar book table (entry ∷ entries) =
-    let next = step calendar book table entry in
-    lastBook calendar (next .book) (next .table) entries
+-- ---- a list of what was seen, on whatever ledger
 
-unfoldable pub lastTable : Calendar → Book → List Trade → List Entry → List Trade
-lastTable calendar book table [] = table
-lastTable calendar book table (entry ∷ entries) =
-    let next = step calendar book table entry in
-    lastTable calendar (next .book) (next .table) entries
+-- "Each event gets the book and the table that the last one left" (00, demand 3)
+abbrev pub Follows : Book → List Trade → List Seen → Type 0
+Follows book table [] = Unit {0}
+Follows book table (seen ∷ more) = (seen .book ≡ book) × (seen .table ≡ table) × Follows (seen .left .book) (seen .left .table) more
+
+-- the book and the table after the list
+unfoldable pub lastBook : Book → List Seen → Book
+lastBook book [] = book
+lastBook book (seen ∷ more) = lastBook (seen .left .book) more
+
+unfoldable pub lastTable : List Trade → List Seen → List Trade
+lastTable table [] = table
+lastTable table (seen ∷ more) = lastTable (seen .left .table) more
