@@ -7,9 +7,9 @@ use mathlib.Core.Option.{Option, none, some}
 use Prim.Native.Nat.{ℕ}
 use lib.Dec.{eqb}
 use Rattle.money.specs.Causes.{Cause, firstOf, numberOf}
-use Rattle.rules.proofs.Answers.{numbers}
+use Rattle.rules.proofs.Answers.{numbers, none-at-0}
 use Rattle.rules.proofs.Accepted.{Clear, all-clear}
-use Rattle.core.proofs.Refusing.{refused, none-at-0}
+use Rattle.core.proofs.Refusing.{refused}
 
 abbrev orElse : (o p : Option ℕ) → Option ℕ
 orElse none p = p

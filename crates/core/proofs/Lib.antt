@@ -39,3 +39,5 @@ pub mod RunLaws
 pub mod ListingLaws
 pub mod LentLaws
 pub mod WholeLaws
+-- demand 3 of what the calls leave
+pub mod Demand3OfRuns

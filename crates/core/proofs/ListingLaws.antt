@@ -18,9 +18,9 @@ use Rattle.rules.specs.Book.{freshBook}
 use Rattle.rules.specs.Limits.{applicationLimit}
 use Rattle.rules.specs.Fit.{fit}
 use Rattle.rules.specs.Listing.{journalCapacity, journalTable, listingOf, lengthCauses, listingCauses, writtenBy, runDone}
+use Rattle.rules.proofs.Answers.{none-at-0}
 use Rattle.rules.proofs.StaysFit.{others-clear, fresh-is-fit}
 use Rattle.core.specs.Flat.{width, heldLength, tradeAt, tradesTo, capacity, tradesOf, securityIn, securitiesTo, rowsOf, bookOf, scalarsOf}
-use Rattle.core.proofs.Refusing.{none-at-0}
 
 -- ---- a listing that is not refused
 

@@ -10,7 +10,7 @@ use Rattle.money.specs.Causes.{Cause, firstOf, numberOf}
 use Rattle.money.specs.Days.{Calendar}
 use Rattle.rules.specs.Book.{answer}
 use Rattle.rules.specs.Step.{eventCauses}
-use Rattle.rules.proofs.Answers.{numbers, event-numbers, number-passes, unused}
+use Rattle.rules.proofs.Answers.{event-numbers, none-at-0, unused}
 use Rattle.core.specs.Types.{Book, Trade, Event}
 use Rattle.scalars.specs.declared.state.Scalars.{Scalars}
 use Rattle.scalars.specs.declared.done.Done.{Done}
@@ -24,16 +24,6 @@ noRows = record { securities = []; kinds = []; units = [] }
 pub refused : (o : Option ℕ) (n : ℕ) → n ≡ numberOf o → (n ≡ 0 → ⊥) → o ≡ some n
 refused none n e z = absurd (z e)
 refused (some k) n e z = ap some (sym e)
-
--- 0 is no cause's number where all pass a test that 0 fails
-pub none-at-0 : (p : ℕ → Bool) (cs : List Cause) (n : ℕ) → p 0 ≡ false → numbers p cs ≡ true → n ≡ numberOf (firstOf cs) → n ≡ 0 → firstOf cs ≡ none
-none-at-0 p cs n fails all e z = go (firstOf cs) refl (sym e ∙ z)
-  where
-    go : (o : Option ℕ) → firstOf cs ≡ o → numberOf o ≡ 0 → o ≡ none
-    go none m l = refl
-    go (some k) m l =
-        let passes : p 0 ≡ true = rw l at (number-passes p cs k all m) in
-        let z : _≡_ {A = ℕ} 0 1 = cc in absurd (omega arith)
 
 pub done : (calendar : Calendar) (book : Book) (table : List Trade) (event : Event) (n : ℕ) → n ≡ numberOf (firstOf (eventCauses calendar book table event)) → n ≡ 0 → firstOf (eventCauses calendar book table event) ≡ none
 done calendar book table event n = none-at-0 (λ k. not (unused k)) (eventCauses calendar book table event) n refl (event-numbers calendar book table event .1)

@@ -18,10 +18,11 @@ use Rattle.rules.specs.Entry.{decoded}
 use Rattle.rules.specs.Step.{Outcome, unfit, step}
 use Rattle.rules.specs.Run.{run, lastBook, lastTable}
 use Rattle.rules.specs.Listing.{entriesOf, lineOf, linesOf, lengthCauses, RunOutcome, runCauses, runDone, runOutcome}
+use Rattle.rules.proofs.Answers.{none-at-0}
 use Rattle.rules.proofs.StaysFit.{step-keeps-fit}
 use Rattle.core.specs.Types.{Book, Trade, Entry, Applied}
 use Rattle.core.specs.Flat.{tradesOf, appliedOf}
-use Rattle.core.proofs.Refusing.{none-at-0, refused}
+use Rattle.core.proofs.Refusing.{refused}
 
 -- ---- a row of numbers stored
 

@@ -3,11 +3,12 @@
 ghost use mathlib.Core.Path.{_≡_};
 ghost use mathlib.Core.Bool.{true, false};
 ghost use Prim.Native.Nat.{ℕ, _*_, _≤_};
+ghost use lib.Dec.{eqb};
 ghost use lib.ListN.{getD, set};
 ghost use Rattle.money.specs.Causes.{firstOf, numberOf};
 ghost use Rattle.money.specs.Units.{sheets};
 ghost use Rattle.rules.specs.Trades.{noTrade};
-ghost use Rattle.rules.specs.Step.{outcome};
+ghost use Rattle.rules.specs.Step.{outcome, accepted};
 ghost use Rattle.rules.specs.Listing.{lengthCauses};
 ghost use Rattle.core.specs.Flat.{width, capacity, tradesOf};
 ghost use Rattle.core.specs.Figures.{outstandingAt};
@@ -86,7 +87,7 @@ fn fitness_in(
     fit::fitness_of(calendar, scalars, held, kinds, units, table)
 }
 
-// One entry.
+// One entry. Refused, every number lent is as it was.
 pub fn apply(
     calendar: &[u32],
     scalars: Scalars,
@@ -100,7 +101,7 @@ pub fn apply(
         let before = lent scalars (now (held .entry)) (now (kinds .entry)) (now (units .entry)) (now (table .entry)) in
         let after = lent (r .scalars) (now (held .exit)) (now (kinds .exit)) (now (units .exit)) (now (table .exit)) in
         ⌜ (outcome (r .answer) (bookIn after) (tableIn after) ≡ stepIn (now (calendar .entry)) before entry)
-        × (isWhole before ≡ false → after ≡ before) ⌝ }
+        × (accepted (r .answer .number) ≡ false → after ≡ before) ⌝ }
 {
     let tested = fitness_in(calendar, scalars, &*held, &*kinds, &*units, &*table);
     let fits = tested.fit;
@@ -167,7 +168,7 @@ pub struct Ended {
     pub scalars: Scalars,
 }
 
-// Encoded events, 40 bytes each, and a line of seven numbers for each. Fitness is tested once.
+// Encoded events, 40 bytes each, and a line of seven numbers for each. Fitness is tested once. Refused, every number lent is as it was.
 pub fn run(
     calendar: &[u32],
     scalars: Scalars,
@@ -183,7 +184,7 @@ pub fn run(
         let after = lent (r .scalars) (now (held .exit)) (now (kinds .exit)) (now (units .exit)) (now (table .exit)) in
         ⌜ (record { ran = record { number = r .number; book = bookIn after }; table = tableIn after; lines = now (lines .exit) }
         ≡ runIn (now (calendar .entry)) before (now (events .entry)) (now (lines .entry)))
-        × (isWhole before ≡ false → after ≡ before) ⌝ }
+        × (eqb (r .number) 0 ≡ false → after ≡ before) ⌝ }
 {
     let tested = fitness_in(calendar, scalars, &*held, &*kinds, &*units, &*table);
     let fits = tested.fit;

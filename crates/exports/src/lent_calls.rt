@@ -1,10 +1,11 @@
 // A book in lent numbers, changed in place: nothing of it is copied but what is small.
 ghost use mathlib.Core.Path.{_≡_};
 ghost use mathlib.Core.Bool.{true, false, cond};
+ghost use lib.Dec.{eqb};
 ghost use Rattle.rules.specs.Entry.{decoded};
-ghost use Rattle.rules.specs.Step.{outcome};
+ghost use Rattle.rules.specs.Step.{outcome, accepted};
 ghost use Rattle.rules.specs.Cover.{coverRefused};
-ghost use Rattle.core.specs.Lent.{lent, bookIn, tableIn, isWhole, stepIn, coverIn, runIn};
+ghost use Rattle.core.specs.Lent.{lent, bookIn, tableIn, stepIn, coverIn, runIn};
 ghost use Rattle.exports.specs.Codes.{isWellFormed};
 ghost use Rattle.exports.specs.Raw.{scalarsFrom, rawOf, refused, refusedRun};
 use crate::codes;
@@ -32,7 +33,7 @@ pub extern "C" fn lent_apply(
         ⌜ (isWellFormed (raw .codes) ≡ true
         → (outcome (r .answer) (bookIn after) (tableIn after) ≡ stepIn (now (calendar .entry)) before (decoded (now (event .entry))))
         × (r .raw ≡ rawOf (scalarsFrom (r .raw)))
-        × (isWhole before ≡ false → after ≡ before))
+        × (accepted (r .answer .number) ≡ false → after ≡ before))
         × (isWellFormed (raw .codes) ≡ false → (r ≡ refused raw) × (after ≡ before)) ⌝ }
 {
     if !codes::is_well_formed(raw.codes) {
@@ -83,7 +84,7 @@ pub extern "C" fn lent_run(
         → (record { ran = record { number = r .number; book = bookIn after }; table = tableIn after; lines = now (lines .exit) }
         ≡ runIn (now (calendar .entry)) before (now (events .entry)) (now (lines .entry)))
         × (r .raw ≡ rawOf (scalarsFrom (r .raw)))
-        × (isWhole before ≡ false → after ≡ before))
+        × (eqb (r .number) 0 ≡ false → after ≡ before))
         × (isWellFormed (raw .codes) ≡ false → (r ≡ refusedRun raw) × (after ≡ before) × (now (lines .exit) ≡ now (lines .entry))) ⌝ }
 {
     if !codes::is_well_formed(raw.codes) {

@@ -1,14 +1,14 @@
 -- The answer's number: the smallest cause that applies, and 0 or 99 exactly where none does. (01, Turned-down events)
 -- Assumes nothing.
 use mathlib.Core.Path.{_≡_, refl, sym, ap, _∙_}
-use mathlib.Core.Bool.{Bool, true, false, cond, not, _||_}
+use mathlib.Core.Bool.{Bool, true, false, false≢true, cond, not, _||_}
 use mathlib.Core.List.{List, [], _∷_}
 use mathlib.Core.Option.{Option, none, some}
 use Prim.Native.Nat.{ℕ}
 use native.Mathlib.Omega.{arith}
 use borrow.Author.Tests.{not-true, eqb-false}
 use lib.Dec.{eqb}
-use Rattle.money.specs.Causes.{Cause, firstOf}
+use Rattle.money.specs.Causes.{Cause, firstOf, numberOf}
 use Rattle.money.specs.Days.{Calendar}
 use Rattle.money.proofs.Smallest.{rising, Least, least-cause}
 use Rattle.rules.specs.Book.{Book}
@@ -45,6 +45,16 @@ number-passes passes (c ∷ cs) k p e = go (c .applies) (passes (c .number)) ref
     go b false m f p e = let z : _≡_ {A = ℕ} 0 1 = cc in absurd (omega arith)
     go true true m f p e = let h : c .number ≡ k = cc in ap passes (sym h) ∙ m
     go false true m f p e = f p e
+
+-- 0 is no cause's number where all pass a test that 0 fails
+pub none-at-0 : (p : ℕ → Bool) (cs : List Cause) (n : ℕ) → p 0 ≡ false → numbers p cs ≡ true → n ≡ numberOf (firstOf cs) → n ≡ 0 → firstOf cs ≡ none
+none-at-0 p cs n fails all e z = go (firstOf cs) refl (sym e ∙ z)
+  where
+    go : (o : Option ℕ) → firstOf cs ≡ o → numberOf o ≡ 0 → o ≡ none
+    go none m l = refl
+    go (some k) m l =
+        let passes : p 0 ≡ true = rw l at (number-passes p cs k all m) in
+        let z : _≡_ {A = ℕ} 0 1 = cc in absurd (omega arith)
 
 -- a number that no event's cause has
 abbrev pub unused : ℕ → Bool
@@ -131,6 +141,17 @@ accepted-only-where-none-applies calendar book table entry a = go (unfit calenda
     go false (some k) e a =
         let b = own-number calendar book table entry k e .1 in
         let z : _≡_ {A = ℕ} 0 1 = cc in absurd (omega arith)
+
+-- and where one applies, nothing is changed
+pub refused-leaves-all : (calendar : Calendar) (book : Book) (table : List Trade) (entry : Entry) → accepted (step calendar book table entry .answer .number) ≡ false
+    → (step calendar book table entry .book ≡ book) × (step calendar book table entry .table ≡ table)
+unfolding step
+refused-leaves-all calendar book table entry r = go (firstOf (causes calendar book table entry)) r
+  where
+    go : (cause : Option ℕ) → accepted (refuseOr cause book table (actOn calendar book table entry) .answer .number) ≡ false
+        → (refuseOr cause book table (actOn calendar book table entry) .book ≡ book) × (refuseOr cause book table (actOn calendar book table entry) .table ≡ table)
+    go none r = absurd (false≢true (sym r ∙ acted-accepted calendar book table entry))
+    go (some number) r = (refl, refl)
 
 -- ---- number 1 is given to an unfit book or a long calendar alone
 

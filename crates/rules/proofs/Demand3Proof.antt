@@ -16,7 +16,6 @@ use Rattle.rules.specs.Step.{causes, actOn, refuseOr, step, accepted}
 use Rattle.rules.specs.Run.{Seen, see, run, Follows, lastBook, lastTable}
 use Rattle.rules.specs.Tally.{Tally, blank, tell, tallyOf}
 use Rattle.rules.specs.Demand3.{told, toldOf, isPay, InitialCovered, PaymentRight, All, AllBeside, movedAt, moneyMoved, seenFrom, tallyBeside, Demand3}
-use Rattle.rules.specs.Listing.{journalTable, entriesIn}
 use Rattle.rules.proofs.Signed.{same, diff-parts}
 use Rattle.rules.proofs.Answers.{turned-down}
 use Rattle.rules.proofs.Accepted.{Clear, all-clear}
@@ -111,7 +110,3 @@ demand3 calendar table entries =
       payments-whole-or-nothing = k .payments;
       money-moved-is-paid = sym (+ℤ-idl (moneyMoved (seenFrom calendar table entries))) ∙ k .moves;
     }
-
--- of the entries behind a run's lines: `run_listing` writes what this run shows
-pub listing-demand3 : (calendar : Calendar) (bytes : List ℕ) → Demand3 calendar journalTable (seenFrom calendar journalTable (entriesIn bytes))
-listing-demand3 calendar bytes = demand3 calendar journalTable (entriesIn bytes)

@@ -23,6 +23,7 @@ pub mod CashKept
 pub mod Agree
 pub mod EventsAgree
 pub mod Demand3Proof
+pub mod Demand3OfRuns
 -- the worked cases
 pub mod Opened
 pub mod Cases

@@ -1,9 +1,9 @@
 use borrow.Author.Needs.{needs}
 use mathlib.Core.Path.{refl, sym, _∙_}
-use mathlib.Core.Bool.{false≢true}
 use borrow.Author.Tests.{not-false}
 use Rattle.core.proofs.Fitting.{refuted, upheld}
 use Rattle.core.proofs.LentLaws.{step-parts, fit-in, refused-step, by-step}
+use Rattle.core.proofs.WholeLaws.{refused-keeps-all}
 use Rattle.core.proofs.lent.apply.Statement.{statement}
 use Rattle.core.proofs.lent.apply.Tie as tie
 
@@ -54,7 +54,13 @@ returns-2 c =
     let passed : tie.Else1 = search needs in
     let found = fit-in _ _ (upheld (passed .before .fitness-in .ensures .0) (passed .if1 .left)) in
     let done = at-entry-on .entry-on .ensures in
-    (step-parts _ _ _ (done .0) (done .1) ∙ sym (by-step _ _ (found .whole) _), λ z. absurd (false≢true (sym z ∙ found .whole)))
+    let left = step-parts _ _ _ (done .0) (done .1) in
+    let held : tie.After-held = search needs in
+    let table : tie.After-table = search needs in
+    let known : tie.After-slice-known4 = search needs in (
+      left ∙ sym (by-step _ _ (found .whole) _),
+      refused-keeps-all _ _ (found .long) (held .held .given) (table .table .given) (λ k. known .slice-known4 .given k .fits) (λ k. c .slice-known8 .given k .fits) _ _ left,
+    )
 
 pub apply-spec : {M : Type 1} → statement M
 apply-spec =

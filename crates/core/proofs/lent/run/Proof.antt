@@ -78,7 +78,7 @@ returns-3 c =
     let clear = lengths-clear _ _ _ (passed .before .lengths-refusal .ensures) (passed .if2 .left) in
     let done = at-run-events .run-events .ensures in
     let goes = goes-on _ _ _ _ _ (not-unfit _ _ _ (found .fits) (found .few)) clear in
-    (run-parts _ _ _ _ (ran-through _ _ _ _ _ (done .0)) (done .1) (done .2) ∙ sym (by-run _ _ _ _ (found .whole) ∙ goes), λ z. absurd (false≢true (sym z ∙ found .whole)))
+    (run-parts _ _ _ _ (ran-through _ _ _ _ _ (done .0)) (done .1) (done .2) ∙ sym (by-run _ _ _ _ (found .whole) ∙ goes), λ z. absurd (false≢true (sym z)))
 
 pub run-spec : {M : Type 1} → statement M
 run-spec =
