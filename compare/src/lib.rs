@@ -17,18 +17,21 @@ pub use proved::write_listing;
 /// What a lent buffer of numbers holds before a run; no line has it.
 pub const UNWRITTEN: u64 = 0xa5a5_a5a5_a5a5_a5a5;
 
-/// Bytes of events and numbers of a buffer that no run takes: bytes that are no
-/// whole events, more than 1,500 events, a buffer shorter than seven numbers an event.
-pub const BAD_LENGTHS: [(usize, usize); 9] = [
-    (1, 7),
-    (39, 7),
-    (41, 14),
-    (40 * 1_501, 7 * 1_501),
-    (40 * 1_501 + 39, 7 * 1_502),
-    (40, 0),
-    (40, 6),
-    (80, 13),
-    (40 * 1_500, 7 * 1_500 - 1),
+/// Bytes of events and numbers of a buffer that no run takes, with the answer: 18
+/// for bytes that are no whole events or more than 1,500 events, and before it 14
+/// for a buffer shorter than seven numbers an event.
+pub const BAD_LENGTHS: [((usize, usize), u8); 11] = [
+    ((1, 7), 18),
+    ((39, 7), 18),
+    ((41, 14), 18),
+    ((40 * 1_501, 7 * 1_501), 18),
+    ((40 * 1_501 + 39, 7 * 1_502), 18),
+    ((40, 0), 14),
+    ((40, 6), 14),
+    ((41, 6), 14),
+    ((80, 13), 14),
+    ((40 * 1_500, 7 * 1_500 - 1), 14),
+    ((40 * 1_501, 7 * 1_500), 14),
 ];
 
 /// Shows how often each pair of event and answer was met, and fails where one

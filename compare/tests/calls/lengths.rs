@@ -38,17 +38,17 @@ fn assert_refused(ledger: &Ledger, (bytes, room): (usize, usize), number: u8) {
 #[test]
 fn runs_of_bad_lengths_are_refused_and_leave_everything() {
     let ledger = ledger();
-    for lengths in BAD_LENGTHS {
-        assert_refused(&ledger, lengths, 18);
+    for (lengths, number) in BAD_LENGTHS {
+        assert_refused(&ledger, lengths, number);
     }
 }
 
-/// 1 comes before 18.
+/// 1 comes before 14 and 18.
 #[test]
 fn runs_of_bad_lengths_on_an_unfit_book_are_answered_1() {
     let mut ledger = ledger();
     ledger.book.own = u64::MAX;
-    for lengths in BAD_LENGTHS {
+    for (lengths, _) in BAD_LENGTHS {
         assert_refused(&ledger, lengths, 1);
     }
 }
@@ -82,7 +82,7 @@ fn cuts(table: &[book::Trade]) -> [Lengths; 8] {
     ]
 }
 
-/// By every call, and for runs 1 comes before 18.
+/// By every call, and for runs 1 comes before 14 and 18.
 #[test]
 fn rows_that_are_not_whole_are_answered_1_and_left() {
     let ledger = ledger();
@@ -92,7 +92,7 @@ fn rows_that_are_not_whole_are_answered_1_and_left() {
         let answer = lent::apply_cut(calendar, &mut rows, &mut table, cut, &FUND_IN.encode());
         assert_eq!(answer, Answer { number: 1, ..Answer::default() });
         assert_eq!(lent::cover_cut(calendar, &rows, &table, cut), (1, 0, 0));
-        for (bytes, room) in BAD_LENGTHS.into_iter().chain([(EVENT_BYTES, LINE_NUMBERS)]) {
+        for ((bytes, room), _) in BAD_LENGTHS.into_iter().chain([((EVENT_BYTES, LINE_NUMBERS), 0)]) {
             let (events, mut lines) = (funds(bytes), vec![UNWRITTEN; room]);
             assert_eq!(lent::run_into_cut(calendar, &mut rows, &mut table, cut, &events, &mut lines), 1);
             assert!(lines.iter().all(|&number| number == UNWRITTEN), "{bytes} bytes, room {room}");

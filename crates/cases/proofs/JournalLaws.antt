@@ -147,9 +147,9 @@ pub not-refused : (calendar bytes listing : List ℕ) (count : ℕ) → length c
 unfolding listingCauses lengthCauses
 not-refused calendar bytes listing count hw hb hn hm hr =
     skip 1 _ (le-ltb 1200 (length calendar) hw)
+    (skip 14 _ (le-ltb (length listing) (7 * (length bytes / 40)) (omega arith))
     (skip 18 _ (ap not (eq-eqb (length bytes % 40) 0 (omega arith)))
     (skip 18 _ (le-ltb 1500 (length bytes / 40) (omega arith))
-    (skip 18 _ (le-ltb (length listing) (7 * (length bytes / 40)) (omega arith))
     clear)))
 
 length-lines : (calendar : Calendar) (book : Book) (table : List Trade) (entries : List Entry) → length (linesOf (run calendar book table entries)) ≡ length entries * 7

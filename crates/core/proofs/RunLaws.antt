@@ -167,7 +167,7 @@ module _ (bytes room : ℕ) where
 
   pub lines-fit : firstOf (lengthCauses bytes room) ≡ none → 7 * (bytes / 40) ≤ room
   unfolding lengthCauses
-  lines-fit e = ltb-false room (7 * (bytes / 40)) (failed _ e 18 .1 .1 .0 refl)
+  lines-fit e = ltb-false room (7 * (bytes / 40)) (failed _ e 14 .0 refl)
 
 -- ---- a run on any book: when it is refused, and when it goes on
 

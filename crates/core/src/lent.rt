@@ -146,17 +146,17 @@ pub fn cover(
     cover::cover_from(scalars.size, figures)
 }
 
-// The lent lengths: whole events, no more than a journal's, and room for their lines.
+// The lent lengths: room for the events' lines, whole events, and no more than a journal's.
 pub fn lengths_refusal(bytes: usize, room: usize) -> u8
     ensures { λ r. ⌜ r ≡ numberOf (firstOf (lengthCauses bytes room)) ⌝ }
 {
+    if room < LINE_NUMBERS * (bytes / EVENT_BYTES) {
+        return 14;
+    }
     if bytes % EVENT_BYTES != 0 {
         return 18;
     }
     if bytes / EVENT_BYTES > EVENT_LIMIT {
-        return 18;
-    }
-    if room < LINE_NUMBERS * (bytes / EVENT_BYTES) {
         return 18;
     }
     0

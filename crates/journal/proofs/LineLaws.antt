@@ -93,7 +93,7 @@ in-front listing text text′ end h e p = rw (skip 14 [] (le-ltb _ _ h) clear, e
 pub run-clear : (words bytes room : ℕ) → words ≤ 1200 → bytes % 40 ≡ 0 → bytes / 40 ≤ 1500 → 7 * (bytes / 40) ≤ room → firstOf (listingCauses words bytes room) ≡ none
 unfolding listingCauses lengthCauses
 run-clear words bytes room w e c r =
-    skip 1 _ (le-ltb _ _ w) (skip 18 _ (rw (eq-eqb _ _ e)) (skip 18 _ (le-ltb _ _ c) (skip 18 _ (le-ltb _ _ r) clear)))
+    skip 1 _ (le-ltb _ _ w) (skip 14 _ (le-ltb _ _ r) (skip 18 _ (rw (eq-eqb _ _ e)) (skip 18 _ (le-ltb _ _ c) clear)))
 
 length-entries : (count : ℕ) (bytes : List ℕ) → length (entriesOf count bytes) ≡ count
 unfolding entriesOf

@@ -65,12 +65,12 @@ linesOf (seen ∷ more) = lineOf (seen .left) ++ linesOf more
 unfoldable pub listingOf : Calendar → List ℕ → List ℕ
 listingOf calendar bytes = linesOf (run calendar freshBook journalTable (entriesIn bytes))
 
--- 18: bytes that are no whole events, more than a journal holds, or a buffer too short for their lines
+-- 14, "a limit would be passed": a buffer too short for the events' lines; 18: bytes that are no whole events, or more than a journal holds
 unfoldable pub lengthCauses : (bytes room : ℕ) → List Cause
 lengthCauses bytes room =
-    (not (eqb (bytes % eventBytes) 0) ⇒ 18)
+    (ltb room (lineNumbers * (bytes / eventBytes)) ⇒ 14)
+    ∷ (not (eqb (bytes % eventBytes) 0) ⇒ 18)
     ∷ (ltb eventLimit (bytes / eventBytes) ⇒ 18)
-    ∷ (ltb room (lineNumbers * (bytes / eventBytes)) ⇒ 18)
     ∷ []
 
 -- 1: "calendar above 1,200 words"; a fresh book is fit

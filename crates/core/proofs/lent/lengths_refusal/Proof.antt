@@ -4,6 +4,9 @@ use Rattle.core.proofs.Column.{column}
 use Rattle.core.proofs.lent.lengths_refusal.Statement.{statement}
 use Rattle.core.proofs.lent.lengths_refusal.Tie as tie
 
+mul-if1 : tie.Need-mul-if1
+mul-if1 c = search needs
+
 returns : tie.Need-returns
 unfolding lengthCauses
 returns c = search column
@@ -11,9 +14,6 @@ returns c = search column
 returns-2 : tie.Need-returns-2
 unfolding lengthCauses
 returns-2 c = search column
-
-mul-if3 : tie.Need-mul-if3
-mul-if3 c = search needs
 
 returns-3 : tie.Need-returns-3
 unfolding lengthCauses
@@ -24,4 +24,4 @@ unfolding lengthCauses
 returns-4 c = search column
 
 pub lengths-refusal-spec : {M : Type 1} → statement M
-lengths-refusal-spec = tie.close (tie.spec returns returns-2 mul-if3 returns-3 returns-4)
+lengths-refusal-spec = tie.close (tie.spec mul-if1 returns returns-2 returns-3 returns-4)
