@@ -4,7 +4,7 @@ ghost use mathlib.Core.List.{[], _∷_};
 ghost use Prim.Native.Nat.{_+_, _≤_, _<_};
 ghost use lib.ListN.{length};
 ghost use Rattle.money.specs.Units.{sheets, ticks};
-ghost use Rattle.rules.specs.Entry.{eventBytes, numberAt, fieldsOf, restOf, termsOf, unless, onAccount, entryOf, decoded};
+ghost use Rattle.rules.specs.Entry.{eventBytes, numberAt, fieldsOf, restOf, termsOf, unless, onAccount, entryOf, IsEntryOf};
 use money::units::Fen;
 use money::units::Sheets;
 use money::units::Ticks;
@@ -206,7 +206,7 @@ fn entry_of(fields: Fields) -> Entry
 
 // The event of 40 bytes; any other number of bytes is no event.
 pub fn decode(bytes: &[u8]) -> Entry
-    ensures { λ r. ⌜ r ≡ decoded (now (bytes .entry)) ⌝ }
+    ensures { λ r. ⌜ IsEntryOf (now (bytes .entry)) r ⌝ }
 {
     if bytes.len() != EVENT_BYTES {
         return Entry::Undecodable;

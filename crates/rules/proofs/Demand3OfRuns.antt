@@ -37,7 +37,8 @@ module _ (calendar : Calendar) (table : List Trade) (bytes buffer : List ℕ) wh
   abbrev causes : List Cause
   causes = runCauses calendar freshBook table (length bytes) (length buffer)
 
-  number-is : (cause : Option ℕ) → refuseRun cause freshBook table buffer (runDone calendar freshBook table bytes buffer) .ran .number ≡ numberOf cause
+  number-is : (cause : Option ℕ)
+      → refuseRun cause freshBook table buffer (runDone calendar freshBook table bytes buffer) .ran .number ≡ numberOf cause
   unfolding runDone
   number-is none = refl
   number-is (some n) = refl
@@ -55,9 +56,11 @@ module _ (calendar : Calendar) (table : List Trade) (bytes buffer : List ℕ) wh
 
 -- from what `run_listing` promises of its number and of the buffer
 pub listing-meets-demand3 : (calendar : Calendar) (bytes buffer lines : List ℕ) (number : ℕ)
-    → (let cause = firstOf (listingCauses (length calendar) (length bytes) (length buffer)) in (number ≡ numberOf cause) × (lines ≡ writtenBy cause (listingOf calendar bytes) buffer))
+    → (let cause = firstOf (listingCauses (length calendar) (length bytes) (length buffer)) in
+    (number ≡ numberOf cause) × (lines ≡ writtenBy cause (listingOf calendar bytes) buffer))
     → number ≡ 0
-    → Demand3 calendar journalTable (seenIn calendar journalTable bytes) × (lines ≡ writtenBy none (linesOf (seenIn calendar journalTable bytes)) buffer)
+    → Demand3 calendar journalTable (seenIn calendar journalTable bytes)
+    × (lines ≡ writtenBy none (linesOf (seenIn calendar journalTable bytes)) buffer)
 unfolding listingOf listingCauses lengthCauses
 listing-meets-demand3 calendar bytes buffer lines number promised z =
     let clear = none-at-0 (λ k. not (eqb k 0)) (listingCauses (length calendar) (length bytes) (length buffer)) number refl refl (promised .0) z in

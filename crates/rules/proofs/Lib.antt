@@ -32,3 +32,4 @@ pub mod Falls
 -- laws of the decoder
 pub mod Bytes
 pub mod Unused
+pub mod Decoding

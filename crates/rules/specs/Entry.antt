@@ -1,11 +1,13 @@
 -- The twelve events, and how 40 bytes give one. (01, Twelve events; The journal)
 -- Assumes nothing.
 use Prim.Native.Nat.{ℕ, _+_, _*_}
-use mathlib.Core.Bool.{cond}
+use mathlib.Core.Path.{_≡_}
+use mathlib.Core.Bool.{Bool, false, not, cond, _&&_, _||_}
 use mathlib.Core.List.{List, [], _∷_}
-use lib.Dec.{eqb}
+use lib.Dec.{leb, eqb}
 use lib.ListN.{length, take, drop, getD}
 use Rattle.money.specs.Units.{fen, sheets, ticks}
+use Rattle.money.specs.Causes.{Cause, _⇒_, firstOf, numberOf}
 use Rattle.rules.specs.declared.trade.Terms.{Terms}
 pub use Rattle.rules.specs.declared.event.Fields.{Fields}
 pub use Rattle.rules.specs.declared.event.Account.{Account}
@@ -85,6 +87,42 @@ eventBytes = 40
 
 unfoldable pub decoded : List ℕ → Entry
 decoded bytes = cond (eqb (length bytes) eventBytes) (entryOf (fieldsOf bytes)) Undecodable
+
+-- ---- the number of each case, and when it is given
+
+-- "code not 1 to 12, account not 0 or 1, unused field not 0" is 2; an event that is known is put to the book
+abbrev pub entryNumber : Entry → ℕ
+entryNumber (Known event) = 0
+entryNumber Undecodable = 2
+
+abbrev pub among : (first last code : ℕ) → Bool
+among first last code = leb first code && leb code last
+
+-- a field that is not 0, though the event does not use it
+abbrev pub strays : (used : Bool) → (field : ℕ) → Bool
+strays used field = not used && not (eqb field 0)
+
+-- amount and kind, contract and price, fallback price and due day by the codes that use them; no event uses the other bytes
+unfoldable pub fieldCauses : Fields → List Cause
+fieldCauses f =
+    (not (among 1 12 (f .code)) ⇒ 2)
+    ∷ (among 2 3 (f .code) && not (eqb (f .kind) 0 || eqb (f .kind) 1) ⇒ 2)
+    ∷ (strays (among 2 10 (f .code)) (f .amount) ⇒ 2)
+    ∷ (strays (among 2 8 (f .code) && not (eqb (f .code) 4)) (f .kind) ⇒ 2)
+    ∷ (strays false (f .spare) ⇒ 2)
+    ∷ (strays (among 9 10 (f .code)) (f .contract) ⇒ 2)
+    ∷ (strays (among 9 10 (f .code)) (f .price) ⇒ 2)
+    ∷ (strays (eqb (f .code) 9) (f .fallback) ⇒ 2)
+    ∷ (strays (eqb (f .code) 9) (f .due) ⇒ 2)
+    ∷ (strays false (f .last) ⇒ 2)
+    ∷ []
+
+unfoldable pub decodingCauses : List ℕ → List Cause
+decodingCauses bytes = (not (eqb (length bytes) eventBytes) ⇒ 2) ∷ fieldCauses (fieldsOf bytes)
+
+-- what is promised of bytes that are decoded: which entry they are, and its number
+abbrev pub IsEntryOf : List ℕ → Entry → Type 0
+IsEntryOf bytes entry = (entry ≡ decoded bytes) × (entryNumber entry ≡ numberOf (firstOf (decodingCauses bytes)))
 
 -- an event's code, 0 for what does not decode
 abbrev pub codeOf : Entry → ℕ

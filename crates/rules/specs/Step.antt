@@ -12,7 +12,7 @@ use Rattle.money.specs.Days.{Calendar}
 use Rattle.rules.specs.Book.{Book, Answer, answer}
 use Rattle.rules.specs.Trades.{Trade}
 use Rattle.rules.specs.Fit.{fit}
-use Rattle.rules.specs.Entry.{Event, Open, FundIn, FundOut, Size, Rate, Pledge, Freeze, Withdraw, Initial, Early, Pay, Close, Entry, Known, Undecodable}
+use Rattle.rules.specs.Entry.{Event, Open, FundIn, FundOut, Size, Rate, Pledge, Freeze, Withdraw, Initial, Early, Pay, Close, Entry, Known, Undecodable, entryNumber}
 use Rattle.rules.specs.Open.{openCauses, openedBook, openedTable}
 use Rattle.rules.specs.Funds.{fundInCauses, fundedIn, fundOutCauses, fundedOut}
 use Rattle.rules.specs.Size.{sizeCauses, sized}
@@ -49,10 +49,10 @@ eventCauses calendar book table (Early contract count price) = earlyCauses calen
 eventCauses calendar book table Pay = payCauses book
 eventCauses calendar book table Close = closeCauses calendar book table
 
--- "code not 1 to 12, account not 0 or 1, unused field not 0" is 2
+-- what does not decode has its own number
 abbrev pub entryCauses : Calendar → Book → List Trade → Entry → List Cause
 entryCauses calendar book table (Known event) = eventCauses calendar book table event
-entryCauses calendar book table Undecodable = (true ⇒ 2) ∷ []
+entryCauses calendar book table Undecodable = (true ⇒ entryNumber Undecodable) ∷ []
 
 -- "book not fit, or calendar above 1,200 words" is 1
 abbrev pub unfit : Calendar → Book → List Trade → Bool

@@ -35,11 +35,11 @@ module _ (c : tie.After-entry-on) where
 
   applied : appliedAt (c .entry-on .result) rows ≡ appliedOf left
   applied =
-      rw (decoded-by c .decode .ensures) at (c .entry-on .ensures .0)
+      rw (decoded-by c .decode .ensures .0) at (c .entry-on .ensures .0)
 
   tabled : tradesOf (c .entry-on .last .1 .1 .1 .1 .1 .0) ≡ left .table
   tabled =
-      rw (decoded-by c .decode .ensures) at (c .entry-on .ensures .1)
+      rw (decoded-by c .decode .ensures .0) at (c .entry-on .ensures .1)
 
   still-fit : fit (start .args .calendar .now) (bookOf (c .entry-on .result .scalars) rows) (tradesOf (c .entry-on .last .1 .1 .1 .1 .1 .0)) ≡ true
   still-fit = fit-after _ _ _ _ (start .pre .0 .fits) (appliedAt (c .entry-on .result) rows) _ (c .entry-on .ensures .0) (c .entry-on .ensures .1)

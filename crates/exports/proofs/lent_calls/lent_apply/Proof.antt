@@ -49,7 +49,7 @@ returns-2 c =
     let applied = at-apply .apply in
     let tested : tie.Else1 = search needs in
     let formed = upheld (tested .before .is-well-formed .ensures) (tested .if1 .left) in (
-      λ z. rw (c .of-done .ensures, scalars-back (applied .result .scalars), ← (at-scalars-from .scalars-from .ensures), ← (at-decode .decode .ensures)) (applied .ensures .0, refl, applied .ensures .1),
+      λ z. rw (c .of-done .ensures, scalars-back (applied .result .scalars), ← (at-scalars-from .scalars-from .ensures), ← (at-decode .decode .ensures .0)) (applied .ensures .0, refl, applied .ensures .1),
       λ z. absurd (false≢true (sym z ∙ formed)),
     )
 
