@@ -12,7 +12,7 @@ use lib.ListN.{length}
 use Rattle.money.specs.Causes.{Cause, firstOf, numberOf}
 use Rattle.money.proofs.Refusals.{hit, skip, clear, failed}
 use Rattle.rules.proofs.Answers.{numbers, number-passes}
-use Rattle.journal.specs.Sections.{Section, Sections, sectionNumber, sectionsNumber, IsSectionAt, AreSectionsOf, Whole, Malformed, Both, Refused, countAt, sectionEnd, sectionCauses, sectionBy, sectionAt, wordCount, eventCount, eventsAt, journalCauses, sectionsBy, sectionsOf}
+use Rattle.journal.specs.Sections.{Section, Sections, sectionNumber, sectionsNumber, IsSectionAt, AreSectionsOf, Whole, Malformed, Both, Refused, countAt, sectionEnd, sectionCauses, sectionBy, sectionAt, pastBy, pastSection, leftFrom, wordCount, eventCount, eventsAt, journalCauses, sectionsBy, sectionsOf}
 
 -- ---- causes in a row
 
@@ -94,6 +94,10 @@ module _ (limit width at : ℕ) (bytes : List ℕ) where
           record { clear = c; counted = counted; high = rw counted (within c .0); room = rw counted (within c .1) }
       go (some k) c w = let z : _≡_ {A = ℕ} 0 1 = cc in absurd (omega arith)
 
+  pub past-whole : (n : ℕ) → sectionAt limit width at bytes ≡ Whole n → at + 4 + n * width ≡ pastSection limit width at bytes
+  unfolding pastBy
+  past-whole n e = let r = read n e in rw (r .clear, r .counted)
+
   -- or why it was not
   pub record Cut : Type 0 where
     pub number : ℕ
@@ -106,6 +110,10 @@ module _ (limit width at : ℕ) (bytes : List ℕ) where
       go : (o : Option ℕ) → firstOf (sectionCauses limit width at bytes) ≡ o → sectionBy o (countAt at bytes) ≡ Malformed → Cut
       go none c w = let z : _≡_ {A = ℕ} 0 1 = cc in absurd (omega arith)
       go (some k) c w = record { number = k; first = c }
+
+  pub past-cut : sectionAt limit width at bytes ≡ Malformed → at ≡ pastSection limit width at bytes
+  unfolding pastBy
+  past-cut e = rw (cut e .first)
 
 -- ---- both sections and the end
 
@@ -227,3 +235,42 @@ told limit width at bytes e = (e, rw e (section-number limit width at bytes))
 
 pub both-told : (bytes : List ℕ) {sections : Sections} → sections ≡ sectionsOf bytes → AreSectionsOf bytes sections
 both-told bytes e = (e, rw e (sections-number bytes))
+
+-- ---- what a reader finds that goes from the first byte over both sections
+
+module _ (bytes : List ℕ) where
+  pub no-calendar : (k : ℕ) → k ≡ 0 → IsSectionAt 1200 4 k bytes Malformed → AreSectionsOf bytes Refused
+  no-calendar k e here = both-told bytes (calendar-cut bytes (sym (rw e at (here .0))))
+
+  -- it stands at the events
+  pub record AtEvents (words k : ℕ) : Type 0 where
+    pub calendar : Read 1200 4 0 bytes words
+    pub starts : k ≡ 4 + words * 4
+
+  pub to-events : (words k k′ : ℕ) → k ≡ 0 → IsSectionAt 1200 4 k bytes (Whole words) → k′ ≡ pastSection 1200 4 k bytes → AtEvents words k′
+  to-events words k k′ e here passed =
+      let there : sectionAt 1200 4 0 bytes ≡ Whole words = sym (rw e at (here .0)) in
+      let from : k′ ≡ pastSection 1200 4 0 bytes = rw e at passed in
+      record { calendar = read 1200 4 0 bytes words there; starts = omega (arith, from, past-whole 1200 4 0 bytes words there) }
+
+  module _ (words k : ℕ) (at : AtEvents words k) where
+    pub no-events : IsSectionAt 1500 40 k bytes Malformed → AreSectionsOf bytes Refused
+    no-events here = both-told bytes (events-cut bytes words (at .calendar) (sym (rw (at .starts) at (here .0))))
+
+    -- it stands behind them
+    pub record AtEnd (events k′ : ℕ) : Type 0 where
+      pub events-read : Read 1500 40 (4 + words * 4) bytes events
+      pub finish : k′ ≡ 4 + words * 4 + 4 + events * 40
+
+    pub to-end : (events k′ : ℕ) → IsSectionAt 1500 40 k bytes (Whole events) → k′ ≡ pastSection 1500 40 k bytes → AtEnd events k′
+    to-end events k′ here passed =
+        let there : sectionAt 1500 40 (4 + words * 4) bytes ≡ Whole events = sym (rw (at .starts) at (here .0)) in
+        let from : k′ ≡ pastSection 1500 40 (4 + words * 4) bytes = rw (at .starts) at passed in
+        record { events-read = read 1500 40 _ bytes events there; finish = from ∙ sym (past-whole 1500 40 _ bytes events there) }
+
+    module _ (events k′ left : ℕ) (end : AtEnd events k′) (counted : left ≡ leftFrom k′ bytes) where
+      pub some-left : 0 < left → AreSectionsOf bytes Refused
+      some-left h = both-told bytes (left-over bytes words (at .calendar) events (end .events-read) (omega (arith, counted, end .finish)))
+
+      pub none-left : left ≤ 0 → AreSectionsOf bytes (Both words events)
+      none-left h = both-told bytes (ended bytes words (at .calendar) events (end .events-read) (omega (arith, counted, end .finish)))

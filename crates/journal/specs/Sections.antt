@@ -1,7 +1,7 @@
 -- Which bytes are a journal, its calendar and its events' bytes. (01, The journal)
 -- Assumes nothing.
 use mathlib.Core.Path.{_≡_}
-use Prim.Native.Nat.{ℕ, zero, suc, _+_, _*_}
+use Prim.Native.Nat.{ℕ, zero, suc, _+_, _-_, _*_}
 use mathlib.Core.List.{List, [], _∷_, _++_}
 use mathlib.Core.Option.{Option, none, some}
 use lib.Dec.{ltb}
@@ -86,6 +86,18 @@ sectionNumber Malformed = 18
 abbrev pub IsSectionAt : (limit width at : ℕ) → List ℕ → Section → Type 0
 IsSectionAt limit width at bytes section =
     (section ≡ sectionAt limit width at bytes) × (sectionNumber section ≡ numberOf (firstOf (sectionCauses limit width at bytes)))
+
+-- where a reader stands that has passed a section: at its end, and where it was if the section is malformed
+unfoldable pub pastBy : Option ℕ → (at end : ℕ) → ℕ
+pastBy none at end = end
+pastBy (some number) at end = at
+
+abbrev pub pastSection : (limit width at : ℕ) → List ℕ → ℕ
+pastSection limit width at bytes = pastBy (firstOf (sectionCauses limit width at bytes)) at (sectionEnd width at bytes)
+
+-- how many bytes are left from a place on, none past the end
+abbrev pub leftFrom : (at : ℕ) → List ℕ → ℕ
+leftFrom at bytes = length bytes - at
 
 -- what reading both answers: their counts, or that the journal is malformed
 unfoldable pub sectionsBy : Option ℕ → (words events : ℕ) → Sections

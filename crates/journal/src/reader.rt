@@ -1,8 +1,10 @@
 // A reader over the lent journal keeps its place. Each function over it is thin: it takes the reader apart and leaves the
-// work to `section_at`.
+// work to `section`, which has a slice and numbers.
 ghost use mathlib.Core.Path.{_≡_};
-ghost use Rattle.journal.specs.Sections.{IsSectionAt};
+ghost use Rattle.journal.specs.Sections.{IsSectionAt, leftFrom, pastSection};
 use crate::section::Section;
+use crate::section::left_from;
+use crate::section::past_section;
 use crate::section::section_at;
 
 pub struct Reader<'a> {
@@ -17,16 +19,6 @@ pub fn new<'a>(journal: &'a [u8]) -> Reader<'a>
     Reader { journal, at: 0 }
 }
 
-// The reader at another place of the same journal.
-pub fn moved<'a>(reader: Reader<'a>, at: usize) -> Reader<'a>
-    ensures { λ r. ⌜ (r .journal ≡ reader .entry .journal) × (r .at ≡ at) ⌝ }
-{
-    Reader {
-        journal: reader.journal,
-        at,
-    }
-}
-
 // The section at the reader's place.
 pub fn section<'a>(reader: Reader<'a>, limit: u32, width: u32) -> Section
     ensures { λ s. ⌜ IsSectionAt limit width (reader .entry .at) (now (reader .entry .journal)) s ⌝ }
@@ -34,9 +26,22 @@ pub fn section<'a>(reader: Reader<'a>, limit: u32, width: u32) -> Section
     section_at(reader.journal, reader.at, limit, width)
 }
 
-// The section at a place, for callers that hold no reader.
-pub fn section_from(journal: &[u8], at: usize, limit: u32, width: u32) -> Section
-    ensures { λ s. ⌜ IsSectionAt limit width at (now (journal .entry)) s ⌝ }
+// The reader past that section; where it is malformed, the reader as it was.
+pub fn past<'a>(reader: Reader<'a>, limit: u32, width: u32) -> Reader<'a>
+    ensures { λ r.
+        ⌜ (r .journal ≡ reader .entry .journal)
+        × (r .at ≡ pastSection limit width (reader .entry .at) (now (reader .entry .journal))) ⌝ }
 {
-    section(moved(new(journal), at), limit, width)
+    let at = past_section(reader.journal, reader.at, limit, width);
+    Reader {
+        journal: reader.journal,
+        at,
+    }
+}
+
+// How many bytes are left from the reader's place on.
+pub fn left<'a>(reader: Reader<'a>) -> usize
+    ensures { λ n. ⌜ n ≡ leftFrom (reader .entry .at) (now (reader .entry .journal)) ⌝ }
+{
+    left_from(reader.journal, reader.at)
 }

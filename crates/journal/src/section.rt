@@ -3,7 +3,7 @@ ghost use mathlib.Core.Path.{_≡_};
 ghost use Prim.Native.Nat.{_+_, _≤_, _<_};
 ghost use lib.ListN.{length};
 ghost use Rattle.rules.specs.Entry.{numberAt};
-ghost use Rattle.journal.specs.Sections.{IsSectionAt};
+ghost use Rattle.journal.specs.Sections.{IsSectionAt, leftFrom, pastSection};
 
 // "each after its count, all little-endian: a 32-bit count"
 pub const COUNT_BYTES: usize = 4;
@@ -39,14 +39,21 @@ pub(crate) fn number4(bytes: &[u8], at: usize) -> u32
     number2(bytes, at) + number2(bytes, at + 2) * 65_536
 }
 
+// How many bytes are left from a place on.
+pub fn left_from(journal: &[u8], at: usize) -> usize
+    ensures { λ r. ⌜ r ≡ leftFrom at (now (journal .entry)) ⌝ }
+{
+    if journal.len() < at {
+        return 0;
+    }
+    journal.len() - at
+}
+
 // The section that starts at a place, its pieces `width` bytes each.
 pub fn section_at(journal: &[u8], at: usize, limit: u32, width: u32) -> Section
     ensures { λ r. ⌜ IsSectionAt limit width at (now (journal .entry)) r ⌝ }
 {
-    if journal.len() < at {
-        return Section::Malformed;
-    }
-    let left = journal.len() - at;
+    let left = left_from(journal, at);
     if left < COUNT_BYTES {
         return Section::Malformed;
     }
@@ -59,4 +66,14 @@ pub fn section_at(journal: &[u8], at: usize, limit: u32, width: u32) -> Section
         return Section::Malformed;
     }
     Section::Whole(count as usize)
+}
+
+// The place past that section. A malformed one is not passed: the place stays, so that there always is one.
+pub fn past_section(journal: &[u8], at: usize, limit: u32, width: u32) -> usize
+    ensures { λ r. ⌜ r ≡ pastSection limit width at (now (journal .entry)) ⌝ }
+{
+    let Section::Whole(count) = section_at(journal, at, limit, width) else {
+        return at;
+    };
+    at + COUNT_BYTES + count * width as usize
 }
