@@ -1,19 +1,21 @@
--- How long a listing can be, and that what was written lies within the lent text: for callers of write_listing.
+-- How long a journal and its listing can be, and that what was written lies within the lent text: for callers of write_listing.
 -- Assumes nothing.
-use mathlib.Core.Path.{_≡_, refl}
+use mathlib.Core.Path.{_≡_, refl, sym, ap, _∙_}
 use mathlib.Core.Bool.{Bool, true, false, cond}
 use mathlib.Core.List.{List, _∷_}
 use mathlib.Core.Option.{Option, none, some}
-use Prim.Native.Nat.{ℕ, zero, suc, _*_, _≤_}
+use Prim.Native.Nat.{ℕ, zero, suc, _+_, _*_, _≤_, _<_}
 use native.Mathlib.Omega.{arith}
-use borrow.Author.Tests.{ltb-false}
-use lib.Dec.{ltb, eqb}
-use lib.ListN.{length, drop, length-append}
+use borrow.Author.Tests.{ltb-false, le-ltb, leb-true, leb-false}
+use lib.Dec.{ltb, leb, eqb}
+use lib.ListN.{length, take, drop, length-append}
+use lib.Seq.{take-all, take-at, length-take-le}
 use Rattle.money.specs.Causes.{firstOf, resultOf}
 use Rattle.rules.specs.Listing.{listingOf}
 use Rattle.journal.specs.Sections.{eventCount, calendarOf, eventsOf, journalCauses}
 use Rattle.journal.specs.Text.{Line, decimal, spaced, signed, lineFrom, lineText}
-use Rattle.journal.specs.Listing.{Written, linesText, refusedLine, listingBy, listingText, textCauses, answerOf}
+use Rattle.journal.specs.Listing.{Written, linesText, refusedLine, listingBy, listingText, textCauses, answerOf, textAfter}
+use Rattle.journal.specs.Limits.{journalBytes, lineBytes, listingBytes}
 use Rattle.journal.proofs.TextLaws.{length-decimal, length-spaced, length-line}
 use Rattle.journal.proofs.SectionLaws.{journal-within}
 
@@ -25,7 +27,7 @@ length-signed negative size = go (eqb negative 0)
     go true = omega (arith, length-decimal size)
     go false = omega (arith, length-decimal size)
 
-line-high : (place : ℕ) (line : Line) → length (lineText place line) ≤ 148
+line-high : (place : ℕ) (line : Line) → length (lineText place line) ≤ lineBytes
 line-high place line =
     omega (
       arith,
@@ -44,7 +46,7 @@ line-high place line =
       length-decimal (line .guarantee),
     )
 
-lines-high : (count : ℕ) (numbers : List ℕ) → length (linesText count numbers) ≤ 148 * count
+lines-high : (count : ℕ) (numbers : List ℕ) → length (linesText count numbers) ≤ lineBytes * count
 unfolding linesText
 lines-high zero numbers = omega arith
 lines-high (suc count) numbers =
@@ -55,14 +57,44 @@ lines-high (suc count) numbers =
       lines-high count numbers,
     )
 
--- no bytes have a listing of more than 222,000
-pub listing-high : (bytes : List ℕ) → length (listingText bytes) ≤ 222000
+-- no bytes have a listing that is longer
+pub listing-high : (bytes : List ℕ) → length (listingText bytes) ≤ listingBytes
 unfolding listingText listingBy refusedLine
 listing-high bytes = go (firstOf (journalCauses bytes)) refl
   where
-    go : (o : Option ℕ) → firstOf (journalCauses bytes) ≡ o → length (listingBy o bytes) ≤ 222000
+    go : (o : Option ℕ) → firstOf (journalCauses bytes) ≡ o → length (listingBy o bytes) ≤ listingBytes
     go none e = omega (arith, lines-high (eventCount bytes) (listingOf (calendarOf bytes) (eventsOf bytes)), journal-within bytes e .1)
     go (some number) e = omega arith
+
+-- bytes that are too many for a journal are none
+too-long : (bytes : List ℕ) → journalBytes < length bytes → listingText bytes ≡ refusedLine
+unfolding listingText listingBy
+too-long bytes h = go (firstOf (journalCauses bytes)) refl
+  where
+    go : (o : Option ℕ) → firstOf (journalCauses bytes) ≡ o → listingBy o bytes ≡ refusedLine
+    go none e =
+        let within = journal-within bytes e in
+        absurd (omega (arith, h, within .0, within .1, within .2))
+    go (some number) e = refl
+
+-- an input may be cut anywhere behind the longest journal: a longer one is none, cut or not
+pub cut-listing : (room : ℕ) (bytes : List ℕ) → journalBytes < room → listingText (take room bytes) ≡ listingText bytes
+cut-listing room bytes more = go (leb (length bytes) room) refl
+  where
+    go : (b : Bool) → leb (length bytes) room ≡ b → listingText (take room bytes) ≡ listingText bytes
+    go true m = ap listingText (take-all room bytes (leb-true _ _ m))
+    go false m =
+        let long : room < length bytes = leb-false _ _ m in
+        let cut : length (take room bytes) ≡ room = length-take-le room bytes (omega (arith, long)) in
+        too-long (take room bytes) (omega (arith, cut, more)) ∙ sym (too-long bytes (omega (arith, long, more)))
+
+-- where there is room for the longest listing, every listing is written
+pub room-for-all : (bytes text : List ℕ) → listingBytes ≤ length text
+    → (answerOf (listingText bytes) text .length ≡ length (listingText bytes)) × (take (length (listingText bytes)) (textAfter (listingText bytes) text) ≡ listingText bytes)
+unfolding answerOf textAfter textCauses firstOf
+room-for-all bytes text h =
+    rw (le-ltb (length text) (length (listingText bytes)) (omega (arith, listing-high bytes)))
+    (refl, take-at (listingText bytes) _ (length (listingText bytes)) refl)
 
 -- what was written lies within the text
 pub written-within : (listing text : List ℕ) (written : Written) → written ≡ answerOf listing text → written .length ≤ length text

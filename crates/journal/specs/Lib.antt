@@ -2,5 +2,7 @@
 pub mod Sections
 pub mod Text
 pub mod Listing
+-- for callers that lend a buffer
+pub mod Limits
 -- for private contracts
 pub mod Buffer

@@ -10,6 +10,9 @@ pub mod sections;
 // The listing of a journal, as text.
 pub mod listing;
 
+// How long a journal and its listing can be.
+pub mod limits;
+
 // Words and text, piece by piece.
 mod calendar;
 mod text;

@@ -4,6 +4,7 @@ ghost use Prim.Native.Nat.{_+_, _≤_};
 ghost use lib.ListN.{length, drop};
 ghost use Rattle.rules.specs.Listing.{lineNumbers};
 ghost use Rattle.journal.specs.Text.{decimal, spaced, signed, lineFrom, lineText};
+ghost use Rattle.journal.specs.Limits.{lineBytes};
 ghost use Rattle.journal.specs.Buffer.{placed};
 use rules::limits::LINE_NUMBERS;
 
@@ -97,7 +98,7 @@ pub fn line_at(lines: &[u64], from: usize) -> Line
 
 // How many bytes a line takes: beside its numbers five spaces and the line end.
 pub fn line_length(place: usize, line: Line) -> usize
-    ensures { λ r. ⌜ (r ≡ length (lineText place line)) × (r ≤ 148) ⌝ }
+    ensures { λ r. ⌜ (r ≡ length (lineText place line)) × (r ≤ lineBytes) ⌝ }
 {
     let headroom = signed_length(line.negative, line.size);
     let front = number_length(place as u64) + number_length(line.answer);

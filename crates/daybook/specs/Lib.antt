@@ -1,0 +1,2 @@
+-- The program daybook: what it lists.
+pub mod Input
