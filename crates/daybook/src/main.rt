@@ -11,6 +11,9 @@ use libc::STDOUT_FILENO;
 // One byte more than the longest journal, so that a longer input is malformed as it is.
 const INPUT_BYTES: usize = JOURNAL_BYTES + 1;
 
+// Room for the longest listing.
+const TEXT_BYTES: usize = LISTING_BYTES;
+
 // How many bytes were read, or that a read failed.
 enum Input {
     Read(usize),
@@ -37,7 +40,7 @@ fn read_input(room: &mut [u8]) -> Input
 }
 
 // The listing of the input of which the first `size` bytes were read, in front of a text that has room for every listing.
-fn write_input(read: &[u8; INPUT_BYTES], size: usize, text: &mut [u8; LISTING_BYTES]) -> usize
+fn write_input(read: &[u8; INPUT_BYTES], size: usize, text: &mut [u8; TEXT_BYTES]) -> usize
     requires { ⌜ size ≤ length (now read) ⌝ }
     ensures { λ r. ⌜ Lists (length (now (read .entry))) (take size (now (read .entry))) (now (text .exit)) r ⌝ }
 {
@@ -52,7 +55,7 @@ fn main() {
         io::write_all(STDERR_FILENO, b"daybook: cannot read standard input\n");
         return;
     };
-    let mut text = [0; LISTING_BYTES];
+    let mut text = [0; TEXT_BYTES];
     let length = write_input(&read, size, &mut text);
     if !io::write_all(STDOUT_FILENO, &text[..length]) {
         io::write_all(STDERR_FILENO, b"daybook: cannot write the listing\n");

@@ -5,10 +5,11 @@ use mathlib.Core.Bool.{Bool, true, false, cond}
 use mathlib.Core.List.{List, _∷_}
 use mathlib.Core.Option.{Option, none, some}
 use Prim.Native.Nat.{ℕ, zero, suc, _+_, _*_, _≤_, _<_}
+use native.Mathlib.Numerals.{add-one}
 use native.Mathlib.Omega.{arith}
 use borrow.Author.Tests.{ltb-false, le-ltb, leb-true, leb-false}
 use lib.Dec.{ltb, leb, eqb}
-use lib.ListN.{length, take, drop, length-append}
+use lib.ListN.{length, take, drop}
 use lib.Seq.{take-all, take-at, length-take-le}
 use Rattle.money.specs.Causes.{firstOf, resultOf}
 use Rattle.rules.specs.Listing.{listingOf}
@@ -17,6 +18,7 @@ use Rattle.journal.specs.Text.{Line, decimal, spaced, signed, lineFrom, 
 use Rattle.journal.specs.Listing.{Written, linesText, refusedLine, listingBy, listingText, textCauses, answerOf, textAfter}
 use Rattle.journal.specs.Limits.{journalBytes, lineBytes, listingBytes}
 use Rattle.journal.proofs.TextLaws.{length-decimal, length-spaced, length-line}
+use Rattle.journal.proofs.LineLaws.{no-lines, length-next}
 use Rattle.journal.proofs.SectionLaws.{journal-within}
 
 length-signed : (negative size : ℕ) → length (signed negative size) ≤ 22
@@ -47,15 +49,10 @@ line-high place line =
     )
 
 lines-high : (count : ℕ) (numbers : List ℕ) → length (linesText count numbers) ≤ lineBytes * count
-unfolding linesText
-lines-high zero numbers = omega arith
+lines-high zero numbers = omega (arith, ap length (no-lines numbers))
 lines-high (suc count) numbers =
-    omega (
-      arith,
-      length-append (linesText count numbers) (lineText (suc count) (lineFrom (drop (count * 7) numbers))),
-      line-high (suc count) (lineFrom (drop (count * 7) numbers)),
-      lines-high count numbers,
-    )
+    let line = lineFrom (drop (count * 7) numbers) in
+    omega (arith, rw (add-one count) at (length-next numbers count line refl), line-high (suc count) line, lines-high count numbers)
 
 -- no bytes have a listing that is longer
 pub listing-high : (bytes : List ℕ) → length (listingText bytes) ≤ listingBytes

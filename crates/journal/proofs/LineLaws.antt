@@ -46,7 +46,8 @@ row-read numbers n long =
 
 pub next-lines : (numbers : List ℕ) (k : ℕ) (line : Line) → line ≡ lineFrom (drop (k * 7) numbers) → linesText (k + 1) numbers ≡ linesText k numbers ++ lineText (k + 1) line
 unfolding linesText
-next-lines numbers k line e = rw (add-one k, e)
+next-lines numbers k line e =
+    rw (add-one k, e) (ap (λ (place : ℕ). linesText k numbers ++ lineText place (lineFrom (drop (k * 7) numbers))) (omega arith))
 
 pub length-next : (numbers : List ℕ) (k : ℕ) (line : Line) → line ≡ lineFrom (drop (k * 7) numbers) → length (linesText (k + 1) numbers) ≡ length (linesText k numbers) + length (lineText (k + 1) line)
 length-next numbers k line e = ap length (next-lines numbers k line e) ∙ length-append (linesText k numbers) (lineText (k + 1) line)
@@ -56,9 +57,10 @@ unfolding linesText
 no-lines numbers = refl
 
 grows : (numbers : List ℕ) (k more : ℕ) → length (linesText k numbers) ≤ length (linesText (k + more) numbers)
-unfolding linesText
 grows numbers k zero = rw (add-zero k) (le-refl _)
-grows numbers k (suc more) = rw (add-suc k more) (omega (arith, length-append (linesText (k + more) numbers) (lineText (suc (k + more)) (lineFrom (drop ((k + more) * 7) numbers))), grows numbers k more))
+grows numbers k (suc more) =
+    let line = lineFrom (drop ((k + more) * 7) numbers) in
+    rw (add-suc k more) (omega (arith, rw (add-one (k + more)) at (length-next numbers (k + more) line refl), grows numbers k more))
 
 -- the first lines are no longer than all
 pub within : (numbers : List ℕ) (k count : ℕ) → k ≤ count → length (linesText k numbers) ≤ length (linesText count numbers)

@@ -1,6 +1,6 @@
 -- The bytes that a journal's listing is, and the call that writes them. (01, The journal)
 -- Assumes nothing.
-use Prim.Native.Nat.{ℕ, zero, suc, _*_}
+use Prim.Native.Nat.{ℕ, zero, suc, _+_, _*_}
 use mathlib.Core.List.{List, [], _∷_, _++_}
 use mathlib.Core.Option.{Option, none, some}
 use lib.Dec.{ltb}
@@ -14,7 +14,7 @@ pub use Rattle.journal.specs.declared.listing.Written.{Written}
 -- "prints per event": the lines of the first events from all events' numbers, the place of each "from 1"
 unfoldable pub linesText : (count : ℕ) → List ℕ → List ℕ
 linesText zero numbers = []
-linesText (suc count) numbers = linesText count numbers ++ lineText (suc count) (lineFrom (drop (count * lineNumbers) numbers))
+linesText (suc count) numbers = linesText count numbers ++ lineText (count + 1) (lineFrom (drop (count * lineNumbers) numbers))
 
 -- "the line `journal refused`"
 unfoldable pub refusedLine : List ℕ

@@ -1,13 +1,18 @@
+use mathlib.Core.Path.{_≡_, refl}
+use native.Mathlib.Omega.{arith}
 use borrow.Author.Needs.{needs}
+use lib.ListN.{length}
 use Rattle.journal.specs.Listing.{refusedLine}
 use Rattle.journal.proofs.LineLaws.{too-short, in-front}
-use borrow.Author.Needs.{needs}
 use Rattle.journal.proofs.listing.write_refused.Statement.{statement}
 use Rattle.journal.proofs.listing.write_refused.Tie as tie
 
-returns : tie.Need-returns
+line-long : length refusedLine ≡ 16
 unfolding refusedLine
-returns c = too-short refusedLine _ (c .if1 .taken)
+line-long = refl
+
+returns : tie.Need-returns
+returns c = too-short refusedLine _ (omega (arith, line-long, c .if1 .taken))
 
 slice-aggregate-put : tie.Need-slice-aggregate-put
 slice-aggregate-put c = search needs
@@ -23,7 +28,7 @@ unfolding refusedLine
 returns-2 c =
     let room : tie.Else1 = search needs in
     let put : tie.After-put = search needs in
-    in-front refusedLine _ _ _ (room .if1 .left) (put .put .ensures .0) (put .put .ensures .1)
+    in-front refusedLine _ _ _ (omega (arith, line-long, room .if1 .left)) (put .put .ensures .0) (put .put .ensures .1)
 
 pub write-refused-spec : {M : Type 1} → statement M
 write-refused-spec =
