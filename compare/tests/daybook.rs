@@ -166,3 +166,16 @@ fn journals_that_come_in_small_pieces_are_listed_alike() {
         assert_lists(name, &output_of(bytes.chunks(length), PAUSE), &listing(bytes));
     }
 }
+
+/// A folder can be opened, but not read, and /dev/full takes no byte.
+#[test]
+fn a_failed_read_or_write_is_told_on_standard_error() {
+    let (folder, full) = (File::open("/").unwrap(), File::options().write(true).open("/dev/full").unwrap());
+    let unread = start(folder.into(), Stdio::piped()).wait_with_output().expect("daybook ends");
+    assert!(unread.stdout.is_empty(), "written: {}", String::from_utf8_lossy(&unread.stdout));
+    let example = File::open(EXAMPLE).unwrap();
+    let unwritten = start(example.into(), full.into()).wait_with_output().expect("daybook ends");
+    for (failed, said) in [("read", unread.stderr), ("write", unwritten.stderr)] {
+        assert!(said.iter().any(|byte| !byte.is_ascii_whitespace()), "a failed {failed} is not told");
+    }
+}
