@@ -2,6 +2,7 @@ use mathlib.Core.Path.{_≡_, sym, ap}
 use Prim.Native.Nat.{_-_, _*_, _≤_}
 use native.Mathlib.Omega.{arith}
 use lib.ListN.{length}
+use Rattle.journal.specs.Limits.{lineBytes}
 use Rattle.journal.specs.Listing.{linesText}
 use Rattle.journal.proofs.LineLaws.{no-lines, length-next}
 use borrow.Author.Needs.{needs}
@@ -9,7 +10,7 @@ use Rattle.journal.proofs.listing.lines_length.Statement.{statement}
 use Rattle.journal.proofs.listing.lines_length.Tie as tie
 
 abbrev Inv-loop : tie.InvT-loop
-Inv-loop lines count total₀ k₀ total k = (k ≤ count) × (total ≡ length (linesText k lines)) × (total ≤ 148 * k)
+Inv-loop lines count total₀ k₀ total k = (k ≤ count) × (total ≡ length (linesText k lines)) × (total ≤ lineBytes * k)
 
 abbrev μ-loop : tie.MeasureT-loop
 μ-loop lines count total₀ k₀ total k = count - k
