@@ -1,11 +1,10 @@
 -- A refusal's number and the causes that it stands for: 0 where none applies, else the number of the first that does.
 -- For the events, which ask for the number first. Assumes nothing.
-use mathlib.Core.Path.{_≡_, refl, sym, ap, _∙_}
-use mathlib.Core.Bool.{Bool, true, false, not}
+use mathlib.Core.Path.{_≡_, refl, sym, ap}
+use mathlib.Core.Bool.{not}
 use mathlib.Core.List.{List, []}
 use mathlib.Core.Option.{Option, none, some}
 use Prim.Native.Nat.{ℕ}
-use native.Mathlib.Omega.{arith}
 use Rattle.money.specs.Causes.{Cause, firstOf, numberOf}
 use Rattle.money.specs.Days.{Calendar}
 use Rattle.rules.specs.Book.{answer}

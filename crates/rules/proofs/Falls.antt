@@ -9,7 +9,6 @@ use native.Mathlib.Omega.{arith}
 use borrow.Author.Tests.{not-true}
 use lib.Dec.{eqb}
 use lib.IntN.{ℤ, pos, negsuc, natAbs, _-ℤ_}
-use Rattle.money.specs.Days.{Calendar}
 use Rattle.rules.specs.Book.{Book, freshBook, answer, withCash}
 use Rattle.rules.specs.Trades.{Trade}
 use Rattle.rules.specs.Entry.{Open, Pay, Close, Entry, Known}
