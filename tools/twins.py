@@ -3,7 +3,7 @@
 
 A must-fail edit that is refused may only no longer fit its proof. Its twin, crates/CRATE/twins/NAME.edit, is an edit of the same
 place that changes nothing: it must be proved. Each is made in a copy of the repository, FOLDER, checked with `rt dev`, and undone.
-An edit that has no twin is named, in the crates that have twins. The exit status is 0 only where every twin is proved.
+An edit that has no twin, and a twin that has no edit, is named. The exit status is 0 only where every edit has a twin that is proved.
 """
 import glob, os, shutil, subprocess, sys
 
@@ -41,19 +41,22 @@ def proved(folder, crate, path):
 
 def main():
     root, folder, wanted = os.path.dirname(os.path.dirname(os.path.abspath(__file__))), sys.argv[1], sys.argv[2:]
-    shutil.copytree(f"{root}/crates", f"{folder}/crates", dirs_exist_ok=True)
+    shutil.rmtree(f"{folder}/crates", ignore_errors=True)
+    shutil.copytree(f"{root}/crates", f"{folder}/crates")
     shutil.copy(f"{root}/crates.txt", folder)
     failed = 0
-    for twins in sorted(glob.glob(f"{root}/crates/*/twins")):
-        crate = twins.split("/")[-2]
+    for crate in sorted(os.listdir(f"{root}/crates")):
         if wanted and crate not in wanted:
             continue
-        for edit in sorted(glob.glob(f"{root}/crates/{crate}/must-fail/*.edit")):
-            name = os.path.basename(edit)
-            if not os.path.exists(f"{twins}/{name}"):
+        names = {os.path.basename(edit) for kind in ("must-fail", "twins") for edit in glob.glob(f"{root}/crates/{crate}/{kind}/*.edit")}
+        for name in sorted(names):
+            twin = f"{root}/crates/{crate}/twins/{name}"
+            if not os.path.exists(twin):
                 said = "no twin"
+            elif not os.path.exists(f"{root}/crates/{crate}/must-fail/{name}"):
+                said = "no edit"
             else:
-                said = "proved" if proved(folder, crate, f"{twins}/{name}") else "REFUSED"
+                said = "proved" if proved(folder, crate, twin) else "REFUSED"
             failed += said != "proved"
             print(f"{crate}/{name[:-5]}: {said}", flush=True)
     sys.exit(failed > 0)

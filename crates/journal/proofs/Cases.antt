@@ -5,6 +5,7 @@ use mathlib.Core.List.{List, [], _∷_, _++_, map}
 use Prim.Native.Nat.{ℕ, zero, suc, _/_, _%_}
 use lib.ListN.{take, replicate}
 use Rattle.rules.specs.Run.{run}
+use Rattle.money.specs.Units.{fen, sheets}
 use Rattle.money.specs.Causes.{firstOf}
 use Rattle.rules.specs.Listing.{listingOf, entriesOf, lineOf, linesOf}
 use Rattle.rules.specs.Entry.{decoded, entryOf, unless, littleEndian}
@@ -52,7 +53,7 @@ journal = little 4 1 ++ little 4 206 ++ little 4 16 ++ events
 
 abbrev pub line : (place answer headroom outstanding own client : ℕ) → List ℕ
 line place answer headroom outstanding own client =
-    lineText place (record { answer = answer; negative = 0; size = headroom; outstanding = outstanding; own = own; client = client; guarantee = 0 })
+    lineText place (record { answer = answer; negative = 0; size = sheets headroom; outstanding = sheets outstanding; own = fen own; client = fen client; guarantee = fen 0 })
 
 -- the listing that document 01 prints
 abbrev pub printed : List ℕ
@@ -82,7 +83,7 @@ journal-prints = refl
 -- "2 0 0 0 5000000 0 0" and, with a negative headroom, "3 0 -20 120 7 0 15", each with its line end
 pub lines-are-text
     : (line 2 0 0 0 5000000 0 ≡ 50 ∷ 32 ∷ 48 ∷ 32 ∷ 48 ∷ 32 ∷ 48 ∷ 32 ∷ 53 ∷ 48 ∷ 48 ∷ 48 ∷ 48 ∷ 48 ∷ 48 ∷ 32 ∷ 48 ∷ 32 ∷ 48 ∷ 10 ∷ [])
-    × (lineText 3 (record { answer = 0; negative = 1; size = 20; outstanding = 120; own = 7; client = 0; guarantee = 15 }) ≡ 51 ∷ 32 ∷ 48 ∷ 32 ∷ 45 ∷ 50 ∷ 48 ∷ 32 ∷ 49 ∷ 50 ∷ 48 ∷ 32 ∷ 55 ∷ 32 ∷ 48 ∷ 32 ∷ 49 ∷ 53 ∷ 10 ∷ [])
+    × (lineText 3 (record { answer = 0; negative = 1; size = sheets 20; outstanding = sheets 120; own = fen 7; client = fen 0; guarantee = fen 15 }) ≡ 51 ∷ 32 ∷ 48 ∷ 32 ∷ 45 ∷ 50 ∷ 48 ∷ 32 ∷ 49 ∷ 50 ∷ 48 ∷ 32 ∷ 55 ∷ 32 ∷ 48 ∷ 32 ∷ 49 ∷ 53 ∷ 10 ∷ [])
 unfolding decimal placesTo spaced signed lineText
 lines-are-text = (refl, refl)
 

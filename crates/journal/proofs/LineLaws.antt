@@ -27,16 +27,8 @@ use Rattle.journal.specs.Listing.{Written, linesText, textCauses, answer
 
 -- ---- a line's numbers, by place
 
-pub line-read : (lines : List ℕ) (from : ℕ)
-    → _≡_ {A = Line} (record { answer = getD lines from 0; negative = getD lines (from + 1) 0; size = getD lines (from + 2) 0; outstanding = getD lines (from + 3) 0; own = getD lines (from + 4) 0; client = getD lines (from + 5) 0; guarantee = getD lines (from + 6) 0 })
-    (lineFrom (drop from lines))
-unfolding lineFrom
-line-read lines from = simp (getD-drop, add-zero)
-
--- the same of the line's own part
-pub row-read : (numbers : List ℕ) (n : ℕ) → 7 ≤ n
-    → _≡_ {A = Line} (record { answer = getD (take n numbers) 0 0; negative = getD (take n numbers) 1 0; size = getD (take n numbers) 2 0; outstanding = getD (take n numbers) 3 0; own = getD (take n numbers) 4 0; client = getD (take n numbers) 5 0; guarantee = getD (take n numbers) 6 0 })
-    (lineFrom numbers)
+-- the line's own part tells it
+pub row-read : (numbers : List ℕ) (n : ℕ) → 7 ≤ n → lineFrom (take n numbers) ≡ lineFrom numbers
 unfolding lineFrom
 row-read numbers n long =
     let read : (i : ℕ) → i < 7 → getD (take n numbers) i 0 ≡ getD numbers i 0 = (λ i h. getD-take n numbers i 0 (omega arith)) in
@@ -68,11 +60,11 @@ within numbers k count h = let e : k + (count - k) ≡ count = omega arith in rw
 
 -- numbers behind the lines' own are not read
 same-line : (count : ℕ) (numbers rest : List ℕ) → count * 7 + 7 ≤ length numbers → lineFrom (drop (count * 7) (numbers ++ rest)) ≡ lineFrom (drop (count * 7) numbers)
+unfolding lineFrom
 same-line count numbers rest h =
-    let read : (i : ℕ) → i < 7 → getD (numbers ++ rest) (count * 7 + i) 0 ≡ getD numbers (count * 7 + i) 0 = λ i l. List·getD-append numbers rest 0 (count * 7 + i) (omega arith) in
-    let first : getD (numbers ++ rest) (count * 7) 0 ≡ getD numbers (count * 7) 0 = List·getD-append numbers rest 0 (count * 7) (omega arith) in
-    sym (line-read (numbers ++ rest) (count * 7))
-    ∙ rw (first, read 1 (lit< tt), read 2 (lit< tt), read 3 (lit< tt), read 4 (lit< tt), read 5 (lit< tt), read 6 (lit< tt)) (line-read numbers (count * 7))
+    let read : (i : ℕ) → i < 7 → getD (drop (count * 7) (numbers ++ rest)) i 0 ≡ getD (drop (count * 7) numbers) i 0 =
+    λ i l. getD-drop (count * 7) (numbers ++ rest) i 0 ∙ List·getD-append numbers rest 0 (count * 7 + i) (omega arith) ∙ sym (getD-drop (count * 7) numbers i 0) in
+    rw (read 0 (lit< tt), read 1 (lit< tt), read 2 (lit< tt), read 3 (lit< tt), read 4 (lit< tt), read 5 (lit< tt), read 6 (lit< tt)) refl
 
 pub lines-in-front : (count : ℕ) (numbers rest : List ℕ) → count * 7 ≤ length numbers → linesText count (numbers ++ rest) ≡ linesText count numbers
 unfolding linesText

@@ -169,7 +169,7 @@ signed-put text text′ at negative size end m h e p =
     rw minus (omega arith, p ∙ rw after at inner ∙ byte-then text (45 ∷ decimal size) at 32 (omega arith))
 
 pub length-line : (place : ℕ) (line : Line)
-    → length (lineText place line) ≡ length (decimal place) + length (spaced (line .answer)) + length (signed (line .negative) (line .size)) + length (spaced (line .outstanding)) + length (spaced (line .own)) + length (spaced (line .client)) + length (spaced (line .guarantee)) + 1
+    → length (lineText place line) ≡ length (decimal place) + length (spaced (line .answer)) + length (signed (line .negative) (line .size .0)) + length (spaced (line .outstanding .0)) + length (spaced (line .own .0)) + length (spaced (line .client .0)) + length (spaced (line .guarantee .0)) + 1
 unfolding lineText
 length-line place line = simp length-append
 
@@ -179,19 +179,19 @@ module _ (place : ℕ) (line : Line) where
   to-answer = decimal place ++ spaced (line .answer)
 
   abbrev pub to-headroom : List ℕ
-  to-headroom = to-answer ++ signed (line .negative) (line .size)
+  to-headroom = to-answer ++ signed (line .negative) (line .size .0)
 
   abbrev pub to-outstanding : List ℕ
-  to-outstanding = to-headroom ++ spaced (line .outstanding)
+  to-outstanding = to-headroom ++ spaced (line .outstanding .0)
 
   abbrev pub to-own : List ℕ
-  to-own = to-outstanding ++ spaced (line .own)
+  to-own = to-outstanding ++ spaced (line .own .0)
 
   abbrev pub to-client : List ℕ
-  to-client = to-own ++ spaced (line .client)
+  to-client = to-own ++ spaced (line .client .0)
 
   abbrev pub to-guarantee : List ℕ
-  to-guarantee = to-client ++ spaced (line .guarantee)
+  to-guarantee = to-client ++ spaced (line .guarantee .0)
 
   pub line-parts : lineText place line ≡ to-guarantee ++ 10 ∷ []
   unfolding lineText
@@ -202,20 +202,20 @@ module _ (place : ℕ) (line : Line) where
     pub end-fits : at + length to-guarantee + 1 ≤ length text
     end-fits = omega (arith, ap length line-parts, length-append to-guarantee (10 ∷ []), h)
 
-    pub guarantee-fits : at + length to-client + length (spaced (line .guarantee)) ≤ length text
-    guarantee-fits = omega (arith, end-fits, length-append to-client (spaced (line .guarantee)))
+    pub guarantee-fits : at + length to-client + length (spaced (line .guarantee .0)) ≤ length text
+    guarantee-fits = omega (arith, end-fits, length-append to-client (spaced (line .guarantee .0)))
 
-    pub client-fits : at + length to-own + length (spaced (line .client)) ≤ length text
-    client-fits = omega (arith, guarantee-fits, length-append to-own (spaced (line .client)))
+    pub client-fits : at + length to-own + length (spaced (line .client .0)) ≤ length text
+    client-fits = omega (arith, guarantee-fits, length-append to-own (spaced (line .client .0)))
 
-    pub own-fits : at + length to-outstanding + length (spaced (line .own)) ≤ length text
-    own-fits = omega (arith, client-fits, length-append to-outstanding (spaced (line .own)))
+    pub own-fits : at + length to-outstanding + length (spaced (line .own .0)) ≤ length text
+    own-fits = omega (arith, client-fits, length-append to-outstanding (spaced (line .own .0)))
 
-    pub outstanding-fits : at + length to-headroom + length (spaced (line .outstanding)) ≤ length text
-    outstanding-fits = omega (arith, own-fits, length-append to-headroom (spaced (line .outstanding)))
+    pub outstanding-fits : at + length to-headroom + length (spaced (line .outstanding .0)) ≤ length text
+    outstanding-fits = omega (arith, own-fits, length-append to-headroom (spaced (line .outstanding .0)))
 
-    pub headroom-fits : at + length to-answer + length (signed (line .negative) (line .size)) ≤ length text
-    headroom-fits = omega (arith, outstanding-fits, length-append to-answer (signed (line .negative) (line .size)))
+    pub headroom-fits : at + length to-answer + length (signed (line .negative) (line .size .0)) ≤ length text
+    headroom-fits = omega (arith, outstanding-fits, length-append to-answer (signed (line .negative) (line .size .0)))
 
     pub answer-fits : at + length (decimal place) + length (spaced (line .answer)) ≤ length text
     answer-fits = omega (arith, headroom-fits, length-append (decimal place) (spaced (line .answer)))

@@ -6,6 +6,7 @@ use mathlib.Core.List.{List, [], _∷_, _++_}
 use lib.Dec.{leb, eqb}
 use lib.ListN.{getD}
 use Rattle.io.specs.Digits.{digits}
+use Rattle.money.specs.Units.{fen, sheets}
 pub use Rattle.journal.specs.declared.text.Line.{Line}
 
 -- how many decimal digits a number has, counted to one more than `most`
@@ -30,11 +31,11 @@ unfoldable pub lineFrom : List ℕ → Line
 lineFrom numbers = record {
   answer = getD numbers 0 0;
   negative = getD numbers 1 0;
-  size = getD numbers 2 0;
-  outstanding = getD numbers 3 0;
-  own = getD numbers 4 0;
-  client = getD numbers 5 0;
-  guarantee = getD numbers 6 0;
+  size = sheets (getD numbers 2 0);
+  outstanding = sheets (getD numbers 3 0);
+  own = fen (getD numbers 4 0);
+  client = fen (getD numbers 5 0);
+  guarantee = fen (getD numbers 6 0);
 }
 
 -- "its place from 1, answer, headroom, O, own, client, guarantee cash (effective and arriving)", and a line end
@@ -42,9 +43,9 @@ unfoldable pub lineText : (place : ℕ) → Line → List ℕ
 lineText place line =
     decimal place
     ++ spaced (line .answer)
-    ++ signed (line .negative) (line .size)
-    ++ spaced (line .outstanding)
-    ++ spaced (line .own)
-    ++ spaced (line .client)
-    ++ spaced (line .guarantee)
+    ++ signed (line .negative) (line .size .0)
+    ++ spaced (line .outstanding .0)
+    ++ spaced (line .own .0)
+    ++ spaced (line .client .0)
+    ++ spaced (line .guarantee .0)
     ++ 10 ∷ []

@@ -1,6 +1,7 @@
 use Prim.Native.Nat.{_+_, _-_}
 use native.Mathlib.Omega.{arith}
 use borrow.Author.Needs.{needs}
+use Rattle.journal.specs.Text.{lineFrom}
 use Rattle.journal.proofs.LineLaws.{row-read}
 use Rattle.journal.proofs.text.line_at.Statement.{statement}
 use Rattle.journal.proofs.text.line_at.Tie as tie
@@ -20,28 +21,29 @@ part-row-start c = search needs
 part-row-end : tie.Need-part-row-end
 part-row-end c = search needs
 
-shared-slice-read-t10 : tie.Need-shared-slice-read-t10
-shared-slice-read-t10 c = search needs
+shared-slice-read-answer : tie.Need-shared-slice-read-answer
+shared-slice-read-answer c = search needs
 
-shared-slice-read-t12 : tie.Need-shared-slice-read-t12
-shared-slice-read-t12 c = search needs
+shared-slice-read-negative : tie.Need-shared-slice-read-negative
+shared-slice-read-negative c = search needs
 
-shared-slice-read-t14 : tie.Need-shared-slice-read-t14
-shared-slice-read-t14 c = search needs
+shared-slice-read-size : tie.Need-shared-slice-read-size
+shared-slice-read-size c = search needs
 
-shared-slice-read-t16 : tie.Need-shared-slice-read-t16
-shared-slice-read-t16 c = search needs
+shared-slice-read-outstanding : tie.Need-shared-slice-read-outstanding
+shared-slice-read-outstanding c = search needs
 
-shared-slice-read-t18 : tie.Need-shared-slice-read-t18
-shared-slice-read-t18 c = search needs
+shared-slice-read-own : tie.Need-shared-slice-read-own
+shared-slice-read-own c = search needs
 
-shared-slice-read-t20 : tie.Need-shared-slice-read-t20
-shared-slice-read-t20 c = search needs
+shared-slice-read-client : tie.Need-shared-slice-read-client
+shared-slice-read-client c = search needs
 
-shared-slice-read-t22 : tie.Need-shared-slice-read-t22
-shared-slice-read-t22 c = search needs
+shared-slice-read-guarantee : tie.Need-shared-slice-read-guarantee
+shared-slice-read-guarantee c = search needs
 
 returns : tie.Need-returns
+unfolding lineFrom
 returns c =
     let start : tie.Start = search needs in
     let from = start .args .from in
@@ -56,11 +58,11 @@ line-at-spec =
     sub-row
     part-row-start
     part-row-end
-    shared-slice-read-t10
-    shared-slice-read-t12
-    shared-slice-read-t14
-    shared-slice-read-t16
-    shared-slice-read-t18
-    shared-slice-read-t20
-    shared-slice-read-t22
+    shared-slice-read-answer
+    shared-slice-read-negative
+    shared-slice-read-size
+    shared-slice-read-outstanding
+    shared-slice-read-own
+    shared-slice-read-client
+    shared-slice-read-guarantee
     returns)

@@ -53,10 +53,10 @@ returns c =
     let line = a .line in
     let whole = length-line (a .place) line in
     let answer = length-spaced (line .answer) in
-    let outstanding = length-spaced (line .outstanding) in
-    let own = length-spaced (line .own) in
-    let client = length-spaced (line .client) in
-    let guarantee = length-spaced (line .guarantee) in
+    let outstanding = length-spaced (line .outstanding .0) in
+    let own = length-spaced (line .own .0) in
+    let client = length-spaced (line .client .0) in
+    let guarantee = length-spaced (line .guarantee .0) in
     (omega arith, omega arith)
 
 pub line-length-spec : {M : Type 1} → statement M

@@ -124,31 +124,31 @@ put-signed-requires : tie.Need-put-signed-requires
 put-signed-requires c κs =
     let put : tie.After-put-spaced = search needs in
     let start = answer-start put in
-    room (signed (start .args .line .negative) (start .args .line .size)) (answer-put put) (headroom-fits (start .args .place) (start .args .line) (start .args .text .now) (start .args .at) (start .pre))
+    room (signed (start .args .line .negative) (start .args .line .size .0)) (answer-put put) (headroom-fits (start .args .place) (start .args .line) (start .args .text .now) (start .args .at) (start .pre))
 
 put-spaced-requires-2 : tie.Need-put-spaced-requires-2
 put-spaced-requires-2 c κs =
     let put : tie.After-put-signed = search needs in
     let start = headroom-start put in
-    room (spaced (start .args .line .outstanding)) (headroom-put put) (outstanding-fits (start .args .place) (start .args .line) (start .args .text .now) (start .args .at) (start .pre))
+    room (spaced (start .args .line .outstanding .0)) (headroom-put put) (outstanding-fits (start .args .place) (start .args .line) (start .args .text .now) (start .args .at) (start .pre))
 
 put-spaced-requires-3 : tie.Need-put-spaced-requires-3
 put-spaced-requires-3 c κs =
     let put : tie.After-put-spaced2 = search needs in
     let start = outstanding-start put in
-    room (spaced (start .args .line .own)) (outstanding-put put) (own-fits (start .args .place) (start .args .line) (start .args .text .now) (start .args .at) (start .pre))
+    room (spaced (start .args .line .own .0)) (outstanding-put put) (own-fits (start .args .place) (start .args .line) (start .args .text .now) (start .args .at) (start .pre))
 
 put-spaced-requires-4 : tie.Need-put-spaced-requires-4
 put-spaced-requires-4 c κs =
     let put : tie.After-put-spaced3 = search needs in
     let start = own-start put in
-    room (spaced (start .args .line .client)) (own-put put) (client-fits (start .args .place) (start .args .line) (start .args .text .now) (start .args .at) (start .pre))
+    room (spaced (start .args .line .client .0)) (own-put put) (client-fits (start .args .place) (start .args .line) (start .args .text .now) (start .args .at) (start .pre))
 
 put-spaced-requires-5 : tie.Need-put-spaced-requires-5
 put-spaced-requires-5 c κs =
     let put : tie.After-put-spaced4 = search needs in
     let start = client-start put in
-    room (spaced (start .args .line .guarantee)) (client-put put) (guarantee-fits (start .args .place) (start .args .line) (start .args .text .now) (start .args .at) (start .pre))
+    room (spaced (start .args .line .guarantee .0)) (client-put put) (guarantee-fits (start .args .place) (start .args .line) (start .args .text .now) (start .args .at) (start .pre))
 
 slice-write-text : tie.Need-slice-write-text
 slice-write-text c =

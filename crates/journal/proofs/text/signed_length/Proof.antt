@@ -11,7 +11,10 @@ add-result : tie.Need-add-result
 add-result c = search needs
 
 returns : tie.Need-returns
-returns c = rw (signed-plain _ _ (c .before .if1 .taken)) (omega (arith, length-spaced (c .before .before .args .size)), omega arith)
+returns c =
+    let start : tie.Start = search needs in
+    let plain : tie.Then1 = search needs in
+    rw (signed-plain _ _ (plain .if1 .taken)) (omega (arith, length-spaced (start .args .size .0)), omega arith)
 
 number-length-requires-2 : tie.Need-number-length-requires-2
 number-length-requires-2 c κs = search needs
@@ -20,7 +23,9 @@ add-result-2 : tie.Need-add-result-2
 add-result-2 c = search needs
 
 returns-2 : tie.Need-returns-2
-returns-2 c = rw (signed-minus _ _ (c .before .if1 .left)) (omega arith, omega arith)
+returns-2 c =
+    let minus : tie.Else1 = search needs in
+    rw (signed-minus _ _ (minus .if1 .left)) (omega arith, omega arith)
 
 pub signed-length-spec : {M : Type 1} → statement M
 signed-length-spec =
