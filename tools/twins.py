@@ -29,7 +29,7 @@ def proved(folder, crate, path):
             text = open(place, encoding="utf-8").read()
             kept.setdefault(place, text)
             if text.count(old) != 1:
-                return False
+                sys.exit(f"{path}: its old text is not in {file} once")
             with open(place, "w", encoding="utf-8") as out:
                 out.write(text.replace(old, new))
         return subprocess.run(["rt", "dev", crate], cwd=folder, capture_output=True).returncode == 0
@@ -40,7 +40,11 @@ def proved(folder, crate, path):
 
 
 def main():
-    root, folder, wanted = os.path.dirname(os.path.dirname(os.path.abspath(__file__))), sys.argv[1], sys.argv[2:]
+    root = os.path.dirname(os.path.dirname(os.path.abspath(__file__)))
+    if len(sys.argv) < 2 or os.path.realpath(sys.argv[1]) == os.path.realpath(root):
+        sys.exit("usage: twins.py FOLDER [CRATE..], FOLDER another than the repository")
+    folder, wanted = sys.argv[1], sys.argv[2:]
+    os.makedirs(folder, exist_ok=True)
     shutil.rmtree(f"{folder}/crates", ignore_errors=True)
     shutil.copytree(f"{root}/crates", f"{folder}/crates")
     shutil.copy(f"{root}/crates.txt", folder)

@@ -1,18 +1,15 @@
--- Headroom and O of any book: refused where cause 1 applies, and within the limits of S and O where it does not.
--- For the proofs of cover.rt, run.rt and table.rt. Assumes nothing.
+-- Headroom and O of any book: refused where cause 1 applies, counted where it does not; and that headroom is small.
+-- For the proofs of cover.rt and lent.rt. Assumes nothing.
 use mathlib.Core.Path.{_≡_}
 use mathlib.Core.Bool.{Bool, true, false, cond}
 use mathlib.Core.List.{List}
-use Prim.Native.Nat.{ℕ, suc, _-_, _≤_, min}
+use Prim.Native.Nat.{ℕ, suc, _-_, _≤_}
 use native.Mathlib.Omega.{arith}
 use lib.Dec.{ltb}
 use lib.IntN.{pos, negsuc, subℕ, natAbs}
 use Rattle.money.specs.Days.{Calendar}
-use Rattle.rules.specs.Vault.{value, outstandingOf, headroom}
-use Rattle.rules.specs.Fit.{fit}
 use Rattle.rules.specs.Step.{unfit}
 use Rattle.rules.specs.Cover.{coverCounted, coverRefused, coverOf}
-use Rattle.rules.proofs.FitParts.{fit-parts}
 use Rattle.core.specs.Types.{Book, Trade}
 
 pub small-difference : (a b : ℕ) → a ≤ 10000000000 → b ≤ 10000000000 → natAbs (subℕ a b) ≤ 10000000000

@@ -1,5 +1,5 @@
 -- O and V after an entry: what is turned down moves neither, and an event that is done moves them as it says.
--- For the proofs of figures.rt, cover.rt and run.rt. Assumes nothing.
+-- For the proofs of figures.rt, run.rt and lent.rt. Assumes nothing.
 use mathlib.Core.Path.{_≡_, refl, sym, ap, _∙_}
 use mathlib.Core.Bool.{Bool, true, false, false≢true}
 use mathlib.Core.List.{List, [], _∷_}

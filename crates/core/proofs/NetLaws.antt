@@ -1,4 +1,4 @@
--- Signed numbers of 64 bits: which sums fit, and what the machine reads back. For the nets' few functions.
+-- Signed numbers of 64 bits: which sums fit, and what the machine reads back. For the nets' few functions, and for headroom.
 -- Assumes nothing.
 use mathlib.Core.Path.{_≡_, refl, sym, ap}
 use mathlib.Core.Bool.{Bool, true, false, cond, false≢true, not}

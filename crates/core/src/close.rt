@@ -23,7 +23,6 @@ use crate::packing;
 use crate::redemption;
 use crate::trades;
 use crate::vault;
-use money::units::Fen;
 use money::units::Sheets;
 use rules::book::Cash;
 use rules::book::Nets;
@@ -124,8 +123,9 @@ fn evening_end(
     let guarantee = scalars.guarantee;
     evening::all_arrived(held, guarantee);
     let arrived = evening::guarantee_arrived(guarantee);
+    let own = scalars.cash.own;
     let begun = EveningScalars {
-        own: Fen(scalars.cash.own.0),
+        own,
         guarantee: arrived,
         value: vault::value_of(&*held, arrived),
         done: 0,
@@ -164,10 +164,9 @@ fn closed_scalars(
     let short = standing.short;
     let guarantee = ended.guarantee;
     let is_short = headroom::is_short(scalars.size, ended.value, left);
-    let cash = Cash {
-        own: Fen(ended.own.0),
-        client: Fen(scalars.cash.client.0),
-    };
+    let own = ended.own;
+    let client = scalars.cash.client;
+    let cash = Cash { own, client };
     let mut next = scalars;
     next.nets = cleared;
     next.cash = cash;

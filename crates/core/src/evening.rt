@@ -38,10 +38,11 @@ pub fn guarantee_arrived(guarantee: Guarantee) -> Guarantee
     requires { ⌜ guarantee .effective .0 + guarantee .arriving .0 ≤ cashLimit ⌝ }
     ensures { λ r. ⌜ r ≡ guaranteeArrived guarantee ⌝ }
 {
+    let frozen = guarantee.frozen;
     Guarantee {
         effective: Fen(guarantee.effective.0 + guarantee.arriving.0),
         arriving: Fen(0),
-        frozen: Fen(guarantee.frozen.0),
+        frozen,
     }
 }
 

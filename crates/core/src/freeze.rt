@@ -47,9 +47,11 @@ fn put_frozen(held: &mut [u64], kind: u8, units: u64)
 fn cash_frozen(guarantee: Guarantee, amount: Fen) -> Guarantee
     ensures { λ r. ⌜ r ≡ cashFrozen (amount .0) guarantee ⌝ }
 {
+    let effective = guarantee.effective;
+    let arriving = guarantee.arriving;
     Guarantee {
-        effective: Fen(guarantee.effective.0),
-        arriving: Fen(guarantee.arriving.0),
+        effective,
+        arriving,
         frozen: amount,
     }
 }

@@ -228,11 +228,15 @@ fn begun_trade(calendar: &[u32], scalars: Scalars, terms: Terms) -> Trade
 {
     let standing = scalars.standing;
     let day = standing.day;
+    let contract = terms.contract;
+    let sheets = terms.sheets;
+    let price = terms.price;
+    let fallback = terms.fallback;
     Trade {
-        contract: Contract(terms.contract.0),
-        sheets: Sheets(terms.sheets.0),
-        price: Ticks(terms.price.0),
-        fallback: Ticks(terms.fallback.0),
+        contract,
+        sheets,
+        price,
+        fallback,
         first: days::payment_day(calendar, day),
         due: terms.due,
     }

@@ -74,10 +74,12 @@ fn cash_arrived(guarantee: Guarantee, amount: Fen) -> Guarantee
     requires { ⌜ guarantee .arriving .0 + amount .0 ≤ cashLimit ⌝ }
     ensures { λ r. ⌜ r ≡ cashArrived (amount .0) guarantee ⌝ }
 {
+    let effective = guarantee.effective;
+    let frozen = guarantee.frozen;
     Guarantee {
-        effective: Fen(guarantee.effective.0),
+        effective,
         arriving: Fen(guarantee.arriving.0 + amount.0),
-        frozen: Fen(guarantee.frozen.0),
+        frozen,
     }
 }
 

@@ -8,7 +8,7 @@ use libc::STDERR_FILENO;
 use libc::STDIN_FILENO;
 use libc::STDOUT_FILENO;
 
-// One byte more than the longest journal, so that a longer input is malformed as it is.
+// One byte more than the longest journal has, so that a longer input, cut there, is still malformed.
 const INPUT_BYTES: usize = JOURNAL_BYTES + 1;
 
 // Room for the longest listing.

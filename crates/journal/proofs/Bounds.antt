@@ -1,4 +1,4 @@
--- How long a journal and its listing can be, and that what was written lies within the lent text: for callers of write_listing.
+-- How long a journal and its listing can be: for callers of write_listing.
 -- Assumes nothing.
 use mathlib.Core.Path.{_≡_, refl, sym, ap, _∙_}
 use mathlib.Core.Bool.{Bool, true, false, cond}
@@ -7,15 +7,15 @@ use mathlib.Core.Option.{Option, none, some}
 use Prim.Native.Nat.{ℕ, zero, suc, _*_, _≤_, _<_}
 use native.Mathlib.Numerals.{add-one}
 use native.Mathlib.Omega.{arith}
-use borrow.Author.Tests.{ltb-false, le-ltb, leb-true, leb-false}
-use lib.Dec.{ltb, leb, eqb}
+use borrow.Author.Tests.{le-ltb, leb-true, leb-false}
+use lib.Dec.{leb, eqb}
 use lib.ListN.{length, take, drop}
 use lib.Seq.{take-all, take-at, length-take-le}
-use Rattle.money.specs.Causes.{firstOf, resultOf}
+use Rattle.money.specs.Causes.{firstOf}
 use Rattle.rules.specs.Listing.{listingOf}
 use Rattle.journal.specs.Sections.{eventCount, calendarOf, eventsOf, journalCauses}
 use Rattle.journal.specs.Text.{Line, decimal, spaced, signed, lineFrom, lineText}
-use Rattle.journal.specs.Listing.{Written, linesText, refusedLine, listingBy, listingText, textCauses, answerOf, textAfter}
+use Rattle.journal.specs.Listing.{linesText, refusedLine, listingBy, listingText, textCauses, answerOf, textAfter}
 use Rattle.journal.specs.Limits.{journalBytes, lineBytes, listingBytes}
 use Rattle.journal.proofs.TextLaws.{length-decimal, length-spaced, length-line}
 use Rattle.journal.proofs.LineLaws.{no-lines, length-next}
@@ -92,12 +92,3 @@ unfolding answerOf textAfter textCauses firstOf
 room-for-all bytes text h =
     rw (le-ltb (length text) (length (listingText bytes)) (omega (arith, listing-high bytes)))
     (refl, take-at (listingText bytes) _ (length (listingText bytes)) refl)
-
--- what was written lies within the text
-pub written-within : (listing text : List ℕ) (written : Written) → written ≡ answerOf listing text → written .length ≤ length text
-unfolding answerOf textCauses firstOf
-written-within listing text written e = rw e (go (ltb (length text) (length listing)) refl)
-  where
-    go : (b : Bool) → ltb (length text) (length listing) ≡ b → resultOf (cond b (some 14) none) (length listing) ≤ length text
-    go true m = omega arith
-    go false m = ltb-false _ _ m

@@ -1,4 +1,4 @@
--- What the tests of a section and of both sections say together: for the functions of sections.rt and their callers.
+-- What the tests of a section and of both sections say together: for the functions of section.rt and sections.rt, and their callers.
 -- Assumes nothing.
 use mathlib.Core.Path.{_≡_, refl, sym, ap, _∙_}
 use mathlib.Core.Bool.{Bool, true, false, cond}

@@ -9,8 +9,7 @@ use lib.ListN.{length, drop}
 use Rattle.money.specs.Limits.{calendarLimit}
 use Rattle.money.specs.Causes.{Cause, _⇒_, firstOf, numberOf}
 use Rattle.money.specs.Days.{Calendar}
-use Rattle.rules.specs.Entry.{numberAt}
-use Rattle.rules.specs.Entry.{eventBytes}
+use Rattle.rules.specs.Entry.{eventBytes, numberAt}
 use Rattle.rules.specs.Listing.{eventLimit}
 pub use Rattle.journal.specs.declared.section.Section.{Section}
 pub use Rattle.journal.specs.declared.section.Section.the-variants.{Whole, Malformed}

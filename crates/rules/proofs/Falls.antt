@@ -9,7 +9,7 @@ use native.Mathlib.Omega.{arith}
 use borrow.Author.Tests.{not-true}
 use lib.Dec.{eqb}
 use lib.IntN.{ℤ, pos, negsuc, natAbs, _-ℤ_}
-use Rattle.rules.specs.Book.{Book, freshBook, answer, withCash}
+use Rattle.rules.specs.Book.{FailedRun, NotFailed, FailedOnce, FailedTwice, Book, freshBook, answer, withCash, withStanding}
 use Rattle.rules.specs.Trades.{Trade}
 use Rattle.rules.specs.Entry.{Open, Pay, Close, Entry, Known}
 use Rattle.rules.specs.Step.{Outcome, outcome, step}
@@ -19,7 +19,7 @@ use Rattle.rules.specs.Demand3.{isPay, told, toldOf, PaymentRight, AllBe
 use Rattle.rules.proofs.FoldLaws.{both}
 use Rattle.rules.proofs.Opened.{everyRule}
 use Rattle.rules.proofs.Demand3Proof.{demand3}
-use Rattle.rules.proofs.Cases.{_then_, noTrades, daily, initial, covers}
+use Rattle.rules.proofs.Cases.{_then_, noTrades, daily, initial, covers, failedTwice}
 
 -- ---- a ledger of any kind: what it remembers beside the book and the table, and what it leaves of an entry
 
@@ -183,4 +183,40 @@ answering-zero-falls claim =
 pub storing-nothing-falls : Demand3 daily noTrades (seenOn storesNothing twoBatches) → ⊥
 storing-nothing-falls claim =
     let same : pos 0 ≡ pos 50 = sym (ap pos (sheets-differ .2)) ∙ claim .outstanding-is-begun-less-redeemed ∙ sheets-differ .3 in
+    omega (arith, ap natAbs same)
+
+-- ---- the status is the rules' own, not the ledger's: one that never turns terminated
+
+-- it forgets the second of two failed payments
+abbrev onceAtMost : FailedRun → FailedRun
+onceAtMost NotFailed = NotFailed
+onceAtMost FailedOnce = FailedOnce
+onceAtMost FailedTwice = FailedOnce
+
+abbrev forgetful : Book → Book
+forgetful book =
+    let s = book .standing in
+    withStanding (record { day = s .day; phase = s .phase; status = s .status; failed = onceAtMost (s .failed); short = s .short }) book
+
+abbrev pub neverTerminates : Ledger
+neverTerminates = record {
+  Memory = Unit {0};
+  first = tt;
+  leaves = λ none book table entry. step daily (forgetful book) table entry;
+  recalls = λ none book table entry. tt;
+}
+
+-- the day after two failed payments
+abbrev thirdOpening : List Entry
+thirdOpening = failedTwice then (Known Open ∷ [])
+
+-- its trade stands, which by the rules is redeemed
+pub left-and-redeemed : (outstandingAfter noTrades (seenOn neverTerminates thirdOpening) ≡ 100)
+    × (begunLessRedeemed (seenOn neverTerminates thirdOpening) ≡ pos 0)
+unfolding everyRule toldOf counted tell tallyOf lastBook lastTable
+left-and-redeemed = (refl, refl)
+
+pub never-terminating-falls : Demand3 daily noTrades (seenOn neverTerminates thirdOpening) → ⊥
+never-terminating-falls claim =
+    let same : pos 100 ≡ pos 0 = sym (ap pos (left-and-redeemed .0)) ∙ claim .outstanding-is-begun-less-redeemed ∙ left-and-redeemed .1 in
     omega (arith, ap natAbs same)

@@ -97,7 +97,8 @@ begun calendar book terms = record {
 }
 
 unfoldable pub initialBook : Book → Terms → Book
-initialBook book terms = withNets (record { today = signedFen (netLess book terms); cleared = book .nets .cleared }) (withTrades (book .trades + 1) book)
+initialBook book terms =
+    withNets (record { today = signedFen (netLess book terms); cleared = book .nets .cleared }) (withTrades (book .trades + 1) book)
 
 unfoldable pub initialTable : Calendar → Book → List Trade → Terms → List Trade
 initialTable calendar book table terms = set table (book .trades) (begun calendar book terms)

@@ -43,13 +43,15 @@ loop-less : tie.Need-loop-less Inv-loop μ-loop
 loop-less c = search needs
 
 loop-again : tie.Need-loop-again Inv-loop μ-loop
-loop-again c = (search needs, byte-written _ _ _ _ (c .before .before .loop-test .taken) (c .before .before .before .loop .inv .1) (c .digit .ensures))
+loop-again c = (search needs, byte-written _ _ _ _ (omega (arith, c .before .before .loop-test .taken)) (c .before .before .before .loop .inv .1) (c .digit .ensures))
 
 same-length : tie.Need-same-length Inv-loop μ-loop
 same-length c = c .before .loop .inv .1 .long
 
 returns : tie.Need-returns Inv-loop μ-loop
-returns c = bytes-written _ _ _ _ (c .loop-test .left) (c .before .loop .inv .1)
+returns c =
+    let s : tie.Start Inv-loop μ-loop = search needs in
+    bytes-written (s .args .bytes .now) (s .args .at) (s .args .numbers .now) (c .before .loop .k) (omega (arith, c .loop-test .left)) (c .before .loop .inv .1)
 
 pub write-numbers-spec : {M : Type 1} → statement M
 write-numbers-spec =

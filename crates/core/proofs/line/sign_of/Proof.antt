@@ -1,4 +1,3 @@
-use borrow.Author.Needs.{needs}
 use Rattle.core.proofs.LineLaws.{short-sign, ample-sign}
 use Rattle.core.proofs.line.sign_of.Statement.{statement}
 use Rattle.core.proofs.line.sign_of.Tie as tie

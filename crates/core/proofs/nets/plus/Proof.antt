@@ -1,11 +1,10 @@
-use mathlib.Core.Path.{_≡_, ap}
+use mathlib.Core.Path.{_≡_}
 use native.Mathlib.Omega.{arith}
 use borrow.Author.Needs.{needs}
 use lib.IntN.{_+ℤ_}
 use mir.Val.{SFits, toZ, ofZ}
 use mir.Syntax.{w64}
 use mir.ValLaws.{toZ-ofZ}
-use Rattle.money.specs.Units.{signedFen}
 use Rattle.core.proofs.NetLaws.{small-fits, size-of-sum}
 use Rattle.core.proofs.nets.plus.Statement.{statement}
 use Rattle.core.proofs.nets.plus.Tie as tie
