@@ -1,5 +1,6 @@
 use mathlib.Core.Path.{_≡_, sym, _∙_, ap}
 use Prim.Native.Nat.{ℕ, _*_, _%_}
+use native.Mathlib.Omega.{arith}
 use borrow.Author.Needs.{needs}
 use lib.ListN.{length, take, drop}
 use lib.Seq.{length-take-le}
@@ -16,8 +17,8 @@ slice-relend-prefix-apply-flat c = search needs
 
 slice-aggregate-apply-flat : tie.Need-slice-aggregate-apply-flat
 slice-aggregate-apply-flat c =
-    let a = c .before .before .before in
-    sym (length-take-le (a .args .count * width) (a .args .flat .now) (a .pre))
+    let a : tie.Start = search needs in
+    sym (length-take-le _ (a .args .flat .now) (omega (arith, a .pre)))
 
 apply-flat-requires : tie.Need-apply-flat-requires
 apply-flat-requires c κs =
