@@ -5,7 +5,7 @@ use model::limits::JOURNAL_EVENTS;
 
 use crate::proved::write_listing;
 
-/// More than 1,500 lines need: a line has at most 87 characters.
+/// More than any listing has (`model::cases::longest::bound`).
 const ROOM: usize = JOURNAL_EVENTS * 87;
 /// What a buffer holds before the call; no listing has it.
 pub const UNWRITTEN: u8 = 0xa5;
