@@ -55,7 +55,11 @@ fn every_prefix_of_some_journals_agrees() {
 fn bad_lengths_are_refused_and_write_nothing() {
     for ((bytes, room), number) in BAD_LENGTHS {
         let mut lines = vec![UNWRITTEN; room];
-        assert_eq!(proved::run_into(&[], &vec![0; bytes], &mut lines), number, "{bytes} bytes, room {room}");
+        assert_eq!(
+            proved::run_into(&[], &vec![0; bytes], &mut lines),
+            number,
+            "{bytes} bytes, room {room}"
+        );
         assert!(lines.iter().all(|&number| number == UNWRITTEN), "{bytes} bytes, room {room}");
     }
 }

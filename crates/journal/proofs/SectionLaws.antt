@@ -12,7 +12,9 @@ use lib.ListN.{length}
 use Rattle.money.specs.Causes.{Cause, firstOf, numberOf}
 use Rattle.money.proofs.Refusals.{hit, skip, clear, failed}
 use Rattle.rules.proofs.Answers.{numbers, number-passes}
-use Rattle.journal.specs.Sections.{Section, Sections, sectionNumber, sectionsNumber, IsSectionAt, AreSectionsOf, Whole, Malformed, Both, Refused, countAt, sectionEnd, sectionCauses, sectionBy, sectionAt, pastBy, pastSection, leftFrom, wordCount, eventCount, eventsAt, journalCauses, sectionsBy, sectionsOf}
+use Rattle.journal.specs.Sections.{Section, Whole, Malformed, Sections, Both, Refused}
+use Rattle.journal.specs.Sections.{countAt, sectionEnd, sectionCauses, sectionBy, sectionAt, sectionNumber, IsSectionAt, pastBy, pastSection, leftFrom}
+use Rattle.journal.specs.Sections.{wordCount, eventCount, eventsAt, journalCauses, sectionsBy, sectionsOf, sectionsNumber, AreSectionsOf}
 
 -- ---- causes in a row
 
