@@ -4,6 +4,7 @@
 pub mod book;
 pub mod lent;
 
+use model::dates::Date;
 use model::event::EVENT_BYTES;
 use model::journal::Line;
 
@@ -33,6 +34,13 @@ struct Found {
     day: u32,
 }
 #[repr(C)]
+struct Dated {
+    number: u8,
+    year: u32,
+    month: u32,
+    day: u32,
+}
+#[repr(C)]
 struct Written {
     number: u8,
     length: usize,
@@ -47,6 +55,8 @@ extern "C" {
     fn money_at_or_after(calendar: *const u32, words: usize, day: u32) -> Found;
     fn money_next_after(calendar: *const u32, words: usize, day: u32) -> Found;
     fn money_earliest_day(calendar: *const u32, words: usize) -> Found;
+    fn money_day_of(year: u32, month: u32, day: u32) -> Found;
+    fn money_date_of(day: u32) -> Dated;
     fn book_run_listing(
         calendar: *const u32,
         words: usize,
@@ -90,6 +100,17 @@ pub fn next_trading_day(calendar: &[u32], day: u32) -> (u32, u32) {
 
 pub fn earliest_trading_day(calendar: &[u32]) -> (u32, u32) {
     beside(unsafe { money_earliest_day(calendar.as_ptr(), calendar.len()) })
+}
+
+/// The day of a date, beside its number.
+pub fn day_of(date: Date) -> (u32, u32) {
+    beside(unsafe { money_day_of(date.year, date.month, date.day) })
+}
+
+/// The date of a day, beside its number.
+pub fn date_of(day: u32) -> (u32, Date) {
+    let Dated { number, year, month, day } = unsafe { money_date_of(day) };
+    (number.into(), Date { year, month, day })
 }
 
 fn beside(found: Found) -> (u32, u32) {

@@ -22,6 +22,7 @@ pub enum Refusal {
     NoTradingDay = 16,
     ApplicationsFull = 17,
     MalformedJournal = 18,
+    NoDate = 19,
 }
 
 impl Refusal {
@@ -36,6 +37,14 @@ impl Refusal {
         } else {
             Ok(())
         }
+    }
+}
+
+/// A result beside its number, 0; beside a refusal's number a result of 0.
+pub(crate) fn numbered<T: Default>(outcome: Result<T, Refusal>) -> (u32, T) {
+    match outcome {
+        Ok(result) => (0, result),
+        Err(cause) => (cause.number(), T::default()),
     }
 }
 

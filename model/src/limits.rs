@@ -1,4 +1,4 @@
-//! Every limit of document 01, once.
+//! Every limit of documents 01 and 02, once.
 
 /// Words of the lent calendar.
 pub const CALENDAR_WORDS: usize = 1_200;
@@ -36,3 +36,9 @@ pub const DAYS_AHEAD: u32 = 365;
 pub const FAILED_PAYMENTS: u8 = 2;
 /// A firm with so many short closes in a row is terminated.
 pub const SHORT_CLOSES: u8 = 3;
+
+/// The years that have dates.
+pub const FIRST_YEAR: u32 = 2_000;
+pub const LAST_YEAR: u32 = 2_099;
+/// "The days above 36,524 have no date."
+pub const LAST_DAY: u32 = 36_524;

@@ -4,7 +4,7 @@
 //! refusal. The crate's own `*_amount` and `*_from` functions are the bare
 //! rules, for callers that already keep the limits.
 
-use crate::answer::Refusal;
+use crate::answer::{numbered, Refusal};
 use crate::limits::{CALENDAR_DAYS, CALENDAR_WORDS, CASH, PRICE, RATE, SECURITY_UNITS, TRADE_SHEETS};
 
 /// Guarantee cash: "its unit one fen, its rate number fixed at 1".
@@ -71,13 +71,6 @@ fn checked_kind_value(kind: u64, effective: u64, frozen: u64, rate: u64) -> Resu
 fn searched(calendar: &[u32], found: Option<u32>) -> Result<u32, Refusal> {
     Refusal::Unfit.when(calendar.len() > CALENDAR_WORDS)?;
     found.ok_or(Refusal::NoTradingDay)
-}
-
-fn numbered<T: Default>(outcome: Result<T, Refusal>) -> (u32, T) {
-    match outcome {
-        Ok(result) => (0, result),
-        Err(cause) => (cause.number(), T::default()),
-    }
 }
 
 /// The first trading day strictly after `day`.

@@ -16,14 +16,22 @@
 //! ```
 //!
 //! The calendar comes first and may go on over several lines. `bytes` is any
-//! event as its 40 bytes, so that every well-formed journal has a text.
+//! event as its 40 bytes, so that every well-formed journal has a text. A day
+//! may be a date wherever it stands:
+//!
+//! ```text
+//! calendar days 2026-11-16..2026-11-20 2026-11-23
+//! initial 100 contract 7 price 3650 fallback 1000 due 2026-11-23
+//! ```
 
 mod calendar;
+mod date;
 mod entry;
 mod error;
 mod words;
 
 use calendar::CalendarText;
+pub use date::Days;
 pub use error::{Error, Problem};
 use words::Words;
 
@@ -42,13 +50,13 @@ pub fn make(text: &str) -> Result<Vec<u8>, Error> {
     Ok(journal::write(&calendar.words, &draft.events))
 }
 
-/// The text of a journal; `make` gives the same journal back. A day begins
-/// with an empty line.
-pub fn show(journal: &Journal) -> String {
-    let mut text = calendar::show(&journal.calendar);
+/// The text of a journal; `make` gives the same journal back, whichever way
+/// days are shown. A day begins with an empty line.
+pub fn show(journal: &Journal, days: Days) -> String {
+    let mut text = calendar::show(&journal.calendar, days);
     text.push('\n');
     for bytes in journal.events {
-        let entry = entry::show(bytes);
+        let entry = entry::show(bytes, days);
         if entry == "open" && !text.ends_with("\n\n") {
             text.push('\n');
         }

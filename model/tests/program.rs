@@ -41,6 +41,10 @@ fn makes_and_shows_from_a_file_and_from_standard_input() {
     let shown = done(&["show", JOURNAL], b"");
     assert_eq!(done(&["show"], &bytes), shown);
     assert_eq!(done(&["make"], &shown), bytes);
+    let dated = done(&["show", "--dates", JOURNAL], b"");
+    assert_eq!(done(&["show", "--dates"], &bytes), dated);
+    assert_eq!(done(&["make"], &dated), bytes);
+    assert!(String::from_utf8(dated).unwrap().contains("due 2000-01-05\n"));
 }
 
 #[test]
@@ -54,7 +58,16 @@ fn says_why_it_failed_and_nothing_else() {
     let refused = "journal refused: a count past its limit, an early end, or bytes left over\n";
     assert_eq!(said_on_failing(&["show"], b"\x01"), refused);
     assert!(said_on_failing(&["show", "no such file"], b"").starts_with("cannot read no such file: "));
-    for arguments in [&[][..], &["list"], &["make", TEXT, JOURNAL]] {
+    let wrong: [&[&str]; 7] = [
+        &[],
+        &["list"],
+        &["make", TEXT, JOURNAL],
+        &["make", "--dates", TEXT],
+        &["show", JOURNAL, "--dates"],
+        &["show", "--date", JOURNAL],
+        &["show", "--date"],
+    ];
+    for arguments in wrong {
         assert!(said_on_failing(arguments, b"").starts_with("usage: journal make [TEXT] > JOURNAL\n"));
     }
 }

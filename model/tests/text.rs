@@ -5,7 +5,7 @@ use model::event::{Account, Event, Terms, EVENT_BYTES};
 use model::generator::random::Random;
 use model::generator::{corpus, generate_as, Profile};
 use model::journal::{parse, write};
-use model::text::{decode, make, show, Error, Problem};
+use model::text::{decode, make, show, Days, Error, Problem};
 
 /// The journal of one line after a calendar without words.
 fn alone(line: &str) -> Result<Vec<u8>, String> {
@@ -17,7 +17,11 @@ fn of_event(event: Event) -> Vec<u8> {
 }
 
 fn shown(bytes: &[u8]) -> String {
-    show(&parse(bytes).expect("a well-formed journal"))
+    shown_with(bytes, Days::Numbers)
+}
+
+fn shown_with(bytes: &[u8], days: Days) -> String {
+    show(&parse(bytes).expect("a well-formed journal"), days)
 }
 
 #[test]
@@ -147,18 +151,6 @@ fn a_refused_calendar_is_named_with_what_was_expected() {
         ("calendar words 1\npay\n\ncalendar words 2", "line 4: the calendar stands before all events"),
         ("calendar words 1,000", "line 1: calendar needs plain numbers for its words, found `1,000`"),
         ("calendar words 4294967296", "line 1: a calendar word is at most 4294967295, found 4294967296"),
-        (
-            "calendar days 1,2",
-            "line 1: calendar needs days such as 7, or runs of days such as 3-7, found `1,2`",
-        ),
-        (
-            "calendar days 1-2-3",
-            "line 1: calendar needs days such as 7, or runs of days such as 3-7, found `1-2-3`",
-        ),
-        (
-            "calendar days -3",
-            "line 1: calendar needs days such as 7, or runs of days such as 3-7, found `-3`",
-        ),
         ("calendar days 3 38400", "line 1: a day of the calendar is at most 38399, found 38400"),
         (
             "calendar days 0-99999999999999999999",
@@ -169,6 +161,103 @@ fn a_refused_calendar_is_named_with_what_was_expected() {
     ];
     for (text, message) in refused {
         assert_eq!(make(text).unwrap_err().to_string(), message, "{text}");
+    }
+}
+
+#[test]
+fn words_that_are_no_days_are_named() {
+    let what = "days such as 7 or 2026-11-23, or runs of days such as 3-7 or 2026-11-16..2026-11-20";
+    for word in
+        ["1,2", "-3", "3-", "1-2-3-4", "..", "3..", "3..7..9", "2026-11-16..x", "2026-11-16-2026-11-20"]
+    {
+        let message = format!("line 1: calendar needs {what}, found `{word}`");
+        assert_eq!(make(&format!("calendar days {word}")).unwrap_err().to_string(), message);
+    }
+}
+
+#[test]
+fn a_date_stands_for_its_day() {
+    let calendar = |text: &str| parse(&make(text).unwrap()).unwrap().calendar;
+    assert_eq!(calendar("calendar days 2000-01-02..2000-01-04 2000-01-07 7"), [206]);
+    assert_eq!(calendar("calendar days 1..3 6-7"), [206]);
+    assert_eq!(calendar("calendar days 1..2000-01-04 2000-01-07..7"), [206]);
+    let week = calendar("calendar days 2026-11-16..2026-11-20 2026-11-23");
+    assert_eq!(week, calendar("calendar days 9816-9820 9823"));
+    assert_eq!(calendar("calendar days 2099-12-31..38399"), calendar("calendar days 36524-38399"));
+    for (date, day) in
+        [("2000-01-01", 0), ("2000-02-29", 59), ("2026-11-23", 9_823), ("2099-12-31", 36_524)]
+    {
+        let initial =
+            |due: &str| alone(&format!("initial 100 contract 7 price 3650 fallback 1000 due {due}"));
+        assert_eq!(initial(date), initial(&day.to_string()), "{date}");
+    }
+}
+
+#[test]
+fn a_date_that_does_not_exist_is_an_error_of_its_line() {
+    let initial =
+        |due: &str| alone(&format!("\ninitial 100 contract 7 price 3650 fallback 1000 due {due}"));
+    let calendar = |days: &str| make(&format!("\ncalendar days {days}")).map_err(|error| error.to_string());
+    for date in [
+        "2026-02-29",
+        "2026-11-31",
+        "2026-00-01",
+        "2026-13-01",
+        "2026-11-00",
+        "1999-12-31",
+        "2100-01-01",
+        "0000-00-00",
+    ] {
+        let message = format!("there is no date {date} from 2000 to 2099");
+        assert_eq!(initial(date), Err(format!("line 3: {message}")));
+        assert_eq!(calendar(date), Err(format!("line 2: {message}")));
+        assert_eq!(calendar(&format!("1..{date}")), Err(format!("line 2: {message}")));
+    }
+    for date in ["2026-1-5", "26-11-23", "2026-011-23", "1-2-3", "12026-01-01"] {
+        let message = format!("a date is written as 2026-11-23, found `{date}`");
+        assert_eq!(initial(date), Err(format!("line 3: {message}")));
+        assert_eq!(calendar(date), Err(format!("line 2: {message}")));
+    }
+    for word in ["2026/11/23", "2026-11", "2026-11-", "2026-11-x3", "+2026-11-23", "23.11.2026"] {
+        let message = format!("line 3: initial needs a due day, found `{word}`");
+        assert_eq!(initial(word), Err(message));
+    }
+}
+
+#[test]
+fn days_that_do_not_rise_are_named_as_they_are_written() {
+    let refused = [
+        ("2026-11-23 2026-11-20", "2026-11-20 stands after 2026-11-23"),
+        ("2026-11-20..2026-11-16", "2026-11-16 stands after 2026-11-20"),
+        ("2026-11-16..2026-11-20 9820", "9820 stands after 2026-11-20"),
+        ("5..7 2000-01-08..2000-01-10", "2000-01-08 stands after 7"),
+    ];
+    for (days, said) in refused {
+        let error = make(&format!("calendar days {days}")).unwrap_err();
+        assert_eq!(error.to_string(), format!("line 1: days rise, but {said}"));
+    }
+}
+
+#[test]
+fn days_are_shown_as_dates_where_they_have_one() {
+    let dated = |calendar: &[u32]| shown_with(&write(calendar, &[]), Days::Dates);
+    assert_eq!(dated(&[206]), "calendar days 2000-01-02..2000-01-04 2000-01-07 2000-01-08\n\n");
+    assert_eq!(dated(&[206, 0]), "calendar words 206 0\n\n");
+    assert_eq!(dated(&[u32::MAX; 1_200]), "calendar days 2000-01-01..38399\n\n");
+    let mut late = vec![0; 1_142];
+    late[1_141] = 0xf0 | 1 << 12 | 1 << 31; // day 32 × 1,141 is 36,512
+    assert_eq!(dated(&late), "calendar days 2099-12-23..2099-12-26 2099-12-31 36543\n\n");
+    let initial =
+        |due| Event::Initial(Terms { sheets: 100, contract: 7, price: 3_650, fallback: 1_000, due });
+    for (due, said) in [
+        (0, "2000-01-01"),
+        (9_823, "2026-11-23"),
+        (36_524, "2099-12-31"),
+        (36_525, "36525"),
+        (u32::MAX, "4294967295"),
+    ] {
+        let text = shown_with(&of_event(initial(due)), Days::Dates);
+        assert!(text.ends_with(&format!(" due {said}\n")), "{text}");
     }
 }
 
@@ -194,9 +283,11 @@ fn every_generated_journal_is_shown_and_made_again() {
     let mut well_formed = 0;
     for (name, bytes) in corpus(0..2_000) {
         let Ok(journal) = parse(&bytes) else { continue };
-        let text = show(&journal);
-        let again = make(&text);
-        assert!(again.as_ref() == Ok(&bytes), "{name}: {:?}\n{text}", again.err());
+        for days in [Days::Numbers, Days::Dates] {
+            let text = show(&journal, days);
+            let again = make(&text);
+            assert!(again.as_ref() == Ok(&bytes), "{name}: {:?}\n{text}", again.err());
+        }
         well_formed += 1;
     }
     assert!(well_formed > 1_500);
@@ -210,10 +301,12 @@ fn a_spoilt_text_is_refused_or_stable() {
     let (mut made, mut refused) = (0, 0);
     for seed in 0..4_000 {
         let bytes = generate_as(random.pick(&[Profile::ThinCalendar, Profile::Careless]), seed);
-        let text = spoilt(&mut random, &shown(&bytes));
+        let days = random.pick(&[Days::Numbers, Days::Dates]);
+        let text = spoilt(&mut random, &shown_with(&bytes, days));
         match make(&text) {
             Ok(bytes) => {
-                assert_eq!(make(&shown(&bytes)), Ok(bytes));
+                assert_eq!(make(&shown(&bytes)), Ok(bytes.clone()));
+                assert_eq!(make(&shown_with(&bytes, Days::Dates)), Ok(bytes));
                 made += 1;
             }
             Err(Error { line, .. }) => {
@@ -234,8 +327,20 @@ fn spoilt(random: &mut Random, text: &str) -> String {
         1 => words.insert(here, words[there]),
         2 => words.swap(here, there),
         _ => {
-            words[here] =
-                random.pick(&["", "#", "\n", "-", "cash", "own", "0", "38400", "99999999999", "days", "é"])
+            words[here] = random.pick(&[
+                "",
+                "#",
+                "\n",
+                "-",
+                "..",
+                "cash",
+                "0",
+                "38400",
+                "99999999999",
+                "2099-12-31",
+                "2100-01-01",
+                "é",
+            ])
         }
     }
     words.join(" ")

@@ -1,4 +1,4 @@
-// Document 01's cases, run through the public calls; each expectation is proved from their promises.
+// The documents' cases, run through the public calls; each expectation is proved from their promises.
 
 // Rows that stand for events.
 mod events;
@@ -8,6 +8,9 @@ mod journal;
 
 // M1 to M6.
 mod amounts;
+
+// Dates, both ways.
+mod dates;
 
 // The journal of document 01.
 mod worked;
@@ -27,6 +30,8 @@ mod structs;
 fn main() {
     amounts::redemptions();
     amounts::values();
+    dates::to_days();
+    dates::and_back();
     worked::journal();
     run_cases::sheets_in_tens();
     run_cases::due_within_a_year();

@@ -1,10 +1,13 @@
-// Days and money.
+// Days, dates and money.
 ghost use mathlib.Core.Path.{_≡_};
 ghost use Rattle.money.specs.Days.{trades, atOrAfter, nextAfter, earliest, searchResult};
+ghost use Rattle.money.specs.Dates.{date, dayAnswer, dateAnswer};
 ghost use Rattle.money.specs.Money.{initialAmount, redemptionAmount};
 ghost use Rattle.money.specs.Collateral.{kindWorth};
 use money::amounts::Amount;
 use money::collateral::Worth;
+use money::dates::Date;
+use money::dates::Dated;
 use money::days::Found;
 use money::units::Sheets;
 use money::units::Ticks;
@@ -56,4 +59,18 @@ pub extern "C" fn money_earliest_day(calendar: &[u32]) -> Found
     ensures { λ r. ⌜ r ≡ searchResult (now (calendar .entry)) (earliest (now (calendar .entry))) ⌝ }
 {
     money::days::earliest_day(calendar)
+}
+
+#[no_mangle]
+pub extern "C" fn money_day_of(year: u32, month: u32, day: u32) -> Found
+    ensures { λ r. ⌜ r ≡ dayAnswer (date year month day) ⌝ }
+{
+    money::dates::day_of(Date { year, month, day })
+}
+
+#[no_mangle]
+pub extern "C" fn money_date_of(day: u32) -> Dated
+    ensures { λ r. ⌜ r ≡ dateAnswer day ⌝ }
+{
+    money::dates::date_of(day)
 }

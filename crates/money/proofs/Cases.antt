@@ -1,4 +1,4 @@
--- Worked cases, each computed from the definitions that the promises cite: M1 to M6, and the limits and holidays beside them.
+-- Worked cases, each computed from the definitions that the promises cite: M1 to M6, the limits and holidays beside them, and dates.
 -- Assumes nothing.
 use mathlib.Core.Path.{_≡_, refl}
 use mathlib.Core.List.{List, [], _∷_, map}
@@ -7,6 +7,7 @@ use lib.ListN.{replicate}
 use Rattle.money.specs.Units.{sheets, ticks}
 use Rattle.money.specs.Causes.{firstOf}
 use Rattle.money.specs.Days.{trades, firstTrading, atOrAfter, nextAfter, earliest, searchResult}
+use Rattle.money.specs.Dates.{date, leap, february, monthLength, lengthAfter, startAfter, exists, inYears, dayOf, nextDate, dateOf, dayAnswer, dateAnswer}
 use Rattle.money.specs.Money.{principal, income, redemption, initialAmount, redemptionAmount}
 use Rattle.money.specs.Collateral.{kindValue, kindWorth}
 
@@ -70,8 +71,52 @@ cases =
     ∷ (searchResult (replicate 1200 1) (atOrAfter (replicate 1200 1) 38368) .day gives 38368)
     ∷ (searchResult (replicate 1201 1) (atOrAfter (replicate 1201 1) 0) .number gives 1)
     ∷ (searchResult (replicate 1201 0) (atOrAfter (replicate 1201 0) 38430) .number gives 1)
+    -- February: 4 divides 2004, 100 divides 1900 and 2100 too, 400 divides 2000 and 2400 too
+    ∷ (monthLength 2003 2 gives 28)
+    ∷ (monthLength 2004 2 gives 29)
+    ∷ (monthLength 1900 2 gives 28)
+    ∷ (monthLength 2000 2 gives 29)
+    ∷ (monthLength 2100 2 gives 28)
+    ∷ (monthLength 2400 2 gives 29)
+    -- the days of a month before and of a year after all dates; what is no month has none
+    ∷ (monthLength 1999 12 gives 31)
+    ∷ (monthLength 2100 11 gives 30)
+    ∷ (monthLength 2000 0 gives 0)
+    ∷ (monthLength 2000 13 gives 0)
+    -- the first day, the leap day of a year that 400 divides, the ends of a February and of all years
+    ∷ (dayAnswer (date 2000 1 1) .day gives 0)
+    ∷ (dayAnswer (date 2000 2 29) .day gives 59)
+    ∷ (dayAnswer (date 2001 2 28) .day gives 424)
+    ∷ (dayAnswer (date 2001 3 1) .day gives 425)
+    ∷ (dayAnswer (date 2026 11 23) .day gives 9823)
+    ∷ (dayAnswer (date 2099 12 1) .day gives 36494)
+    ∷ (dayAnswer (date 2099 12 31) .day gives 36524)
+    ∷ (dayAnswer (date 2099 12 31) .number gives 0)
+    -- dates that there are not, or not in these years
+    ∷ (dayAnswer (date 2001 2 29) .number gives 19)
+    ∷ (dayAnswer (date 2099 2 29) .number gives 19)
+    ∷ (dayAnswer (date 2000 4 31) .number gives 19)
+    ∷ (dayAnswer (date 2000 4 31) .day gives 0)
+    ∷ (dayAnswer (date 2000 0 1) .number gives 19)
+    ∷ (dayAnswer (date 2000 13 1) .number gives 19)
+    ∷ (dayAnswer (date 2000 1 0) .number gives 19)
+    ∷ (dayAnswer (date 1999 12 31) .number gives 19)
+    ∷ (dayAnswer (date 2100 1 1) .number gives 19)
+    ∷ (dayAnswer (date 2100 1 1) .day gives 0)
+    ∷ (dayAnswer (date 4294967295 1 1) .number gives 19)
+    ∷ (dayAnswer (date 2000 4294967295 1) .number gives 19)
+    ∷ (dayAnswer (date 2000 1 4294967295) .number gives 19)
+    -- and back
+    ∷ (dateAnswer 0 .date .year gives 2000)
+    ∷ (dateAnswer 59 .date .day gives 29)
+    ∷ (dateAnswer 60 .date .month gives 3)
+    ∷ (dateAnswer 366 .date .year gives 2001)
+    ∷ (dateAnswer 424 .date .day gives 28)
+    ∷ (dateAnswer 425 .date .month gives 3)
+    ∷ (dateAnswer 36525 .number gives 19)
+    ∷ (dateAnswer 36525 .date .year gives 0)
     ∷ []
 
 pub worked-cases : map (λ (c : Case). c .gives) cases ≡ map (λ (c : Case). c .says) cases
-unfolding firstOf redemptionAmount initialAmount redemption principal income kindWorth kindValue searchResult atOrAfter nextAfter earliest firstTrading trades
+unfolding firstOf redemptionAmount initialAmount redemption principal income kindWorth kindValue searchResult atOrAfter nextAfter earliest firstTrading trades dayAnswer exists inYears dayOf startAfter lengthAfter monthLength february leap dateAnswer dateOf nextDate
 worked-cases = refl

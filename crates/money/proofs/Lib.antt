@@ -1,4 +1,4 @@
--- What callers cite: why a call is refused, the search's two directions, and the bounds of results. The rest serves this crate's own proofs.
+-- What callers cite: why a call is refused, the search's two directions, the bounds of results, and that dates and days match. The rest serves this crate's own proofs.
 pub mod Refusals
 pub mod Smallest
 pub mod Digits
@@ -6,5 +6,9 @@ pub mod Scan
 pub mod Words
 pub mod Least
 pub mod Bounds
+pub mod MonthLaws
+pub mod DateLaws
+pub mod FirstTry
+pub mod DateAnswers
 pub mod Answers
 pub mod Cases

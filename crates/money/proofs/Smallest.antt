@@ -11,6 +11,7 @@ use lib.Dec.{leb}
 use Rattle.money.specs.Units.{Sheets, Ticks}
 use Rattle.money.specs.Causes.{Cause, firstOf}
 use Rattle.money.specs.Days.{Calendar, searchCauses}
+use Rattle.money.specs.Dates.{Date, dateCauses, dayCauses}
 use Rattle.money.specs.Money.{initialAmountCauses, redemptionCauses}
 use Rattle.money.specs.Collateral.{worthCauses}
 
@@ -46,6 +47,12 @@ least-cause n k (c ∷ cs) r e = go (c .applies) refl (leb n (c .number)) (least
 -- the calls of this layer
 pub search-smallest : (calendar : Calendar) (found : Option ℕ) (k : ℕ) → firstOf (searchCauses calendar found) ≡ some k → Least k (searchCauses calendar found)
 search-smallest calendar found k e = least-cause 0 k _ refl e
+
+pub date-smallest : (d : Date) (k : ℕ) → firstOf (dateCauses d) ≡ some k → Least k (dateCauses d)
+date-smallest d k e = least-cause 0 k _ refl e
+
+pub day-smallest : (day k : ℕ) → firstOf (dayCauses day) ≡ some k → Least k (dayCauses day)
+day-smallest day k e = least-cause 0 k _ refl e
 
 pub initial-smallest : (q : Sheets) (k : ℕ) → firstOf (initialAmountCauses q) ≡ some k → Least k (initialAmountCauses q)
 initial-smallest q k e = least-cause 0 k _ refl e

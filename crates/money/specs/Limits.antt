@@ -29,3 +29,18 @@ priceLimit = 100000
 -- "over more than 38,400 days": the days of a calendar of 1,200 words
 abbrev pub termLimit : ℕ
 termLimit = 38400
+
+-- "for 2000 to 2099" (02, ask 1)
+abbrev pub firstYear : ℕ
+firstYear = 2000
+
+abbrev pub lastYear : ℕ
+lastYear = 2099
+
+-- "the starts of all 1,200 months" (02, ask 1)
+abbrev pub monthCount : ℕ
+monthCount = 1200
+
+-- "The days above 36,524 have no date." (02, ask 1)
+abbrev pub lastDay : ℕ
+lastDay = 36524

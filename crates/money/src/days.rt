@@ -3,7 +3,7 @@ ghost use mathlib.Core.Path.{_≡_};
 ghost use Rattle.money.specs.Days.{trades, atOrAfter, nextAfter, earliest, searchResult};
 use crate::limits::CALENDAR_LIMIT;
 
-// The day that a search found, or its refusal's number beside 0.
+// The day that a search found or that a date is, or its refusal's number beside 0.
 #[repr(C)]
 pub struct Found {
     pub number: u8,

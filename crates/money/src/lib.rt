@@ -1,4 +1,4 @@
-// Days and money, the lowest layer: every call takes any arguments and promises document 01's number and result.
+// Days and money, the lowest layer: every call takes any arguments and promises the documents' number and result.
 
 // Fen, sheets and price ticks.
 pub mod units;
@@ -8,6 +8,11 @@ pub mod limits;
 
 // Trading days.
 pub mod days;
+
+// Dates of 2000 to 2099, by the starts of their months.
+pub mod dates;
+mod months;
+mod starts;
 
 // Amounts of money.
 pub mod amounts;

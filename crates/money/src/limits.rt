@@ -29,3 +29,14 @@ pub const CASH_KIND: u8 = 32;
 
 // "each with a rate in ten-thousandths of a sheet a unit"
 pub const RATE_PARTS: u64 = 10_000;
+
+// "for 2000 to 2099"
+pub const FIRST_YEAR: u32 = 2_000;
+
+pub const LAST_YEAR: u32 = 2_099;
+
+// "the starts of all 1,200 months"
+pub const MONTH_COUNT: u32 = 1_200;
+
+// "The days above 36,524 have no date."
+pub const LAST_DAY: u32 = 36_524;

@@ -1,15 +1,17 @@
 //! Turns a journal's text into its bytes, and back.
 
-use std::ffi::{OsStr, OsString};
+use std::ffi::OsString;
 use std::io::{Read, Write};
 use std::process::ExitCode;
 
-use model::{journal, text};
+use model::journal;
+use model::text::{self, Days};
 
 const USAGE: &str = "\
 usage: journal make [TEXT] > JOURNAL
-       journal show [JOURNAL] > TEXT
-Without a file name, standard input is read.";
+       journal show [--dates] [JOURNAL] > TEXT
+Without a file name, standard input is read. With --dates, days are shown as
+dates such as 2026-11-23, day 0 being 2000-01-01.";
 
 fn main() -> ExitCode {
     let arguments: Vec<OsString> = std::env::args_os().skip(1).collect();
@@ -27,34 +29,37 @@ fn main() -> ExitCode {
 
 /// All that is to be written, known before any of it is.
 fn output(arguments: &[OsString]) -> Result<Vec<u8>, String> {
-    let (command, file) = match arguments {
-        [command] => (command, None),
-        [command, file] => (command, Some(file.as_os_str())),
-        _ => return Err(USAGE.to_string()),
-    };
-    match command.to_str() {
-        Some("make") => make(&input(file)?),
-        Some("show") => show(&input(file)?),
+    let words: Vec<&str> = arguments.iter().map(|word| word.to_str().unwrap_or_default()).collect();
+    match words[..] {
+        ["make", ..] => make(&input(&arguments[1..])?),
+        ["show", "--dates", ..] => show(&input(&arguments[2..])?, Days::Dates),
+        ["show", ..] => show(&input(&arguments[1..])?, Days::Numbers),
         _ => Err(USAGE.to_string()),
     }
 }
 
-fn input(file: Option<&OsStr>) -> Result<Vec<u8>, String> {
-    let Some(name) = file else {
-        let mut bytes = Vec::new();
-        let read = std::io::stdin().read_to_end(&mut bytes);
-        return read.map(|_| bytes).map_err(|error| format!("cannot read standard input: {error}"));
-    };
-    std::fs::read(name).map_err(|error| format!("cannot read {}: {error}", name.display()))
+/// What the file holds, or standard input where none is named.
+fn input(files: &[OsString]) -> Result<Vec<u8>, String> {
+    match files {
+        [] => {
+            let mut bytes = Vec::new();
+            let read = std::io::stdin().read_to_end(&mut bytes);
+            read.map(|_| bytes).map_err(|error| format!("cannot read standard input: {error}"))
+        }
+        [name] if !name.as_encoded_bytes().starts_with(b"--") => {
+            std::fs::read(name).map_err(|error| format!("cannot read {}: {error}", name.display()))
+        }
+        _ => Err(USAGE.to_string()),
+    }
 }
 
 fn make(bytes: &[u8]) -> Result<Vec<u8>, String> {
     text::decode(bytes).and_then(text::make).map_err(|error| error.to_string())
 }
 
-fn show(bytes: &[u8]) -> Result<Vec<u8>, String> {
+fn show(bytes: &[u8], days: Days) -> Result<Vec<u8>, String> {
     let malformed = "journal refused: a count past its limit, an early end, or bytes left over";
     journal::parse(bytes)
-        .map(|journal| text::show(&journal).into_bytes())
+        .map(|journal| text::show(&journal, days).into_bytes())
         .map_err(|_| malformed.to_string())
 }

@@ -1,7 +1,9 @@
-//! The calendar's lines: its words as they are, or the days that trade.
+//! The calendar's lines: its words as they are, or the days that trade, as
+//! numbers or as dates.
 //!
 //! Numbers are plain here: among many a comma would look like a list.
 
+use super::date::{day_of_date, Days};
 use super::error::Problem;
 use super::words::{at_most, is_plain, Words};
 use crate::limits::{CALENDAR_DAYS, CALENDAR_WORDS};
@@ -9,8 +11,11 @@ use crate::money::trades;
 
 const WORD: &str = "a calendar word";
 const DAY: &str = "a day of the calendar";
+const DAYS: &str = "days such as 7 or 2026-11-23, or runs of days such as 3-7 or 2026-11-16..2026-11-20";
 /// Words, days or runs of days on a line that is shown.
 const SHOWN: usize = 12;
+/// The same where they are dates.
+const SHOWN_DATES: usize = 4;
 
 #[derive(Clone, Copy, PartialEq, Eq)]
 pub enum Form {
@@ -31,7 +36,8 @@ pub fn form(words: &mut Words) -> Result<Form, Problem> {
 pub struct CalendarText {
     form: Form,
     pub words: Vec<u32>,
-    last_day: Option<u32>,
+    /// The day given last, and how it was written.
+    last_day: Option<(u32, String)>,
 }
 
 impl CalendarText {
@@ -64,55 +70,79 @@ impl CalendarText {
         Ok(())
     }
 
-    /// A day such as `7`, or a run of days such as `3-7`.
+    /// A day such as `7` or `2026-11-23`, or a run of days such as `3-7`, `3..7` or `2026-11-16..2026-11-20`.
     fn add_days(&mut self, words: &Words, word: &str) -> Result<(), Problem> {
-        let (first, last) = word.split_once('-').unwrap_or((word, word));
-        if !is_plain(first) || !is_plain(last) {
-            return Err(words.lacks("days such as 7, or runs of days such as 3-7", Some(word)));
-        }
-        let (first, last) =
-            (at_most(first, DAY, CALENDAR_DAYS - 1)?, at_most(last, DAY, CALENDAR_DAYS - 1)?);
+        let (first_word, last_word) = ends(word);
+        let (first, last) = (day(words, word, first_word)?, day(words, word, last_word)?);
         if last < first {
-            return Err(Problem::NotRising { day: last, last: first });
+            return Err(Problem::NotRising { day: last_word.to_string(), last: first_word.to_string() });
         }
-        (first..=last).try_for_each(|day| self.add_day(day))
+        if let Some((_, written)) = self.last_day.as_ref().filter(|(day, _)| first <= *day) {
+            return Err(Problem::NotRising { day: first_word.to_string(), last: written.clone() });
+        }
+        (first..=last).for_each(|day| self.add_day(day));
+        self.last_day = Some((last, last_word.to_string()));
+        Ok(())
     }
 
-    fn add_day(&mut self, day: u32) -> Result<(), Problem> {
-        if let Some(last) = self.last_day.filter(|&last| day <= last) {
-            return Err(Problem::NotRising { day, last });
-        }
+    fn add_day(&mut self, day: u32) {
         let place = (day / 32) as usize;
         self.words.resize(place + 1, 0);
         self.words[place] |= 1 << (day % 32);
-        self.last_day = Some(day);
-        Ok(())
     }
+}
+
+/// The first and the last of a run of days, or a day twice.
+fn ends(word: &str) -> (&str, &str) {
+    let of_numbers = || word.split_once('-').filter(|(_, last)| !last.contains('-'));
+    word.split_once("..").or_else(of_numbers).unwrap_or((word, word))
+}
+
+fn day(words: &Words, run: &str, word: &str) -> Result<u32, Problem> {
+    if let Some(day) = day_of_date(word)? {
+        return Ok(day);
+    }
+    if !is_plain(word) {
+        return Err(words.lacks(DAYS, Some(run)));
+    }
+    at_most(word, DAY, CALENDAR_DAYS - 1)
 }
 
 /// Days where they say the whole calendar, and words where its last is 0 or it has none.
-pub fn show(calendar: &[u32]) -> String {
+pub fn show(calendar: &[u32], days: Days) -> String {
     let ends_with_a_day = calendar.last().is_some_and(|&word| word != 0);
-    if ends_with_a_day {
-        lines("calendar days", &day_runs(calendar))
-    } else {
-        lines("calendar words", &calendar.iter().map(u32::to_string).collect::<Vec<_>>())
+    if !ends_with_a_day {
+        return lines("calendar words", &calendar.iter().map(u32::to_string).collect::<Vec<_>>(), SHOWN);
+    }
+    let runs: Vec<String> = trading_days(calendar)
+        .chunk_by(|day, next| day + 1 == *next)
+        .flat_map(|run| shown(run, days))
+        .collect();
+    match days {
+        Days::Numbers => lines("calendar days", &runs, SHOWN),
+        Days::Dates => lines("calendar days", &runs, SHOWN_DATES),
     }
 }
 
-fn lines(start: &str, items: &[String]) -> String {
+fn lines(start: &str, items: &[String], on_a_line: usize) -> String {
     if items.is_empty() {
         return format!("{start}\n");
     }
-    items.chunks(SHOWN).map(|items| format!("{start} {}\n", items.join(" "))).collect()
+    items.chunks(on_a_line).map(|items| format!("{start} {}\n", items.join(" "))).collect()
 }
 
-fn day_runs(calendar: &[u32]) -> Vec<String> {
-    let days: Vec<u32> = (0..32 * calendar.len() as u32).filter(|&day| trades(calendar, day)).collect();
-    days.chunk_by(|day, next| day + 1 == *next)
-        .flat_map(|run| match run {
-            [first, _, .., last] => vec![format!("{first}-{last}")],
-            _ => run.iter().map(u32::to_string).collect(),
-        })
-        .collect()
+fn trading_days(calendar: &[u32]) -> Vec<u32> {
+    (0..32 * calendar.len() as u32).filter(|&day| trades(calendar, day)).collect()
+}
+
+/// Days in a row, from three on by the first and the last of them.
+fn shown(run: &[u32], days: Days) -> Vec<String> {
+    let between = match days {
+        Days::Numbers => "-",
+        Days::Dates => "..",
+    };
+    match run {
+        [first, _, .., last] => vec![format!("{}{between}{}", days.show(*first), days.show(*last))],
+        _ => run.iter().map(|&day| days.show(day)).collect(),
+    }
 }

@@ -1,5 +1,6 @@
 //! One event as a line of text.
 
+use super::date::Days;
 use super::error::Problem;
 use super::words::Words;
 use crate::event::{Account, Event, Terms, EVENT_BYTES};
@@ -30,7 +31,7 @@ fn read_event(words: &mut Words) -> Result<Event, Problem> {
             contract: words.named("contract", "a contract number")?,
             price: words.named("price", "a price")?,
             fallback: words.named("fallback", "a fallback price")?,
-            due: words.named("due", "a due day")?,
+            due: words.named_day("due", "a due day")?,
         }),
         "early" => Event::Early {
             sheets: words.number("a number of sheets")?,
@@ -75,14 +76,14 @@ fn read_bytes(words: &mut Words) -> Result<[u8; EVENT_BYTES], Problem> {
     Ok(std::array::from_fn(|place| 16 * digits[2 * place] + digits[2 * place + 1]))
 }
 
-pub fn show(bytes: &[u8; EVENT_BYTES]) -> String {
+pub fn show(bytes: &[u8; EVENT_BYTES], days: Days) -> String {
     match Event::decode(bytes) {
-        Ok(event) => show_event(event),
+        Ok(event) => show_event(event, days),
         Err(_) => show_bytes(bytes),
     }
 }
 
-fn show_event(event: Event) -> String {
+fn show_event(event: Event, days: Days) -> String {
     match event {
         Event::Open => "open".to_string(),
         Event::FundIn { account, fen } => format!("in {} {fen}", account_name(account)),
@@ -93,6 +94,7 @@ fn show_event(event: Event) -> String {
         Event::Freeze { kind, units } => format!("freeze {} {units}", kind_name(kind)),
         Event::Withdraw { kind, units } => format!("withdraw {} {units}", kind_name(kind)),
         Event::Initial(Terms { contract, sheets, price, fallback, due }) => {
+            let due = days.show(due);
             format!("initial {sheets} contract {contract} price {price} fallback {fallback} due {due}")
         }
         Event::Early { contract, sheets, price } => {

@@ -2,7 +2,7 @@
 
 use std::fmt;
 
-use crate::limits::{CALENDAR_WORDS, JOURNAL_EVENTS};
+use crate::limits::{CALENDAR_WORDS, FIRST_YEAR, JOURNAL_EVENTS, LAST_YEAR};
 
 /// The first line that cannot be taken, from 1, and why.
 #[derive(Clone, Debug, PartialEq, Eq)]
@@ -34,10 +34,13 @@ pub enum Problem {
     },
     /// So many hexadecimal digits are no event.
     DigitCount(usize),
-    /// A day of the calendar that is not after the day before it.
+    /// Numbers and hyphens that look like a date, but are not written as one.
+    DateForm(String),
+    NoSuchDate(String),
+    /// A day of the calendar that is not after the day before it, both as they are written.
     NotRising {
-        day: u32,
-        last: u32,
+        day: String,
+        last: String,
     },
     TwoForms,
     TooManyWords,
@@ -70,6 +73,10 @@ impl fmt::Display for Problem {
             Problem::PastMost { what, found, most } => write!(f, "{what} is at most {most}, found {found}"),
             Problem::LeftOver { name, found } => write!(f, "{name} takes nothing more, found `{found}`"),
             Problem::DigitCount(digits) => write!(f, "bytes needs 80 hexadecimal digits, found {digits}"),
+            Problem::DateForm(found) => write!(f, "a date is written as 2026-11-23, found `{found}`"),
+            Problem::NoSuchDate(found) => {
+                write!(f, "there is no date {found} from {FIRST_YEAR} to {LAST_YEAR}")
+            }
             Problem::NotRising { day, last } => write!(f, "days rise, but {day} stands after {last}"),
             Problem::TwoForms => write!(f, "a calendar is given in words or in days, not in both"),
             Problem::TooManyWords => write!(f, "a calendar has at most {CALENDAR_WORDS} words"),

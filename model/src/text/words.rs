@@ -2,6 +2,7 @@
 
 use std::str::SplitWhitespace;
 
+use super::date::day_of_date;
 use super::error::Problem;
 
 /// A line that says something: its first word, and those still to be taken.
@@ -44,11 +45,25 @@ impl<'a> Words<'a> {
 
     /// A number behind its own word.
     pub fn named<T: TryFrom<u64>>(&mut self, label: &str, what: &'static str) -> Result<T, Problem> {
-        let word = self.needed(what)?;
-        if word != label {
-            return Err(self.lacks(what, Some(word)));
-        }
+        self.label(label, what)?;
         self.number(what)
+    }
+
+    /// A day behind its own word: a number, or a date.
+    pub fn named_day(&mut self, label: &str, what: &'static str) -> Result<u32, Problem> {
+        self.label(label, what)?;
+        let word = self.needed(what)?;
+        match day_of_date(word)? {
+            Some(day) => Ok(day),
+            None => self.number_in(word, what),
+        }
+    }
+
+    fn label(&mut self, label: &str, what: &'static str) -> Result<(), Problem> {
+        match self.needed(what)? {
+            word if word == label => Ok(()),
+            word => Err(self.lacks(what, Some(word))),
+        }
     }
 
     pub fn end(&mut self) -> Result<(), Problem> {

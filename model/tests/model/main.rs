@@ -2,6 +2,7 @@
 
 mod causes;
 mod closes;
+mod dates;
 mod demand_3;
 mod events;
 mod fitness;

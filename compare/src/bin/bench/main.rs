@@ -4,6 +4,7 @@
 //! `names` tells for which loads.
 
 mod call;
+mod dates;
 mod journals;
 mod loads;
 mod single;
@@ -19,6 +20,7 @@ fn main() {
             let wanted = |name: &str| words.is_empty() || words.iter().any(|word| name.starts_with(word));
             journals::report(wanted);
             single::report(wanted);
+            dates::report(wanted);
         }
     }
 }

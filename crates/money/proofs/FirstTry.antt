@@ -1,0 +1,103 @@
+-- A day's month is told by one division: it is the month tried or the one before it.
+-- Assumes nothing.
+use mathlib.Core.Path.{_≡_, refl, sym, ap, _∙_, subst}
+use mathlib.Core.Bool.{Bool, true, _&&_}
+use Prim.Native.Nat.{ℕ, zero, suc, _+_, _*_, _/_, _%_, _≤_, _<_}
+use native.Mathlib.Nat.{add-zero, zero-add, add-suc, suc-add, le-of-suc-le-suc}
+use native.Mathlib.Omega.{arith}
+use borrow.Author.Tests.{leb-true, ltb-true}
+use lib.Dec.{ltb, leb}
+use Rattle.money.specs.Limits.{firstYear, monthCount, lastDay}
+use Rattle.money.specs.Dates.{date, leap, february, monthLength, lengthAfter, startAfter, monthsTo, dayOf, dateOf}
+use Rattle.money.proofs.MonthLaws.{both, next-start, rises, last-end}
+use Rattle.money.proofs.DateLaws.{date-is-one, date-has-day, day-date-day, from-start, to-end, its-year, its-month, same-date}
+
+-- ---- at 12 months in 365 days no month is tried too early, and none more than a month too late
+
+abbrev notEarly : (months start : ℕ) → Bool
+notEarly months start = leb (365 * months) (12 * (start + 1))
+
+abbrev notLate : (months start : ℕ) → Bool
+notLate months start = ltb (12 * start) (365 * (months + 1))
+
+abbrev near : (months start : ℕ) → Bool
+near months start = notEarly months start && notLate months start
+
+-- the test over the months in a row, and at each
+abbrev allNear : (count months start : ℕ) → Bool
+allNear zero months start = near months start
+allNear (suc count) months start = near months start && allNear count (suc months) (start + lengthAfter months)
+
+carried : (count months : ℕ) → allNear count months (startAfter months) ≡ true → (k : ℕ) → k ≤ count → near (months + k) (startAfter (months + k)) ≡ true
+unfolding startAfter
+carried zero months t k h = let z : months ≡ months + k = omega arith in rw z at t
+carried (suc count) months t zero h = rw add-zero (both (near months (startAfter months)) _ t .0)
+carried (suc count) months t (suc k) h =
+    subst (λ (m : ℕ). near m (startAfter m) ≡ true) (suc-add months k ∙ sym (add-suc months k))
+    (carried count (suc months) (both (near months (startAfter months)) _ t .1) k (le-of-suc-le-suc h))
+
+each-near : (k : ℕ) → k ≤ monthCount → near k (startAfter k) ≡ true
+unfolding startAfter lengthAfter monthLength february leap
+each-near k h = rw zero-add at (carried monthCount 0 refl k h)
+
+not-early : (k : ℕ) → k ≤ monthCount → 365 * k ≤ 12 * (startAfter k + 1)
+not-early k h = leb-true _ _ (both (notEarly k (startAfter k)) _ (each-near k h) .0)
+
+not-late : (k : ℕ) → k ≤ monthCount → 12 * startAfter k < 365 * (k + 1)
+not-late k h = ltb-true _ _ (both (notEarly k (startAfter k)) _ (each-near k h) .1)
+
+-- ---- the month tried is the day's own or the one after it
+
+module _ (day : ℕ) (h : day ≤ lastDay) where
+  begun : startAfter (monthsTo (dateOf day)) ≤ day
+  begun = omega (arith, from-start (dateOf day) (date-is-one day), day-date-day day)
+
+  ends : day < startAfter (suc (monthsTo (dateOf day)))
+  ends = omega (arith, to-end (dateOf day) (date-is-one day), day-date-day day)
+
+  in-table : monthsTo (dateOf day) < monthCount
+  in-table = omega (arith, date-has-day day h .is-date .month-to, date-has-day day h .year-to)
+
+  not-before : {months : ℕ} → months ≡ 12 * (day + 1) / 365 → monthsTo (dateOf day) ≤ months
+  not-before t = omega (arith, begun, not-early (monthsTo (dateOf day)) (omega (arith, in-table)))
+
+  not-past : {months : ℕ} → months ≡ 12 * (day + 1) / 365 → months ≤ suc (monthsTo (dateOf day))
+  not-past t = omega (arith, ends, not-late (suc (monthsTo (dateOf day))) in-table)
+
+  pub its-own : {months start : ℕ} → start ≡ startAfter months → months ≡ 12 * (day + 1) / 365 → start ≤ day → months ≡ monthsTo (dateOf day)
+  its-own {months} {start} f t l = omega (arith, not-before t, not-past t, not-next)
+    where
+      not-next : months ≡ suc (monthsTo (dateOf day)) → ⊥
+      not-next e = omega (arith, ends, ap startAfter e)
+
+  pub the-next : {months start : ℕ} → start ≡ startAfter months → months ≡ 12 * (day + 1) / 365 → day < start → months ≡ suc (monthsTo (dateOf day))
+  the-next {months} {start} f t l = omega (arith, not-before t, not-past t, not-own)
+    where
+      not-own : months ≡ monthsTo (dateOf day) → ⊥
+      not-own e = omega (arith, begun, ap startAfter e)
+
+  -- the month before the one tried: the day lies in it, and it ends where the one tried starts
+  pub record OneBack (months start length : ℕ) : Type 0 where
+    pub own : months ≡ monthsTo (dateOf day)
+    pub from : startAfter months ≤ day
+    pub spans : start ≡ startAfter months + length
+    pub to : start ≤ lastDay + 1
+
+  pub one-back : {months tried start length : ℕ} → suc months ≡ tried → start ≡ startAfter tried → length ≡ lengthAfter months → tried ≡ suc (monthsTo (dateOf day)) → OneBack months start length
+  one-back {months} {tried} {start} {length} b f l n =
+      record {
+        own = same;
+        from = omega (arith, begun, ap startAfter same);
+        spans = f ∙ ap startAfter (sym b) ∙ next-start months ∙ ap (λ (k : ℕ). startAfter months + k) (sym l);
+        to = omega (arith, rises tried monthCount (omega (arith, in-table)), last-end);
+      }
+    where
+      same : months ≡ monthsTo (dateOf day)
+      same = omega arith
+
+  -- the date is put together from its month and the days into it
+  pub put-together : {months : ℕ} (into : ℕ) → months ≡ monthsTo (dateOf day) → startAfter months + into ≡ day → date (firstYear + months / 12) (months % 12 + 1) (into + 1) ≡ dateOf day
+  unfolding dayOf
+  put-together {months} into e f =
+      let x = date-is-one day in
+      rw e (same-date (its-year (dateOf day) x) (its-month (dateOf day) x) (omega (arith, day-date-day day, ap startAfter e)))

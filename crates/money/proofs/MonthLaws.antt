@@ -1,0 +1,88 @@
+-- The months: which numbers are one, where they start, and how the rule that a whole list of starts keeps is carried to each entry.
+-- Assumes nothing.
+use mathlib.Core.Path.{_≡_, refl, sym, ap, _∙_}
+use mathlib.Core.Bool.{Bool, true, false, cond, _&&_}
+use mathlib.Core.List.{List, [], _∷_}
+use mathlib.Core.Logic.{⊎-elim}
+use Prim.Native.Nat.{ℕ, zero, suc, _+_, _≤_, _<_}
+use native.Mathlib.Nat.{add-zero, zero-add, add-suc, suc-add, le-of-suc-le-suc, not-suc-le-zero, eq-or-lt-of-le}
+use native.Mathlib.Decide.{decLe}
+use native.Mathlib.Omega.{arith}
+use borrow.Author.Tests.{eqb-true, leb-true}
+use lib.Dec.{eqb, leb}
+use lib.ListN.{length, getD, List·getD-eq-default}
+use Rattle.money.specs.Limits.{monthCount, lastDay}
+use Rattle.money.specs.Dates.{leap, february, monthLength, lengthAfter, startAfter, keepsRule}
+
+-- both tests of a pair pass
+pub both : (a b : Bool) → (a && b) ≡ true → (a ≡ true) × (b ≡ true)
+both true b t = (refl, t)
+both false b t = let z : _≡_ {A = ℕ} 0 1 = cc in absurd (omega arith)
+
+-- ---- January to December have days, and nothing else has
+
+abbrev lengths : (february : ℕ) → List ℕ
+lengths february = 31 ∷ february ∷ 31 ∷ 30 ∷ 31 ∷ 30 ∷ 31 ∷ 31 ∷ 30 ∷ 31 ∷ 30 ∷ 31 ∷ []
+
+abbrev noneIs0 : List ℕ → Bool
+noneIs0 [] = true
+noneIs0 (n ∷ ns) = leb 1 n && noneIs0 ns
+
+at-least-1 : (ns : List ℕ) → noneIs0 ns ≡ true → (k : ℕ) → k < length ns → 1 ≤ getD ns k 0
+at-least-1 [] t k h = absurd (not-suc-le-zero h)
+at-least-1 (n ∷ ns) t zero h = leb-true 1 n (both (leb 1 n) _ t .0)
+at-least-1 (n ∷ ns) t (suc k) h = at-least-1 ns (both (leb 1 n) _ t .1) k (le-of-suc-le-suc h)
+
+pub has-days : (year month : ℕ) → 1 ≤ month → month ≤ 12 → 1 ≤ monthLength year month
+unfolding monthLength february
+has-days year zero h k = absurd (not-suc-le-zero h)
+has-days year (suc month) h k = at-least-1 (lengths (february year)) (by-leap (leap year)) month (omega arith)
+  where
+    by-leap : (b : Bool) → noneIs0 (lengths (cond b 29 28)) ≡ true
+    by-leap true = refl
+    by-leap false = refl
+
+pub no-month : (year month : ℕ) → 12 < month → monthLength year month ≡ 0
+unfolding monthLength
+no-month year month h = List·getD-eq-default (0 ∷ lengths (february year)) 0 h
+
+pub is-month : (year month : ℕ) → 1 ≤ monthLength year month → (1 ≤ month) × (month ≤ 12)
+unfolding monthLength
+is-month year zero h = absurd (not-suc-le-zero h)
+is-month year (suc month) h = (omega arith, side (decLe (suc month) 12))
+  where
+    side : Dec (suc month ≤ 12) → suc month ≤ 12
+    side (yes l) = l
+    side (no l) = absurd (omega (arith, no-month year (suc month) (omega arith)))
+
+-- ---- the rule over a list of starts, and at each entry
+
+carried : (entries : List ℕ) (months start : ℕ) → keepsRule months start entries ≡ true → start ≡ startAfter months → (k : ℕ) → k < length entries → getD entries k 0 ≡ startAfter (months + k)
+unfolding keepsRule startAfter
+carried [] months start t e k h = absurd (not-suc-le-zero h)
+carried (entry ∷ entries) months start t e zero h =
+    eqb-true entry start (both (eqb entry start) _ t .0) ∙ e ∙ ap startAfter (sym (add-zero months))
+carried (entry ∷ entries) months start t e (suc k) h =
+    let same : entry ≡ startAfter months = eqb-true entry start (both (eqb entry start) _ t .0) ∙ e in
+    carried entries (suc months) _ (both (eqb entry start) _ t .1) (ap (λ (n : ℕ). n + lengthAfter months) same) k (le-of-suc-le-suc h)
+    ∙ ap startAfter (suc-add months k ∙ sym (add-suc months k))
+
+pub each-start : (entries : List ℕ) → keepsRule 0 0 entries ≡ true → (k : ℕ) → k < length entries → getD entries k 0 ≡ startAfter k
+unfolding startAfter
+each-start entries t k h = carried entries 0 0 t refl k h ∙ ap startAfter (zero-add k)
+
+-- ---- the starts rise by a month's length, and the last month ends with the last day
+
+pub next-start : (months : ℕ) → startAfter (suc months) ≡ startAfter months + lengthAfter months
+unfolding startAfter
+next-start months = refl
+
+pub rises : (m n : ℕ) → m ≤ n → startAfter m ≤ startAfter n
+unfolding startAfter
+rises m zero h = let z : m ≡ 0 = omega arith in omega (arith, ap startAfter z)
+rises m (suc n) h =
+    ⊎-elim (λ (q : m ≡ suc n). omega (arith, ap startAfter q)) (λ (l : m < suc n). omega (arith, rises m n (le-of-suc-le-suc l))) (eq-or-lt-of-le h)
+
+pub last-end : startAfter monthCount ≡ lastDay + 1
+unfolding startAfter lengthAfter monthLength february leap
+last-end = refl
