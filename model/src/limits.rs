@@ -1,4 +1,4 @@
-//! Every limit of documents 01 and 02, once.
+//! Every limit that the model knows, once.
 
 /// Words of the lent calendar.
 pub const CALENDAR_WORDS: usize = 1_200;

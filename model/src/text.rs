@@ -31,7 +31,7 @@ mod error;
 mod words;
 
 use calendar::CalendarText;
-pub use date::Days;
+pub use date::DaysAs;
 pub use error::{Error, Problem};
 use words::Words;
 
@@ -52,7 +52,7 @@ pub fn make(text: &str) -> Result<Vec<u8>, Error> {
 
 /// The text of a journal; `make` gives the same journal back, whichever way
 /// days are shown. A day begins with an empty line.
-pub fn show(journal: &Journal, days: Days) -> String {
+pub fn show(journal: &Journal, days: DaysAs) -> String {
     let mut text = calendar::show(&journal.calendar, days);
     text.push('\n');
     for bytes in journal.events {

@@ -5,7 +5,7 @@ use model::event::{Account, Event, Terms, EVENT_BYTES};
 use model::generator::random::Random;
 use model::generator::{corpus, generate_as, Profile};
 use model::journal::{parse, write};
-use model::text::{decode, make, show, Days, Error, Problem};
+use model::text::{decode, make, show, DaysAs, Error, Problem};
 
 /// The journal of one line after a calendar without words.
 fn alone(line: &str) -> Result<Vec<u8>, String> {
@@ -17,10 +17,10 @@ fn of_event(event: Event) -> Vec<u8> {
 }
 
 fn shown(bytes: &[u8]) -> String {
-    shown_with(bytes, Days::Numbers)
+    shown_with(bytes, DaysAs::Numbers)
 }
 
-fn shown_with(bytes: &[u8], days: Days) -> String {
+fn shown_with(bytes: &[u8], days: DaysAs) -> String {
     show(&parse(bytes).expect("a well-formed journal"), days)
 }
 
@@ -240,7 +240,7 @@ fn days_that_do_not_rise_are_named_as_they_are_written() {
 
 #[test]
 fn days_are_shown_as_dates_where_they_have_one() {
-    let dated = |calendar: &[u32]| shown_with(&write(calendar, &[]), Days::Dates);
+    let dated = |calendar: &[u32]| shown_with(&write(calendar, &[]), DaysAs::Dates);
     assert_eq!(dated(&[206]), "calendar days 2000-01-02..2000-01-04 2000-01-07 2000-01-08\n\n");
     assert_eq!(dated(&[206, 0]), "calendar words 206 0\n\n");
     assert_eq!(dated(&[u32::MAX; 1_200]), "calendar days 2000-01-01..38399\n\n");
@@ -256,7 +256,7 @@ fn days_are_shown_as_dates_where_they_have_one() {
         (36_525, "36525"),
         (u32::MAX, "4294967295"),
     ] {
-        let text = shown_with(&of_event(initial(due)), Days::Dates);
+        let text = shown_with(&of_event(initial(due)), DaysAs::Dates);
         assert!(text.ends_with(&format!(" due {said}\n")), "{text}");
     }
 }
@@ -283,7 +283,7 @@ fn every_generated_journal_is_shown_and_made_again() {
     let mut well_formed = 0;
     for (name, bytes) in corpus(0..2_000) {
         let Ok(journal) = parse(&bytes) else { continue };
-        for days in [Days::Numbers, Days::Dates] {
+        for days in [DaysAs::Numbers, DaysAs::Dates] {
             let text = show(&journal, days);
             let again = make(&text);
             assert!(again.as_ref() == Ok(&bytes), "{name}: {:?}\n{text}", again.err());
@@ -301,12 +301,12 @@ fn a_spoilt_text_is_refused_or_stable() {
     let (mut made, mut refused) = (0, 0);
     for seed in 0..4_000 {
         let bytes = generate_as(random.pick(&[Profile::ThinCalendar, Profile::Careless]), seed);
-        let days = random.pick(&[Days::Numbers, Days::Dates]);
+        let days = random.pick(&[DaysAs::Numbers, DaysAs::Dates]);
         let text = spoilt(&mut random, &shown_with(&bytes, days));
         match make(&text) {
             Ok(bytes) => {
                 assert_eq!(make(&shown(&bytes)), Ok(bytes.clone()));
-                assert_eq!(make(&shown_with(&bytes, Days::Dates)), Ok(bytes));
+                assert_eq!(make(&shown_with(&bytes, DaysAs::Dates)), Ok(bytes));
                 made += 1;
             }
             Err(Error { line, .. }) => {
@@ -334,6 +334,8 @@ fn spoilt(random: &mut Random, text: &str) -> String {
                 "-",
                 "..",
                 "cash",
+                "own",
+                "days",
                 "0",
                 "38400",
                 "99999999999",

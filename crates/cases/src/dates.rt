@@ -1,6 +1,6 @@
-// Dates and their days, from document 02's first ask: the first day, a leap day, the last day, and what has none.
+// Document 02, ask 1: leap days, the ends of the years, and what has no day or no date.
 ghost use mathlib.Core.Path.{_≡_};
-ghost use Rattle.money.specs.Dates.{date, dayAnswer, dateAnswer};
+ghost use Rattle.money.specs.Dates.{date, dayAnswer};
 use money::dates::Date;
 use money::days::Found;
 
@@ -21,7 +21,7 @@ pub fn to_days() {
     check::expect(none.number == 19);
 }
 
-pub fn and_back() {
+pub fn to_dates() {
     let leap = money::dates::date_of(59);
     check::expect(leap.date.day == 29);
     let last = money::dates::date_of(36_524);

@@ -31,7 +31,7 @@ fn main() {
     amounts::redemptions();
     amounts::values();
     dates::to_days();
-    dates::and_back();
+    dates::to_dates();
     worked::journal();
     run_cases::sheets_in_tens();
     run_cases::due_within_a_year();

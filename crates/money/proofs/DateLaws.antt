@@ -20,7 +20,7 @@ pub record IsDate (d : Date) : Type 0 where
   pub day-to : d .day ≤ monthLength (d .year) (d .month)
 
 -- and of 2000 to 2099
-pub record HasDay (d : Date) : Type 0 where
+pub record IsDateInYears (d : Date) : Type 0 where
   pub is-date : IsDate d
   pub year-to : d .year ≤ lastYear
 
@@ -128,11 +128,11 @@ date-day-date d h = one-date (dateOf (dayOf d)) d (date-is-one (dayOf d)) h (day
 
 -- ---- the years 2000 to 2099 are the days 0 to 36,524
 
-pub day-to : (d : Date) → HasDay d → dayOf d ≤ lastDay
-day-to d v = omega (arith, to-end d (v .is-date), rises (suc (monthsTo d)) monthCount (omega arith), last-end)
+pub day-at-most-last : (d : Date) → IsDateInYears d → dayOf d ≤ lastDay
+day-at-most-last d v = omega (arith, to-end d (v .is-date), rises (suc (monthsTo d)) monthCount (omega arith), last-end)
 
-pub date-has-day : (day : ℕ) → day ≤ lastDay → HasDay (dateOf day)
-date-has-day day h = record { is-date = date-is-one day; year-to = side (decLe (dateOf day .year) lastYear) }
+pub date-in-years : (day : ℕ) → day ≤ lastDay → IsDateInYears (dateOf day)
+date-in-years day h = record { is-date = date-is-one day; year-to = side (decLe (dateOf day .year) lastYear) }
   where
     side : Dec (dateOf day .year ≤ lastYear) → dateOf day .year ≤ lastYear
     side (yes l) = l

@@ -71,11 +71,29 @@ pub each-start : (entries : List ℕ) → keepsRule 0 0 entries ≡ true → (k 
 unfolding startAfter
 each-start entries t k h = carried entries 0 0 t refl k h ∙ ap startAfter (zero-add k)
 
--- ---- the starts rise by a month's length, and the last month ends with the last day
+to-the-end : (entries : List ℕ) (months start : ℕ) → keepsRule months start entries ≡ true → start ≡ startAfter months → startAfter (months + length entries) ≡ lastDay + 1
+unfolding keepsRule startAfter
+to-the-end [] months start t e = ap startAfter (add-zero months) ∙ sym e ∙ eqb-true start (lastDay + 1) t
+to-the-end (entry ∷ entries) months start t e =
+    let same : entry ≡ startAfter months = eqb-true entry start (both (eqb entry start) _ t .0) ∙ e in
+    ap startAfter (add-suc months (length entries) ∙ sym (suc-add months (length entries)))
+    ∙ to-the-end entries (suc months) _ (both (eqb entry start) _ t .1) (ap (λ (n : ℕ). n + lengthAfter months) same)
 
 pub next-start : (months : ℕ) → startAfter (suc months) ≡ startAfter months + lengthAfter months
 unfolding startAfter
 next-start months = refl
+
+-- each next entry is the last plus that month's length, and after the last one comes day 36,525
+pub next-entry : (entries : List ℕ) → keepsRule 0 0 entries ≡ true → (k : ℕ) → suc k < length entries → getD entries (suc k) 0 ≡ getD entries k 0 + lengthAfter k
+next-entry entries t k h = omega (arith, each-start entries t k (omega arith), each-start entries t (suc k) h, next-start k)
+
+pub last-entry : (entries : List ℕ) → keepsRule 0 0 entries ≡ true → (k : ℕ) → suc k ≡ length entries → getD entries k 0 + lengthAfter k ≡ lastDay + 1
+unfolding startAfter
+last-entry entries t k h =
+    let end : startAfter (suc k) ≡ lastDay + 1 = ap startAfter (h ∙ sym (zero-add (length entries))) ∙ to-the-end entries 0 0 t refl in
+    omega (arith, each-start entries t k (omega arith), next-start k)
+
+-- ---- the starts rise, and the last month ends with the last day
 
 pub rises : (m n : ℕ) → m ≤ n → startAfter m ≤ startAfter n
 unfolding startAfter

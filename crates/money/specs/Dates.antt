@@ -28,7 +28,7 @@ leap year = divides 4 year && (not (divides 100 year) || divides 400 year)
 unfoldable pub february : ℕ → ℕ
 february year = cond (leap year) 29 28
 
--- the days of a month, January's first; what is no month, 0 or above 12, has none
+-- the days of a month, 1 January to 12 December; what is no month, 0 or above 12, has none
 unfoldable pub monthLength : (year month : ℕ) → ℕ
 monthLength year month =
     getD (0 ∷ 31 ∷ february year ∷ 31 ∷ 30 ∷ 31 ∷ 30 ∷ 31 ∷ 31 ∷ 30 ∷ 31 ∷ 30 ∷ 31 ∷ []) month 0
@@ -45,7 +45,7 @@ startAfter zero = 0
 startAfter (suc months) = startAfter months + lengthAfter months
 
 -- "the starts of all 1,200 months", "shown for the whole list together": the entry is the month's start, the next month starts its length later,
--- and after the last entry all days have passed
+-- and the last month ends with day 36,524
 unfoldable pub keepsRule : (months start : ℕ) → List ℕ → Bool
 keepsRule months start [] = eqb start (lastDay + 1)
 keepsRule months start (entry ∷ entries) =
@@ -60,6 +60,10 @@ exists d = leb 1 (d .day) && leb (d .day) (monthLength (d .year) (d .month))
 -- "for 2000 to 2099"
 unfoldable pub inYears : Date → Bool
 inYears d = leb firstYear (d .year) && leb (d .year) lastYear
+
+-- a date that exists, in these years
+abbrev pub hasDay : Date → Bool
+hasDay d = exists d && inYears d
 
 -- how many months after January 2000 its month comes
 abbrev pub monthsTo : Date → ℕ
@@ -86,7 +90,7 @@ dateOf (suc day) = nextDate (dateOf day)
 
 -- "19, for a date that doesn't exist or lies outside those years"
 abbrev pub dateCauses : Date → List Cause
-dateCauses d = (not (exists d) ⇒ 19) ∷ (not (inYears d) ⇒ 19) ∷ []
+dateCauses d = (not (hasDay d) ⇒ 19) ∷ []
 
 -- "or a day above 36,524"
 abbrev pub dayCauses : ℕ → List Cause

@@ -51,14 +51,8 @@ fn starts() -> [u16; 1200]
     STARTS
 }
 
-// A start as a day.
-fn wide(start: u16) -> u32
-    ensures { λ r. ⌜ r ≡ start ⌝ }
-{
-    start as u32
-}
-
-// The first day of that month; after the last month comes day 36,525. Compiled code copies the table at a read, so a conversion reads it once.
+// The first day of the month that comes so many months after January 2000; after the last comes day 36,525. Compiled code copies the table at
+// a read, so a conversion reads it once.
 pub fn start_after(months: u32) -> u32
     requires { ⌜ months ≤ monthCount ⌝ }
     ensures { λ r. ⌜ r ≡ startAfter months ⌝ }
@@ -67,5 +61,5 @@ pub fn start_after(months: u32) -> u32
         return LAST_DAY + 1;
     }
     let starts = starts();
-    wide(starts[months as usize])
+    starts[months as usize] as u32
 }

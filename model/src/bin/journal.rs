@@ -5,7 +5,7 @@ use std::io::{Read, Write};
 use std::process::ExitCode;
 
 use model::journal;
-use model::text::{self, Days};
+use model::text::{self, DaysAs};
 
 const USAGE: &str = "\
 usage: journal make [TEXT] > JOURNAL
@@ -32,8 +32,8 @@ fn output(arguments: &[OsString]) -> Result<Vec<u8>, String> {
     let words: Vec<&str> = arguments.iter().map(|word| word.to_str().unwrap_or_default()).collect();
     match words[..] {
         ["make", ..] => make(&input(&arguments[1..])?),
-        ["show", "--dates", ..] => show(&input(&arguments[2..])?, Days::Dates),
-        ["show", ..] => show(&input(&arguments[1..])?, Days::Numbers),
+        ["show", "--dates", ..] => show(&input(&arguments[2..])?, DaysAs::Dates),
+        ["show", ..] => show(&input(&arguments[1..])?, DaysAs::Numbers),
         _ => Err(USAGE.to_string()),
     }
 }
@@ -57,7 +57,7 @@ fn make(bytes: &[u8]) -> Result<Vec<u8>, String> {
     text::decode(bytes).and_then(text::make).map_err(|error| error.to_string())
 }
 
-fn show(bytes: &[u8], days: Days) -> Result<Vec<u8>, String> {
+fn show(bytes: &[u8], days: DaysAs) -> Result<Vec<u8>, String> {
     let malformed = "journal refused: a count past its limit, an early end, or bytes left over";
     journal::parse(bytes)
         .map(|journal| text::show(&journal, days).into_bytes())

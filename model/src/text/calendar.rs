@@ -3,7 +3,7 @@
 //!
 //! Numbers are plain here: among many a comma would look like a list.
 
-use super::date::{day_of_date, Days};
+use super::date::{day_of_date, DaysAs};
 use super::error::Problem;
 use super::words::{at_most, is_plain, Words};
 use crate::limits::{CALENDAR_DAYS, CALENDAR_WORDS};
@@ -109,7 +109,7 @@ fn day(words: &Words, run: &str, word: &str) -> Result<u32, Problem> {
 }
 
 /// Days where they say the whole calendar, and words where its last is 0 or it has none.
-pub fn show(calendar: &[u32], days: Days) -> String {
+pub fn show(calendar: &[u32], days: DaysAs) -> String {
     let ends_with_a_day = calendar.last().is_some_and(|&word| word != 0);
     if !ends_with_a_day {
         return lines("calendar words", &calendar.iter().map(u32::to_string).collect::<Vec<_>>(), SHOWN);
@@ -119,8 +119,8 @@ pub fn show(calendar: &[u32], days: Days) -> String {
         .flat_map(|run| shown(run, days))
         .collect();
     match days {
-        Days::Numbers => lines("calendar days", &runs, SHOWN),
-        Days::Dates => lines("calendar days", &runs, SHOWN_DATES),
+        DaysAs::Numbers => lines("calendar days", &runs, SHOWN),
+        DaysAs::Dates => lines("calendar days", &runs, SHOWN_DATES),
     }
 }
 
@@ -136,10 +136,10 @@ fn trading_days(calendar: &[u32]) -> Vec<u32> {
 }
 
 /// Days in a row, from three on by the first and the last of them.
-fn shown(run: &[u32], days: Days) -> Vec<String> {
+fn shown(run: &[u32], days: DaysAs) -> Vec<String> {
     let between = match days {
-        Days::Numbers => "-",
-        Days::Dates => "..",
+        DaysAs::Numbers => "-",
+        DaysAs::Dates => "..",
     };
     match run {
         [first, _, .., last] => vec![format!("{}{between}{}", days.show(*first), days.show(*last))],

@@ -6,16 +6,16 @@ use crate::dates::{date_of, day_of, Date};
 
 /// How days are shown.
 #[derive(Clone, Copy, PartialEq, Eq)]
-pub enum Days {
+pub enum DaysAs {
     Numbers,
     /// Where there is one; later days are numbers still.
     Dates,
 }
 
-impl Days {
+impl DaysAs {
     pub fn show(self, day: u32) -> String {
         match (self, date_of(day)) {
-            (Days::Dates, (0, date)) => date.to_string(),
+            (DaysAs::Dates, (0, date)) => date.to_string(),
             _ => day.to_string(),
         }
     }

@@ -1,6 +1,6 @@
 //! One event as a line of text.
 
-use super::date::Days;
+use super::date::DaysAs;
 use super::error::Problem;
 use super::words::Words;
 use crate::event::{Account, Event, Terms, EVENT_BYTES};
@@ -76,14 +76,14 @@ fn read_bytes(words: &mut Words) -> Result<[u8; EVENT_BYTES], Problem> {
     Ok(std::array::from_fn(|place| 16 * digits[2 * place] + digits[2 * place + 1]))
 }
 
-pub fn show(bytes: &[u8; EVENT_BYTES], days: Days) -> String {
+pub fn show(bytes: &[u8; EVENT_BYTES], days: DaysAs) -> String {
     match Event::decode(bytes) {
         Ok(event) => show_event(event, days),
         Err(_) => show_bytes(bytes),
     }
 }
 
-fn show_event(event: Event, days: Days) -> String {
+fn show_event(event: Event, days: DaysAs) -> String {
     match event {
         Event::Open => "open".to_string(),
         Event::FundIn { account, fen } => format!("in {} {fen}", account_name(account)),

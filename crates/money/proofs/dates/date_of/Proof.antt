@@ -1,10 +1,10 @@
-use Prim.Native.Nat.{ℕ, suc, _+_, _-_, _*_, _/_, _≤_}
-use mathlib.Core.Path.{_≡_, sym, ap, _∙_}
+use Prim.Native.Nat.{ℕ, _≤_}
+use mathlib.Core.Path.{refl, sym, ap, _∙_}
 use mathlib.Core.Option.{none}
 use native.Mathlib.Omega.{arith}
 use borrow.Author.Needs.{needs}
 use Rattle.money.specs.Limits.{lastDay}
-use Rattle.money.specs.Dates.{monthsTo, dateOf, dated}
+use Rattle.money.specs.Dates.{startAfter, dated}
 use Rattle.money.proofs.FirstTry.{its-own, the-next, OneBack, one-back, put-together}
 use Rattle.money.proofs.DateAnswers.{date-given, date-refused}
 use Rattle.money.proofs.dates.date_of.Statement.{statement}
@@ -27,11 +27,11 @@ module _ (c : tie.After-length-after) where
   abbrev later : tie.Else2
   later = search needs
 
-  next : 12 * (day passed + 1) / 365 ≡ suc (monthsTo (dateOf (day passed)))
-  next = omega (arith, the-next (day passed) (within passed) (tried .start-after .ensures) (omega arith) (later .if2 .left))
-
-  back : OneBack (day passed) (within passed) (12 * (day passed + 1) / 365 - 1) (tried .start-after .result) (c .length-after .result)
-  back = one-back (day passed) (within passed) (omega (arith, next)) (tried .start-after .ensures) (c .length-after .ensures) next
+  back : OneBack (day passed) (within passed) (tried .start-after .result) (c .length-after .result)
+  back =
+      one-back (day passed) (within passed) (tried .start-after .ensures)
+      (search needs)
+      (later .if2 .left) refl (c .length-after .ensures)
 
 returns : tie.Need-returns
 returns c = sym (date-refused _ (c .if1 .taken))
@@ -53,16 +53,16 @@ returns-2 c =
     let p : tie.Else1 = search needs in
     let t : tie.After-start-after = search needs in
     let then : tie.Then2 = search needs in
-    let own = its-own (day p) (within p) (t .start-after .ensures) (omega arith) (then .if2 .taken) in
+    let own = its-own (day p) (within p) (t .start-after .ensures) (search needs) (then .if2 .taken) in
     c .date-at .ensures
-    ∙ ap (dated none) (put-together (day p) (within p) _ own (omega (arith, t .start-after .ensures)))
+    ∙ ap (dated none) (put-together (day p) (within p) _ own (omega (arith, t .start-after .ensures, ap startAfter own)))
     ∙ sym (date-given (day p) (within p))
 
 sub-months : tie.Need-sub-months
 sub-months c =
     let p : tie.Else1 = search needs in
     let t : tie.After-start-after = search needs in
-    omega (arith, the-next (day p) (within p) (t .start-after .ensures) (omega arith) (c .if2 .left))
+    omega (arith, the-next (day p) (within p) (t .start-after .ensures) (search needs) (c .if2 .left))
 
 length-after-requires : tie.Need-length-after-requires
 length-after-requires c κs = search needs
@@ -80,8 +80,10 @@ returns-3 : tie.Need-returns-3
 returns-3 c =
     let l : tie.After-length-after = search needs in
     let p : tie.Else1 = search needs in
+    let t : tie.After-start-after = search needs in
+    let next = the-next (day p) (within p) (t .start-after .ensures) (search needs) (later l .if2 .left) in
     c .date-at2 .ensures
-    ∙ ap (dated none) (put-together (day p) (within p) _ (back l .own) (omega (arith, back l .from, back l .spans)))
+    ∙ ap (dated none) (put-together (day p) (within p) _ (omega (arith, next)) (omega (arith, back l .from, back l .spans)))
     ∙ sym (date-given (day p) (within p))
 
 pub date-of-spec : {M : Type 1} → statement M

@@ -5,7 +5,7 @@ use native.Mathlib.Omega.{arith}
 use borrow.Author.Needs.{needs}
 use Rattle.money.specs.Dates.{Date, monthLength, dayOf, numbered}
 use Rattle.money.proofs.MonthLaws.{is-month}
-use Rattle.money.proofs.DateLaws.{HasDay, day-to}
+use Rattle.money.proofs.DateLaws.{IsDateInYears, day-at-most-last}
 use Rattle.money.proofs.DateAnswers.{day-given, day-refused}
 use Rattle.money.proofs.dates.day_of.Statement.{statement}
 use Rattle.money.proofs.dates.day_of.Tie as tie
@@ -16,7 +16,7 @@ begun c = search needs
 abbrev measured : tie.Else4 → tie.After-month-length
 measured c = search needs
 
--- past all tests the date has a day
+-- past all tests the date is one of these years
 module _ (c : tie.Else4) where
   abbrev given : Date
   given = begun c .args .date
@@ -24,8 +24,8 @@ module _ (c : tie.Else4) where
   within : given .day ≤ monthLength (given .year) (given .month)
   within = omega (arith, measured c .month-length .ensures)
 
-  has-day : HasDay given
-  has-day =
+  in-years : IsDateInYears given
+  in-years =
       let month = is-month (given .year) (given .month) (omega (arith, within)) in
       record {
         is-date = record { year-from = omega arith; month-from = month .0; month-to = month .1; day-from = omega arith; day-to = within };
@@ -53,26 +53,26 @@ mul-months : tie.Need-mul-months
 mul-months c = search needs
 
 sub-months : tie.Need-sub-months
-sub-months c = has-day c .is-date .month-from
+sub-months c = in-years c .is-date .month-from
 
 add-months : tie.Need-add-months
-add-months c = record { fits = omega (arith, has-day c .is-date .month-to) }
+add-months c = record { fits = omega (arith, in-years c .is-date .month-to) }
 
 start-after-requires : tie.Need-start-after-requires
-start-after-requires c κs = omega (arith, has-day c .is-date .month-to)
+start-after-requires c κs = omega (arith, in-years c .is-date .month-to)
 
 add-found : tie.Need-add-found
 unfolding dayOf
 add-found c =
     let past : tie.Else4 = search needs in
-    record { fits = omega (arith, c .start-after .ensures, day-to (given past) (has-day past)) }
+    record { fits = omega (arith, c .start-after .ensures, day-at-most-last (given past) (in-years past)) }
 
 returns-5 : tie.Need-returns-5
 unfolding dayOf
 returns-5 c =
     let past : tie.Else4 = search needs in
     ap (λ (start : ℕ). numbered none (start + (given past .day - 1))) (c .start-after .ensures)
-    ∙ sym (day-given (given past) (has-day past))
+    ∙ sym (day-given (given past) (in-years past))
 
 pub day-of-spec : {M : Type 1} → statement M
 day-of-spec =

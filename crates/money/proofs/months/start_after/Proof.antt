@@ -19,20 +19,20 @@ returns c =
 starts-requires : tie.Need-starts-requires
 starts-requires c κs = search needs
 
-mul-wide : tie.Need-mul-wide
-mul-wide c = search needs
+mul-result : tie.Need-mul-result
+mul-result c = search needs
 
-array-read-wide : tie.Need-array-read-wide
-array-read-wide c = search needs
+array-read-result : tie.Need-array-read-result
+array-read-result c = search needs
 
-wide-requires : tie.Need-wide-requires
-wide-requires c κs = search needs
+cast-result : tie.Need-cast-result
+cast-result c = search needs
 
 returns-2 : tie.Need-returns-2
 returns-2 c =
     let p : tie.After-starts = search needs in
-    c .wide .ensures ∙ each-start (p .starts .result) (p .starts .ensures) _ (search needs)
+    each-start (p .starts .result) (p .starts .ensures) _ (search needs)
 
 pub start-after-spec : {M : Type 1} → statement M
 start-after-spec =
-    tie.close (tie.spec add-result returns starts-requires mul-wide array-read-wide wide-requires returns-2)
+    tie.close (tie.spec add-result returns starts-requires mul-result array-read-result cast-result returns-2)

@@ -5,8 +5,8 @@ use Rattle.money.specs.Causes.{firstOf}
 use Rattle.money.specs.declared.dates.Dated.{Dated}
 use Rattle.money.specs.Dates.{leap, february, monthLength, nextDate, dateOf, dateAnswer}
 use Rattle.money.proofs.DateAnswers.{last-date}
-use Rattle.cases.proofs.dates.and_back.Statement.{statement}
-use Rattle.cases.proofs.dates.and_back.Tie as tie
+use Rattle.cases.proofs.dates.to_dates.Statement.{statement}
+use Rattle.cases.proofs.dates.to_dates.Tie as tie
 
 date-of-requires : tie.Need-date-of-requires
 date-of-requires c κs = search needs
@@ -37,8 +37,8 @@ expect-requires-3 c κs =
 returns : tie.Need-returns
 returns c = search needs
 
-pub and-back-spec : {M : Type 1} → statement M
-and-back-spec =
+pub to-dates-spec : {M : Type 1} → statement M
+to-dates-spec =
     tie.close
     (tie.spec
     date-of-requires
