@@ -28,7 +28,7 @@ leap year = divides 4 year && (not (divides 100 year) || divides 400 year)
 unfoldable pub february : ℕ → ℕ
 february year = cond (leap year) 29 28
 
--- the days of a month, 1 January to 12 December; what is no month, 0 or above 12, has none
+-- the days of a month, from 1 for January to 12 for December; any other number is no month and has no days
 unfoldable pub monthLength : (year month : ℕ) → ℕ
 monthLength year month =
     getD (0 ∷ 31 ∷ february year ∷ 31 ∷ 30 ∷ 31 ∷ 30 ∷ 31 ∷ 31 ∷ 30 ∷ 31 ∷ 30 ∷ 31 ∷ []) month 0

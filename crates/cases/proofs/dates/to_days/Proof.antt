@@ -1,10 +1,11 @@
-use mathlib.Core.Path.{ap}
+use mathlib.Core.Path.{ap, _∙_}
 use Prim.Native.Nat.{ℕ}
 use borrow.Author.Needs.{needs}
 use borrow.Author.Tests.{eq-eqb}
 use Rattle.money.specs.Causes.{firstOf}
 use Rattle.money.specs.declared.days.Found.{Found}
 use Rattle.money.specs.Dates.{leap, february, monthLength, lengthAfter, startAfter, exists, inYears, dayOf, dayAnswer}
+use Rattle.money.proofs.DateAnswers.{last-day}
 use Rattle.cases.proofs.dates.to_days.Statement.{statement}
 use Rattle.cases.proofs.dates.to_days.Tie as tie
 
@@ -36,10 +37,9 @@ day-requires-3 : tie.Need-day-requires-3
 day-requires-3 c κs = search needs
 
 expect-requires-3 : tie.Need-expect-requires-3
-unfolding dayAnswer exists inYears dayOf startAfter lengthAfter monthLength february leap firstOf
 expect-requires-3 c κs =
     let told : tie.After-day3 = search needs in
-    eq-eqb (told .day3 .result .day) 36524 (ap its-day (told .day3 .ensures))
+    eq-eqb (told .day3 .result .day) 36524 (ap its-day (told .day3 .ensures ∙ last-day))
 
 day-requires-4 : tie.Need-day-requires-4
 day-requires-4 c κs = search needs
