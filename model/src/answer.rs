@@ -1,6 +1,6 @@
 //! What a call answers: the number, and the three figures of a Close.
 
-/// The causes of "Turned-down events", each with the paper's number.
+/// The causes of being turned down, each with the papers' number.
 #[derive(Clone, Copy, Debug, PartialEq, Eq)]
 #[repr(u8)]
 pub enum Refusal {

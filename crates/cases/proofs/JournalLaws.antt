@@ -22,7 +22,8 @@ use Rattle.rules.specs.Book.{freshBook}
 use Rattle.rules.specs.Step.{step}
 use Rattle.rules.specs.Run.{run}
 use Rattle.rules.specs.Listing.{journalTable, entriesOf, lineOf, linesOf, listingOf, lengthCauses, listingCauses, writtenBy}
-use Rattle.rules.proofs.FoldLaws.{by-test, both-of, all-at}
+use Rattle.money.proofs.TwoTests.{both-of}
+use Rattle.rules.proofs.FoldLaws.{by-test, all-at}
 use Rattle.cases.specs.Journal.{digitOf, digitsFrom, digits, bytesOf, sameNumbers, endsWith}
 
 -- ---- stores in a row

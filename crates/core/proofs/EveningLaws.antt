@@ -18,7 +18,8 @@ use Rattle.rules.specs.Folds.{inTurn}
 use Rattle.rules.specs.Book.{noSecurity}
 use Rattle.rules.specs.Vault.{securityAt, isCash, effectiveOf, frozenOf, value}
 use Rattle.rules.specs.Close.{Evening, fewer, fewerCash, takenOut, covered, mayGo, doneOne, settleOne, settled}
-use Rattle.rules.proofs.FoldLaws.{by-test, both, in-turn-keeps, at-set}
+use Rattle.money.proofs.TwoTests.{both}
+use Rattle.rules.proofs.FoldLaws.{by-test, in-turn-keeps, at-set}
 use Rattle.rules.proofs.FitParts.{SecurityFits, SecuritiesFit, fit-securities}
 use Rattle.core.specs.Types.{Security, Guarantee, Vault, Withdrawals}
 use Rattle.core.specs.Figures.{valueBound}

@@ -17,7 +17,8 @@ use Rattle.rules.specs.Limits.{netLimit}
 use Rattle.rules.specs.Book.{isClosed}
 use Rattle.rules.specs.Days.{following, paymentDay}
 use Rattle.rules.specs.Fit.{capacityFit, tradeFit, allTrades, netFit, dayFit, fit}
-use Rattle.rules.proofs.FoldLaws.{both, every-holds}
+use Rattle.money.proofs.TwoTests.{both}
+use Rattle.rules.proofs.FoldLaws.{every-holds}
 use Rattle.rules.proofs.FitParts.{CapacityFits, capacity-fits, fit-parts}
 use Rattle.core.specs.Types.{Book, Day, Never, On, Phase}
 use Rattle.core.specs.Flat.{HasSlots, tradesTo, capacity, tradesOf, Kept, Redeemable}

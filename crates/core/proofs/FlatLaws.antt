@@ -12,7 +12,8 @@ use lib.ListN.{length, getD, take, drop, length-append, List·getD-append}
 use lib.Seq.{split-at, getD-at, getD-take, getD-drop, ext-getD, length-take-le}
 use Rattle.rules.specs.Trades.{noTrade, total}
 use Rattle.rules.specs.Fit.{allTrades}
-use Rattle.rules.proofs.FoldLaws.{by-test, both}
+use Rattle.money.proofs.TwoTests.{both}
+use Rattle.rules.proofs.FoldLaws.{by-test}
 use Rattle.rules.proofs.TradeLaws.{total-append}
 use Rattle.rules.proofs.TableFit.{all-append}
 use Rattle.core.specs.Types.{Trade}

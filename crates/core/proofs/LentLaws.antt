@@ -13,7 +13,8 @@ use Rattle.rules.specs.Fit.{fit}
 use Rattle.rules.specs.Step.{Outcome, outcome, unfit, step}
 use Rattle.rules.specs.Cover.{coverRefused, coverOf}
 use Rattle.rules.specs.Listing.{RunOutcome, runOutcome}
-use Rattle.rules.proofs.FoldLaws.{by-test, both, neither, every-holds, every-of}
+use Rattle.money.proofs.TwoTests.{both}
+use Rattle.rules.proofs.FoldLaws.{by-test, neither, every-holds, every-of}
 use Rattle.core.specs.Types.{Applied, Ran, Trade, Entry}
 use Rattle.core.specs.Flat.{width, appliedOf}
 use Rattle.core.specs.Lent.{Lent, bookIn, tableIn, isWhole, fitIn, stepIn, coverIn, runIn}

@@ -12,7 +12,8 @@ use Rattle.money.specs.Limits.{firstYear, lastYear, lastDay}
 use Rattle.money.specs.Causes.{firstOf}
 use Rattle.money.specs.Dates.{Date, Dated, Found, date, leap, february, monthLength, lengthAfter, startAfter, exists, inYears, hasDay, dayOf, dateOf, numbered, dated, dayAnswer, dateAnswer}
 use Rattle.money.proofs.Refusals.{hit, skip, clear}
-use Rattle.money.proofs.MonthLaws.{both, is-month}
+use Rattle.money.proofs.TwoTests.{both, both-of}
+use Rattle.money.proofs.MonthLaws.{is-month}
 use Rattle.money.proofs.DateLaws.{IsDateInYears, day-date-day, date-day-date, one-date, day-at-most-last, date-in-years}
 
 -- ---- the test of a date, and what it says
@@ -21,7 +22,7 @@ in-range : (low high n : ℕ) → (leb low n && leb n high) ≡ true → (low �
 in-range low high n t = let b = both (leb low n) _ t in (leb-true low n (b .0), leb-true n high (b .1))
 
 range-in : (low high n : ℕ) → low ≤ n → n ≤ high → (leb low n && leb n high) ≡ true
-range-in low high n h k = rw (le-leb low n h, le-leb n high k)
+range-in low high n h k = both-of (leb low n) (leb n high) (le-leb low n h) (le-leb n high k)
 
 has-day-is-date : (d : Date) → hasDay d ≡ true → IsDateInYears d
 unfolding exists inYears
@@ -39,7 +40,9 @@ is-date-has-day : (d : Date) → IsDateInYears d → hasDay d ≡ true
 unfolding exists inYears
 is-date-has-day d v =
     let e = v .is-date in
-    rw (range-in 1 (monthLength (d .year) (d .month)) (d .day) (e .day-from) (e .day-to), range-in firstYear lastYear (d .year) (e .year-from) (v .year-to))
+    both-of (exists d) (inYears d)
+    (range-in 1 (monthLength (d .year) (d .month)) (d .day) (e .day-from) (e .day-to))
+    (range-in firstYear lastYear (d .year) (e .year-from) (v .year-to))
 
 no-date-no-day : (d : Date) → (IsDateInYears d → ⊥) → hasDay d ≡ false
 no-date-no-day d n = go (hasDay d) refl

@@ -9,7 +9,8 @@ use borrow.Author.Tests.{leb-true, ltb-true}
 use lib.Dec.{ltb, leb}
 use Rattle.money.specs.Limits.{firstYear, monthCount, lastDay}
 use Rattle.money.specs.Dates.{date, leap, february, monthLength, lengthAfter, startAfter, monthsTo, dayOf, dateOf}
-use Rattle.money.proofs.MonthLaws.{both, next-start, rises, last-end}
+use Rattle.money.proofs.TwoTests.{both}
+use Rattle.money.proofs.MonthLaws.{next-start, rises, last-end}
 use Rattle.money.proofs.DateLaws.{date-is-one, date-in-years, day-date-day, from-start, to-end, its-year, its-month, same-date}
 
 -- ---- at 12 months in 365 days no month starts more than 10 twelfths of a day early, and none a month late

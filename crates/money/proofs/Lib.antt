@@ -6,6 +6,7 @@ pub mod Scan
 pub mod Words
 pub mod Least
 pub mod Bounds
+pub mod TwoTests
 pub mod MonthLaws
 pub mod DateLaws
 pub mod FirstTry

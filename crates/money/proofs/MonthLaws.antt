@@ -12,17 +12,10 @@ use borrow.Author.Tests.{eqb-true, leb-true}
 use lib.Dec.{eqb, leb}
 use lib.ListN.{length, getD, List·getD-eq-default}
 use Rattle.money.specs.Limits.{monthCount, lastDay}
-use Rattle.money.specs.Dates.{leap, february, monthLength, lengthAfter, startAfter, keepsRule}
-
--- both tests of a pair pass
-pub both : (a b : Bool) → (a && b) ≡ true → (a ≡ true) × (b ≡ true)
-both true b t = (refl, t)
-both false b t = let z : _≡_ {A = ℕ} 0 1 = cc in absurd (omega arith)
+use Rattle.money.specs.Dates.{leap, february, monthLengths, monthLength, lengthAfter, startAfter, keepsRule}
+use Rattle.money.proofs.TwoTests.{both}
 
 -- ---- January to December have days, and nothing else has
-
-abbrev lengths : (february : ℕ) → List ℕ
-lengths february = 31 ∷ february ∷ 31 ∷ 30 ∷ 31 ∷ 30 ∷ 31 ∷ 31 ∷ 30 ∷ 31 ∷ 30 ∷ 31 ∷ []
 
 abbrev noneIs0 : List ℕ → Bool
 noneIs0 [] = true
@@ -36,15 +29,15 @@ at-least-1 (n ∷ ns) t (suc k) h = at-least-1 ns (both (leb 1 n) _ t .1) k (le-
 pub has-days : (year month : ℕ) → 1 ≤ month → month ≤ 12 → 1 ≤ monthLength year month
 unfolding monthLength february
 has-days year zero h k = absurd (not-suc-le-zero h)
-has-days year (suc month) h k = at-least-1 (lengths (february year)) (by-leap (leap year)) month (omega arith)
+has-days year (suc month) h k = at-least-1 (monthLengths (february year)) (by-leap (leap year)) month (omega arith)
   where
-    by-leap : (b : Bool) → noneIs0 (lengths (cond b 29 28)) ≡ true
+    by-leap : (b : Bool) → noneIs0 (monthLengths (cond b 29 28)) ≡ true
     by-leap true = refl
     by-leap false = refl
 
 pub no-month : (year month : ℕ) → 12 < month → monthLength year month ≡ 0
 unfolding monthLength
-no-month year month h = List·getD-eq-default (0 ∷ lengths (february year)) 0 h
+no-month year month h = List·getD-eq-default (0 ∷ monthLengths (february year)) 0 h
 
 pub is-month : (year month : ℕ) → 1 ≤ monthLength year month → (1 ≤ month) × (month ≤ 12)
 unfolding monthLength
@@ -57,14 +50,29 @@ is-month year (suc month) h = (omega arith, side (decLe (suc month) 12))
 
 -- ---- the rule over a list of starts, and at each entry
 
+pub next-start : (months : ℕ) → startAfter (suc months) ≡ startAfter months + lengthAfter months
+unfolding startAfter
+next-start months = refl
+
+-- an entry is its month's start, and the others keep the rule from the next month on
+module _ (entry : ℕ) (entries : List ℕ) (months start : ℕ) (t : keepsRule months start (entry ∷ entries) ≡ true) (e : start ≡ startAfter months) where
+  its-start : entry ≡ startAfter months
+  unfolding keepsRule
+  its-start = eqb-true entry start (both (eqb entry start) _ t .0) ∙ e
+
+  others-keep : keepsRule (suc months) (entry + lengthAfter months) entries ≡ true
+  unfolding keepsRule
+  others-keep = both (eqb entry start) _ t .1
+
+  from-the-next : entry + lengthAfter months ≡ startAfter (suc months)
+  from-the-next = ap (λ (n : ℕ). n + lengthAfter months) its-start ∙ sym (next-start months)
+
 carried : (entries : List ℕ) (months start : ℕ) → keepsRule months start entries ≡ true → start ≡ startAfter months → (k : ℕ) → k < length entries → getD entries k 0 ≡ startAfter (months + k)
-unfolding keepsRule startAfter
 carried [] months start t e k h = absurd (not-suc-le-zero h)
 carried (entry ∷ entries) months start t e zero h =
-    eqb-true entry start (both (eqb entry start) _ t .0) ∙ e ∙ ap startAfter (sym (add-zero months))
+    its-start entry entries months start t e ∙ ap startAfter (sym (add-zero months))
 carried (entry ∷ entries) months start t e (suc k) h =
-    let same : entry ≡ startAfter months = eqb-true entry start (both (eqb entry start) _ t .0) ∙ e in
-    carried entries (suc months) _ (both (eqb entry start) _ t .1) (ap (λ (n : ℕ). n + lengthAfter months) same) k (le-of-suc-le-suc h)
+    carried entries (suc months) _ (others-keep entry entries months start t e) (from-the-next entry entries months start t e) k (le-of-suc-le-suc h)
     ∙ ap startAfter (suc-add months k ∙ sym (add-suc months k))
 
 pub each-start : (entries : List ℕ) → keepsRule 0 0 entries ≡ true → (k : ℕ) → k < length entries → getD entries k 0 ≡ startAfter k
@@ -72,16 +80,11 @@ unfolding startAfter
 each-start entries t k h = carried entries 0 0 t refl k h ∙ ap startAfter (zero-add k)
 
 to-the-end : (entries : List ℕ) (months start : ℕ) → keepsRule months start entries ≡ true → start ≡ startAfter months → startAfter (months + length entries) ≡ lastDay + 1
-unfolding keepsRule startAfter
+unfolding keepsRule
 to-the-end [] months start t e = ap startAfter (add-zero months) ∙ sym e ∙ eqb-true start (lastDay + 1) t
 to-the-end (entry ∷ entries) months start t e =
-    let same : entry ≡ startAfter months = eqb-true entry start (both (eqb entry start) _ t .0) ∙ e in
     ap startAfter (add-suc months (length entries) ∙ sym (suc-add months (length entries)))
-    ∙ to-the-end entries (suc months) _ (both (eqb entry start) _ t .1) (ap (λ (n : ℕ). n + lengthAfter months) same)
-
-pub next-start : (months : ℕ) → startAfter (suc months) ≡ startAfter months + lengthAfter months
-unfolding startAfter
-next-start months = refl
+    ∙ to-the-end entries (suc months) _ (others-keep entry entries months start t e) (from-the-next entry entries months start t e)
 
 -- each next entry is the last plus that month's length, and after the last one comes day 36,525
 pub next-entry : (entries : List ℕ) → keepsRule 0 0 entries ≡ true → (k : ℕ) → suc k < length entries → getD entries (suc k) 0 ≡ getD entries k 0 + lengthAfter k

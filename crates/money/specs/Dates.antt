@@ -28,10 +28,13 @@ leap year = divides 4 year && (not (divides 100 year) || divides 400 year)
 unfoldable pub february : ℕ → ℕ
 february year = cond (leap year) 29 28
 
+-- the days of January to December, those of the second month given
+abbrev pub monthLengths : (second : ℕ) → List ℕ
+monthLengths second = 31 ∷ second ∷ 31 ∷ 30 ∷ 31 ∷ 30 ∷ 31 ∷ 31 ∷ 30 ∷ 31 ∷ 30 ∷ 31 ∷ []
+
 -- the days of a month, from 1 for January to 12 for December; any other number is no month and has no days
 unfoldable pub monthLength : (year month : ℕ) → ℕ
-monthLength year month =
-    getD (0 ∷ 31 ∷ february year ∷ 31 ∷ 30 ∷ 31 ∷ 30 ∷ 31 ∷ 31 ∷ 30 ∷ 31 ∷ 30 ∷ 31 ∷ []) month 0
+monthLength year month = getD (0 ∷ monthLengths (february year)) month 0
 
 -- ---- the months, counted from January 2000
 
@@ -65,11 +68,11 @@ inYears d = leb firstYear (d .year) && leb (d .year) lastYear
 abbrev pub hasDay : Date → Bool
 hasDay d = exists d && inYears d
 
--- how many months after January 2000 its month comes
+-- how many months after January 2000 the month of a date comes, from that year on
 abbrev pub monthsTo : Date → ℕ
 monthsTo d = 12 * (d .year - firstYear) + (d .month - 1)
 
--- the days before its month, and those before it in its month
+-- a date that has a day: the days before its month, and those before it in its month
 unfoldable pub dayOf : Date → ℕ
 dayOf d = startAfter (monthsTo d) + (d .day - 1)
 

@@ -32,8 +32,8 @@ pub fn month_length(year: u32, month: u32) -> u32
     if month > 12 {
         return 0;
     }
-    let february = february(year);
-    let lengths = [0, 31, february, 31, 30, 31, 30, 31, 31, 30, 31, 30, 31];
+    let second = february(year);
+    let lengths = [0, 31, second, 31, 30, 31, 30, 31, 31, 30, 31, 30, 31];
     lengths[month as usize]
 }
 
@@ -60,6 +60,6 @@ pub fn start_after(months: u32) -> u32
     if months >= MONTH_COUNT {
         return LAST_DAY + 1;
     }
-    let starts = starts();
-    starts[months as usize] as u32
+    let entries = starts();
+    entries[months as usize] as u32
 }

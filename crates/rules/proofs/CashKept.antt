@@ -23,7 +23,7 @@ use Rattle.rules.specs.Pay.{payerHolds, moved}
 use Rattle.rules.specs.Close.{Evening, fewerCash, takenOut, mayGo, settleOne, settled, applications, allArrived, evening, closedBook}
 use Rattle.rules.specs.Demand3.{WholeOrNothing}
 use Rattle.rules.proofs.Signed.{same, sum-parts, diff-parts}
-use Rattle.rules.proofs.FoldLaws.{both}
+use Rattle.money.proofs.TwoTests.{both}
 
 -- own, client and guarantee cash of a book
 abbrev pub cashOf : Book → ℕ

@@ -15,7 +15,8 @@ use Rattle.rules.specs.Book.{Day, Never, On, Phase, Closed, Trading, Pai
 use Rattle.rules.specs.Days.{following, toDay, paymentDay, followed}
 use Rattle.rules.specs.Trades.{Trade}
 use Rattle.rules.specs.Fit.{allTrades, dayFit}
-use Rattle.rules.proofs.FoldLaws.{both, every-holds, every-of}
+use Rattle.money.proofs.TwoTests.{both}
+use Rattle.rules.proofs.FoldLaws.{every-holds, every-of}
 use Rattle.rules.proofs.TableFit.{Fewer, begunBy, fewer-begun}
 
 -- ---- phases that are not Closed

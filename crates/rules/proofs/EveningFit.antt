@@ -14,7 +14,8 @@ use Rattle.rules.specs.Book.{Security, Vault, Book, noSecurity}
 use Rattle.rules.specs.Trades.{Trade, outstanding}
 use Rattle.rules.specs.Vault.{securityAt, isCash, effectiveOf, frozenOf}
 use Rattle.rules.specs.Close.{Evening, securityArrived, allArrived, fewer, fewerCash, takenOut, covered, mayGo, settleOne, settled, served, applications, evening}
-use Rattle.rules.proofs.FoldLaws.{by-test, both, in-turn-keeps}
+use Rattle.money.proofs.TwoTests.{both}
+use Rattle.rules.proofs.FoldLaws.{by-test, in-turn-keeps}
 use Rattle.rules.proofs.FitParts.{SecurityFits, SecuritiesFit, CashFits}
 use Rattle.rules.proofs.KeepsFit.{kind-set-fits}
 

@@ -36,7 +36,7 @@ use Rattle.rules.specs.Tally.{Tally, dayAfter, paidOn, withFunds, opened
 use Rattle.rules.proofs.Signed.{same, sub-parts, diff-parts, not-lt-parts, sub-at-least-0, swap-last}
 use Rattle.rules.proofs.TradeLaws.{take-begun, outstanding-append, outstanding-one, take-over, length-takeOff, outstanding-takeOff, take-packed, remaining-remaining, outstanding-remaining, outstanding-matured, remaining-emptied, outstanding-emptied}
 use Rattle.rules.proofs.TallyRows.{withoutEmpty-append, taken-of-contract, sheets-of-contract, amount-of-contract, taken-due, sheets-due, amount-due, taken-whole, sheets-whole, amount-whole}
-use Rattle.rules.proofs.FoldLaws.{both}
+use Rattle.money.proofs.TwoTests.{both}
 use Rattle.rules.proofs.Accepted.{Clear, within-table, contracts-differ}
 use Rattle.rules.proofs.CashKept.{cashOf, funds-in-add, funds-out-take, pledge-keeps-cash, freeze-keeps-cash, payment-whole, payment-nothing, payment-keeps-cash, payment-moves-net, close-keeps-cash}
 use Rattle.rules.proofs.Agree.{view, Agrees, Right, right, acted, following-is-dayAfter, paymentDay-is-paidOn, dayNumber-is-dayOr0, saysTerminated-is-isTerminated}

@@ -16,7 +16,7 @@ use Rattle.rules.specs.Step.{Outcome, outcome, step}
 use Rattle.rules.specs.Run.{Seen, see, run, Follows, lastBook, lastTable}
 use Rattle.rules.specs.Tally.{Tally, blank, counted, tell, tallyOf}
 use Rattle.rules.specs.Demand3.{isPay, told, toldOf, PaymentRight, AllBeside, moneyMoved, seenFrom, tallyBeside, outstandingAfter, Demand3}
-use Rattle.rules.proofs.FoldLaws.{both}
+use Rattle.money.proofs.TwoTests.{both}
 use Rattle.rules.proofs.Opened.{everyRule}
 use Rattle.rules.proofs.Demand3Proof.{demand3}
 use Rattle.rules.proofs.Cases.{_then_, noTrades, daily, initial, covers, failedTwice}

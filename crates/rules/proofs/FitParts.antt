@@ -16,7 +16,8 @@ use Rattle.rules.specs.Book.{Nets, Cash, Security, Guarantee, Vault, Wit
 use Rattle.rules.specs.Trades.{Trade, inUse, differ}
 use Rattle.rules.specs.Vault.{securityAt, outstandingOf}
 use Rattle.rules.specs.Fit.{capacityFit, securityFit, securitiesFit, allCash, cashFit, tradeFit, allTrades, sizeFit, netFit, netsFit, applicationFit, withdrawalsFit, dayFit, fit}
-use Rattle.rules.proofs.FoldLaws.{both, both-of, every-holds, every-of, all-at, all-of}
+use Rattle.money.proofs.TwoTests.{both, both-of}
+use Rattle.rules.proofs.FoldLaws.{every-holds, every-of, all-at, all-of}
 
 -- ---- the groups
 

@@ -2,13 +2,14 @@
 -- Assumes nothing.
 use mathlib.Core.Path.{_≡_, refl, ap, _∙_}
 use mathlib.Core.Logic.{⊎-elim}
-use mathlib.Core.Bool.{Bool, true, false, cond, not, _&&_, _||_}
+use mathlib.Core.Bool.{Bool, true, false, cond, not, _||_}
 use mathlib.Core.List.{List, [], _∷_}
 use Prim.Native.Nat.{ℕ, zero, suc, _<_}
 use native.Mathlib.Nat.{eq-or-lt-of-le, le-of-suc-le-suc}
 use native.Mathlib.Omega.{arith}
 use lib.ListN.{getD, set}
 use Rattle.rules.specs.Folds.{allBelow, inTurn, every}
+use Rattle.money.proofs.TwoTests.{both, both-of}
 
 -- ---- one test
 
@@ -23,15 +24,7 @@ not-here x false rest e = (refl, e)
 not-here true true rest e = let z : _≡_ {A = ℕ} 0 1 = cc in absurd (omega arith)
 not-here false true rest e = let z : _≡_ {A = ℕ} 0 1 = cc in absurd (omega arith)
 
--- ---- two tests
-
-pub both : (x y : Bool) → (x && y) ≡ true → (x ≡ true) × (y ≡ true)
-both true y e = (refl, e)
-both false y e = let z : _≡_ {A = ℕ} 0 1 = cc in absurd (omega arith)
-
-pub both-of : (x y : Bool) → x ≡ true → y ≡ true → (x && y) ≡ true
-both-of true y e f = f
-both-of false y e f = e
+-- ---- two tests of which neither holds
 
 pub neither : (x y : Bool) → (x || y) ≡ false → (x ≡ false) × (y ≡ false)
 neither true y e = let z : _≡_ {A = ℕ} 0 1 = cc in absurd (omega arith)

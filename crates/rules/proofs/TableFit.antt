@@ -11,7 +11,8 @@ use lib.ListN.{length}
 use Rattle.money.specs.Limits.{tradeLimit, priceLimit}
 use Rattle.rules.specs.Trades.{Contract, Trade, same, withSheets, outstanding, total, onTable, differ, takeOff, emptied, maturing, matured, leaves, remaining}
 use Rattle.rules.specs.Fit.{tradeFit, allTrades}
-use Rattle.rules.proofs.FoldLaws.{not-here, both, both-of, every-holds, every-of}
+use Rattle.money.proofs.TwoTests.{both, both-of}
+use Rattle.rules.proofs.FoldLaws.{not-here, every-holds, every-of}
 
 -- a trade of the same contract with at most as many sheets, as fit as before, and begun by a last day if it was before
 pub record Lessened (last : ℕ) (less trade : Trade) : Type 0 where

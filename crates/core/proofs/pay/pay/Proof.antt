@@ -9,7 +9,7 @@ use Rattle.money.specs.Causes.{firstOf}
 use Rattle.rules.specs.Fit.{netFit, netsFit}
 use Rattle.rules.specs.Pay.{payCauses}
 use Rattle.rules.specs.Step.{eventCauses}
-use Rattle.rules.proofs.FoldLaws.{both}
+use Rattle.money.proofs.TwoTests.{both}
 use Rattle.rules.proofs.FitParts.{cash-fits}
 use Rattle.core.specs.Types.{Nets, Pay}
 use Rattle.core.specs.Flat.{Rows, bookOf}

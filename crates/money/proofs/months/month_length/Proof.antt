@@ -1,9 +1,9 @@
 use mathlib.Core.Path.{sym, ap}
-use mathlib.Core.List.{[], _∷_}
+use mathlib.Core.List.{_∷_}
 use Prim.Native.Nat.{ℕ}
 use borrow.Author.Needs.{needs}
 use lib.ListN.{getD}
-use Rattle.money.specs.Dates.{monthLength}
+use Rattle.money.specs.Dates.{monthLengths, monthLength}
 use Rattle.money.proofs.MonthLaws.{no-month}
 use Rattle.money.proofs.months.month_length.Statement.{statement}
 use Rattle.money.proofs.months.month_length.Tie as tie
@@ -27,7 +27,7 @@ unfolding monthLength
 returns-2 c =
     let s : tie.Start = search needs in
     let f : tie.After-february = search needs in
-    ap (λ (february : ℕ). getD (0 ∷ 31 ∷ february ∷ 31 ∷ 30 ∷ 31 ∷ 30 ∷ 31 ∷ 31 ∷ 30 ∷ 31 ∷ 30 ∷ 31 ∷ []) (s .args .month) 0) (f .february .ensures)
+    ap (λ (second : ℕ). getD (0 ∷ monthLengths second) (s .args .month) 0) (f .february .ensures)
 
 pub month-length-spec : {M : Type 1} → statement M
 month-length-spec =
