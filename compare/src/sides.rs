@@ -64,16 +64,16 @@ pub fn both_run(ledger: &mut Ledger, events: &[[u8; EVENT_BYTES]]) -> Result<Vec
     for event in events {
         single.apply(&ledger.calendar, event);
     }
-    let lines = both_run_watched(ledger, events, |_| {});
+    let lines = both_run_watched(ledger, events, |_, _| {});
     single.assert_like(ledger);
     lines
 }
 
-/// A run on both sides; `watch` sees the model's book after every event.
+/// A run on both sides; `watch` sees the model's book and table after every event.
 pub fn both_run_watched(
     ledger: &mut Ledger,
     events: &[[u8; EVENT_BYTES]],
-    watch: impl FnMut(&Book),
+    watch: impl FnMut(&Book, &[Trade]),
 ) -> Result<Vec<Line>, u8> {
     let mut lent = Lent::of(ledger);
     let got = lent::run(&ledger.calendar, &mut lent.rows, &mut lent.table, events.as_flattened());
@@ -97,7 +97,7 @@ fn assert_same_lines(got: &Result<Vec<Line>, u8>, wanted: &Result<Vec<Line>, u8>
 fn lines(
     ledger: &mut Ledger,
     events: &[[u8; EVENT_BYTES]],
-    mut watch: impl FnMut(&Book),
+    mut watch: impl FnMut(&Book, &[Trade]),
 ) -> Result<Vec<Line>, u8> {
     if !ledger.is_fit() {
         return Err(1);
@@ -106,7 +106,7 @@ fn lines(
     let mut lines = Vec::with_capacity(events.len());
     step::run(calendar, book, table, events, |_, answer, book, table| {
         lines.push(Line::after(answer, book, table));
-        watch(book);
+        watch(book, table);
     });
     Ok(lines)
 }

@@ -8,6 +8,8 @@ use std::fmt::Display;
 use std::ops::Range;
 use std::panic::{catch_unwind, AssertUnwindSafe};
 
+use model::coverage::evenings::Evenings;
+
 /// What is compared for each seed, and shown as the figures of all.
 pub trait Trial: Display {
     /// Fails where the proved calls and the model differ.
@@ -18,6 +20,9 @@ pub trait Trial: Display {
 
     /// Pairs that were met, by both sides, although document 01 does not allow them.
     fn unexpected_pairs(&self) -> Vec<(u8, u32)>;
+
+    /// How applications fared on evenings with unpaid redemptions.
+    fn evenings(&self) -> Evenings;
 }
 
 /// Compares for each seed in turn, and gives the first seed that failed; why,

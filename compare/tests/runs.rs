@@ -2,17 +2,31 @@
 //! answer, headroom, O, own, client and guarantee cash after every event.
 
 use compare::{judge, proved, BAD_LENGTHS, UNWRITTEN};
+use model::cases::ledger::Ledger;
+use model::coverage::evenings::Evenings;
 use model::coverage::Coverage;
 use model::event::EVENT_BYTES;
 use model::generator::{corpus, generate_as, Profile};
-use model::journal::{parse, run_fresh, Journal, Line};
+use model::journal::{parse, Journal, Line};
+use model::step;
+
+/// What was met.
+#[derive(Default)]
+struct Met {
+    coverage: Coverage,
+    evenings: Evenings,
+}
 
 /// What the model says of each event.
-fn expected(journal: &Journal, coverage: &mut Coverage) -> Vec<Line> {
+fn expected(journal: &Journal, met: &mut Met) -> Vec<Line> {
     let mut lines = Vec::with_capacity(journal.events.len());
-    run_fresh(&journal.calendar, journal.events, |event, line| {
-        coverage.record(event, line.answer);
-        lines.push(line);
+    let Ledger { calendar, mut book, mut table } = Ledger::fresh(&journal.calendar);
+    let mut before = book.clone();
+    step::run(&calendar, &mut book, &mut table, journal.events, |event, answer, book, table| {
+        met.coverage.record(event, answer.number);
+        met.evenings.record(&before, book, table);
+        before.clone_from(book);
+        lines.push(Line::after(answer, book, table));
     });
     lines
 }
@@ -23,11 +37,11 @@ fn proved_lines(calendar: &[u32], events: &[[u8; EVENT_BYTES]]) -> Vec<Line> {
 
 #[test]
 fn generated_journals_agree_and_meet_every_allowed_answer() {
-    let mut coverage = Coverage::default();
+    let mut met = Met::default();
     let mut events = 0;
     for (name, bytes) in corpus(0..20_000) {
         let Ok(journal) = parse(&bytes) else { continue };
-        let wanted = expected(&journal, &mut coverage);
+        let wanted = expected(&journal, &mut met);
         let got = proved_lines(&journal.calendar, journal.events);
         for (place, (got, wanted)) in (1..).zip(got.iter().zip(&wanted)) {
             assert_eq!(got, wanted, "{name}, event {place}");
@@ -35,7 +49,8 @@ fn generated_journals_agree_and_meet_every_allowed_answer() {
         assert_eq!(got.len(), wanted.len(), "{name}");
         events += got.len();
     }
-    judge(&format!("{events} events run"), &coverage);
+    judge(&format!("{events} events run\n{}", met.evenings), &met.coverage);
+    assert!(met.evenings.rarer_than(50).is_empty(), "{}", met.evenings);
 }
 
 #[test]
@@ -43,7 +58,7 @@ fn every_prefix_of_some_journals_agrees() {
     for seed in [3, 14, 159] {
         let bytes = generate_as(Profile::Troubled, seed);
         let journal = parse(&bytes).expect("no damage in this profile");
-        let whole = expected(&journal, &mut Coverage::default());
+        let whole = expected(&journal, &mut Met::default());
         for count in 0..journal.events.len().min(300) {
             let got = proved_lines(&journal.calendar, &journal.events[..count]);
             assert_eq!(got, whole[..count], "seed {seed}, {count} events");

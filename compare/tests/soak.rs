@@ -7,13 +7,16 @@ use std::process::{Command, Output};
 use compare::soak::calls::Calls;
 use compare::soak::journals::Journals;
 use compare::soak::{run, Trial};
+use model::coverage::evenings::Evenings;
 
-/// All pairs met that may be, and none that may not.
+/// All pairs met that may be, and none that may not; all that may become of
+/// an application while redemptions are unpaid.
 fn assert_covers<T: Trial + Default>(seeds: u64) {
     let mut trial = T::default();
     assert_eq!(run(&mut trial, 0..seeds, |_, _| {}), Ok(()));
     assert_eq!(trial.missing_pairs().0, [], "{trial}");
     assert_eq!(trial.unexpected_pairs(), [], "{trial}");
+    assert!(trial.evenings().rarer_than(1).is_empty(), "{trial}");
 }
 
 #[test]
@@ -40,6 +43,10 @@ impl Trial for Failing {
 
     fn unexpected_pairs(&self) -> Vec<(u8, u32)> {
         Vec::new()
+    }
+
+    fn evenings(&self) -> Evenings {
+        Evenings::default()
     }
 }
 

@@ -2,7 +2,7 @@
 
 use crate::limits::{
     APPLICATIONS, APPLICATION_UNITS, CALENDAR_WORDS, CAPACITY, CASH, FAILED_PAYMENTS, NET, PRICE, RATE,
-    SECURITY_UNITS, SHORT_CLOSES, SIZE, TRADE_SHEETS,
+    SECURITY_UNITS, SHORT_CLOSES, SIZE, TRADE_SHEETS, UNPAID,
 };
 use crate::money::{next_after, redemption_amount, sheets_worth, trades, CASH_KIND, KINDS};
 
@@ -36,9 +36,9 @@ pub struct Trade {
 
 impl Trade {
     /// What `sheets` of this trade bring at `price` if redeemed for `payment_day`.
-    pub(crate) fn redeem(&self, sheets: u64, price: u32, payment_day: u32) -> i64 {
+    pub(crate) fn redeem(&self, sheets: u64, price: u32, payment_day: u32) -> u64 {
         let days = payment_day - self.first_payment;
-        redemption_amount(sheets, price.into(), days.into()) as i64
+        redemption_amount(sheets, price.into(), days.into())
     }
 }
 
@@ -65,6 +65,10 @@ pub struct Book {
     /// Redemptions counted plus and initial trades minus.
     pub todays_net: i64,
     pub cleared_net: i64,
+    /// U, "the gross redemption amounts not yet paid, in a cleared part and a
+    /// part of today".
+    pub todays_unpaid: u64,
+    pub cleared_unpaid: u64,
     pub failed_run: u8,
     pub short_run: u8,
     /// Slots of the lent table in use; the others are spare.
@@ -90,6 +94,8 @@ impl Book {
             rates: [0; CASH_KIND],
             todays_net: 0,
             cleared_net: 0,
+            todays_unpaid: 0,
+            cleared_unpaid: 0,
             failed_run: 0,
             short_run: 0,
             trades: 0,
@@ -110,8 +116,15 @@ impl Book {
     }
 
     pub(crate) fn value_of(&self, kind: usize) -> u64 {
-        let rate = if kind == CASH_KIND { 1 } else { self.rates[kind] };
-        sheets_worth(self.unfrozen(kind), rate)
+        sheets_worth(self.unfrozen(kind), self.rate_of(kind))
+    }
+
+    pub(crate) fn rate_of(&self, kind: usize) -> u64 {
+        if kind == CASH_KIND {
+            1
+        } else {
+            self.rates[kind]
+        }
     }
 
     pub(crate) fn unfrozen(&self, kind: usize) -> u64 {
@@ -125,6 +138,19 @@ impl Book {
 
     pub fn headroom_over(&self, outstanding: u64) -> i64 {
         self.size.min(self.value()) as i64 - outstanding as i64
+    }
+
+    /// U, both parts of it; within the type where the book is fit.
+    pub fn unpaid(&self) -> u64 {
+        self.todays_unpaid + self.cleared_unpaid
+    }
+
+    /// "arriving becomes effective"
+    pub(crate) fn settle_arrivals(&mut self) {
+        for held in &mut self.holdings {
+            held.effective += held.arriving;
+            held.arriving = 0;
+        }
     }
 
     /// Guarantee cash, effective and arriving.
@@ -166,13 +192,13 @@ impl Book {
             && self.holdings_are_fit()
             && self.cash_is_fit()
             && self.nets_and_runs_are_fit()
+            && within(self.todays_unpaid, self.cleared_unpaid, UNPAID)
             && self.applications_are_fit()
             && self.trades_are_fit(&table[..self.trades])
             && self.day_is_fit(calendar, &table[..self.trades])
     }
 
     fn holdings_are_fit(&self) -> bool {
-        let within = |units: u64, more: u64, limit: u64| units <= limit && more <= limit - units;
         let securities = &self.holdings[..CASH_KIND];
         self.holdings.iter().all(|held| held.frozen <= held.effective)
             && securities.iter().all(|held| within(held.effective, held.arriving, SECURITY_UNITS))
@@ -223,6 +249,11 @@ impl Book {
         };
         trades(calendar, day) && in_use.iter().all(|trade| trade.first_payment <= payment_day)
     }
+}
+
+/// Whether both together are within the limit.
+fn within(number: u64, more: u64, limit: u64) -> bool {
+    number <= limit && more <= limit - number
 }
 
 fn contracts_differ(trades: &[Trade]) -> bool {

@@ -7,3 +7,15 @@ pub mod ledger;
 pub mod longest;
 pub mod nets;
 pub mod unfit;
+pub mod unpaid;
+
+use crate::event::Event;
+use ledger::Ledger;
+
+/// An event on a book: the numbers in question that it leaves, or its
+/// refusal's number.
+pub struct Case<Numbers> {
+    pub ledger: Ledger,
+    pub event: Event,
+    pub outcome: Result<Numbers, u32>,
+}

@@ -1,7 +1,10 @@
-//! Which (event, answer) pairs were met, and which document 01 allows.
+//! Which (event, answer) pairs were met, and which document 01 allows; in
+//! `evenings`, how applications fared.
 //!
 //! An event that cannot be decoded counts under its code byte where that is 1
 //! to 12, and else under "other code".
+
+pub mod evenings;
 
 use std::fmt;
 
@@ -57,7 +60,8 @@ pub const OUT_OF_REACH: [(&[u8], u32, &str); 3] = [
         &[1, 10, 12],
         14,
         "at most 1,500 trades of 10^8 sheets are begun, each sheet brings less than 1,070,000 fen once \
-         (10,000 and 100,000 ticks over 38,399 days), so no net passes 1.61×10^17, far from 4×10^18",
+         (10,000 and 100,000 ticks over 38,399 days), so neither a net nor U passes 1.61×10^17, \
+         far from 4×10^18",
     ),
     (
         &[9],

@@ -3,7 +3,7 @@
 //! A model book goes along while a journal is written, so that most events are
 //! plausible. What a journal can reach: cash at its 10^16, each security at its
 //! 10^12, size, rates, trades and prices at theirs, a table of 1,024 trades,
-//! 128 applications. The nets cannot come near 4×10^18: O is at most 10^10
+//! 128 applications. The nets and U cannot come near 4×10^18: O is at most 10^10
 //! sheets, and even these, at 100,000 ticks over all 38,399 days, bring some
 //! 1.06×10^16 fen. That is more than all the cash a book may hold, so a payment
 //! that nobody can make is within reach.

@@ -27,6 +27,8 @@ pub const TRADE_SHEETS: u64 = 100_000_000;
 pub const PRICE: u64 = 100_000;
 /// Today's net and the cleared net, up or down, in fen.
 pub const NET: i64 = 4_000_000_000_000_000_000;
+/// U, the redemptions not yet paid, in fen: "U has the limit of a net".
+pub const UNPAID: u64 = NET.unsigned_abs();
 /// Units that one application may name.
 pub const APPLICATION_UNITS: u64 = CASH;
 

@@ -13,9 +13,9 @@ pub const CASH_KIND: usize = 32;
 pub const KINDS: usize = 33;
 
 /// "A sheet is 100 yuan, 10,000 fen (art. 33)."
-const FEN_PER_SHEET: u64 = 10_000;
+pub const FEN_PER_SHEET: u64 = 10_000;
 /// Ten-thousandths of a sheet in one sheet: what a rate counts in.
-const RATE_DIVISOR: u64 = 10_000;
+pub(crate) const RATE_DIVISOR: u64 = 10_000;
 /// A tick is 0.001 yuan a year on 100 yuan, so a tenth of a fen on a sheet
 /// each 365 days.
 const TICK_DAYS_PER_FEN: u64 = 3_650;

@@ -11,7 +11,7 @@ mod trading;
 use crate::answer::{Answer, Refusal};
 use crate::book::{Book, Phase, Trade};
 use crate::event::{Event, EVENT_BYTES};
-use crate::limits::NET;
+use crate::limits::{NET, UNPAID};
 
 /// The public call: fitness (1), decoding (2), then the event itself.
 pub fn apply(calendar: &[u32], book: &mut Book, table: &mut [Trade], bytes: &[u8; EVENT_BYTES]) -> Answer {
@@ -72,4 +72,9 @@ fn trading_day(book: &Book) -> Result<u32, Refusal> {
 fn net_within_limit(net: i64) -> Result<i64, Refusal> {
     Refusal::LimitPassed.when(!(-NET..=NET).contains(&net))?;
     Ok(net)
+}
+
+/// The limit on U, which the amount of each redemption joins.
+fn unpaid_within_limit(book: &Book, amount: u64) -> Result<(), Refusal> {
+    Refusal::LimitPassed.when(amount > UNPAID - book.unpaid())
 }

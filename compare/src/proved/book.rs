@@ -12,6 +12,19 @@ pub(super) struct Nets {
     pub(super) today: i64,
     pub(super) cleared: i64,
 }
+/// Sums beside the nets.
+#[repr(C)]
+#[derive(Clone, Copy, Debug, PartialEq, Eq)]
+pub(super) struct Sums {
+    unpaid: Unpaid,
+}
+/// U: redemptions not yet paid.
+#[repr(C)]
+#[derive(Clone, Copy, Debug, PartialEq, Eq)]
+struct Unpaid {
+    today: Fen,
+    cleared: Fen,
+}
 #[repr(C)]
 #[derive(Clone, Copy, Debug, PartialEq, Eq)]
 pub(super) struct Cash {
@@ -74,6 +87,10 @@ impl From<Cover> for (u32, i64, u64) {
     fn from(Cover { number, headroom, outstanding }: Cover) -> (u32, i64, u64) {
         (number.into(), headroom, outstanding.0)
     }
+}
+
+pub(super) fn sums(book: &Book) -> Sums {
+    Sums { unpaid: Unpaid { today: Fen(book.todays_unpaid), cleared: Fen(book.cleared_unpaid) } }
 }
 
 pub(super) fn guarantee(book: &Book) -> Guarantee {

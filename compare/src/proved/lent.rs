@@ -8,7 +8,7 @@ use model::journal::Line;
 use model::limits::APPLICATIONS;
 use model::money::CASH_KIND;
 
-use super::book::{codes, guarantee, Answer, Cash, Codes, Cover, Guarantee, Nets, Trade};
+use super::book::{codes, guarantee, sums, Answer, Cash, Codes, Cover, Guarantee, Nets, Sums, Trade};
 use super::{lines_of, Fen, Sheets};
 
 /// A book's scalars: what is no row of numbers.
@@ -16,6 +16,7 @@ use super::{lines_of, Fen, Sheets};
 #[derive(Clone, Copy, Debug, PartialEq, Eq)]
 struct RawScalars {
     nets: Nets,
+    sums: Sums,
     cash: Cash,
     guarantee: Guarantee,
     size: Sheets,
@@ -264,6 +265,7 @@ impl From<&Book> for Rows {
         Rows {
             raw: RawScalars {
                 nets: Nets { today: book.todays_net, cleared: book.cleared_net },
+                sums: sums(book),
                 cash: Cash { own: Fen(book.own), client: Fen(book.client) },
                 guarantee: guarantee(book),
                 size: Sheets(book.size),

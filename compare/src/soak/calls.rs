@@ -5,10 +5,11 @@ use std::collections::BTreeMap;
 use std::fmt;
 
 use model::cases::drawn::{drawn, replace_a_number};
-use model::cases::evenings::evening;
+use model::cases::evenings::{at_the_edge, evening};
 use model::cases::ledger::Ledger;
-use model::cases::nets;
 use model::cases::unfit::{busy_ledger, can_be_changed, every_event, STILL_FIT, UNFIT};
+use model::cases::{nets, unpaid, Case};
+use model::coverage::evenings::Evenings;
 use model::coverage::{allowed_on_any_book, Coverage};
 use model::event::{Event, EVENT_BYTES};
 use model::generator::event_for;
@@ -27,9 +28,11 @@ pub struct Calls {
     most_trades: usize,
     headroom: Extent,
     net: Extent,
+    unpaid: Extent,
     applications_done: u64,
     applications_dropped: u64,
     coverage: Coverage,
+    evenings: Evenings,
 }
 
 impl Trial for Calls {
@@ -56,6 +59,10 @@ impl Trial for Calls {
         let met = self.coverage.unexpected().into_iter();
         met.filter(|pair| allowed_on_any_book().all(|allowed| allowed != *pair)).collect()
     }
+
+    fn evenings(&self) -> Evenings {
+        self.evenings
+    }
 }
 
 impl Calls {
@@ -76,11 +83,14 @@ impl Calls {
         self.headroom.take_in(ledger.headroom());
         self.net.take_in(ledger.book.todays_net);
         self.net.take_in(ledger.book.cleared_net);
+        self.unpaid.take_in(ledger.book.unpaid() as i64);
     }
 
     fn compare_single(&mut self, ledger: &mut Ledger, event: &[u8; EVENT_BYTES]) {
         self.single += 1;
+        let before = ledger.book.clone();
         let answer = both(ledger, event);
+        self.evenings.record(&before, &ledger.book, &ledger.table);
         self.coverage.record(event, answer.number);
         self.applications_done += u64::from(answer.done);
         self.applications_dropped += u64::from(answer.dropped);
@@ -99,12 +109,11 @@ impl Calls {
 fn call(random: &mut Random) -> (Ledger, Vec<[u8; EVENT_BYTES]>) {
     match random.below(20) {
         0 => (evening(random), vec![Event::Close.encode()]),
-        1 => {
-            let mut cases: Vec<nets::Case> = nets::all().collect();
-            let place = random.below(cases.len() as u64) as usize;
-            let nets::Case { ledger, event, .. } = cases.swap_remove(place);
-            (ledger, vec![event.encode()])
-        }
+        1 => match random.below(3) {
+            0 => one_of(random, nets::all()),
+            1 => one_of(random, unpaid::all()),
+            _ => one_of(random, at_the_edge()),
+        },
         2 => {
             let mut ledger = busy_ledger();
             let (_, change) = random.pick(&STILL_FIT);
@@ -120,6 +129,16 @@ fn call(random: &mut Random) -> (Ledger, Vec<[u8; EVENT_BYTES]>) {
     }
 }
 
+fn one_of<T>(
+    random: &mut Random,
+    cases: impl Iterator<Item = Case<T>>,
+) -> (Ledger, Vec<[u8; EVENT_BYTES]>) {
+    let mut cases: Vec<Case<T>> = cases.collect();
+    let place = random.below(cases.len() as u64) as usize;
+    let Case { ledger, event, .. } = cases.swap_remove(place);
+    (ledger, vec![event.encode()])
+}
+
 impl fmt::Display for Calls {
     fn fmt(&self, f: &mut fmt::Formatter) -> fmt::Result {
         let (fewest, most) = (self.ways.values().min(), self.ways.values().max());
@@ -131,8 +150,9 @@ impl fmt::Display for Calls {
         writeln!(f, "fullest table         {} trades", self.most_trades)?;
         writeln!(f, "headroom              {}", self.headroom)?;
         writeln!(f, "nets                  {}", self.net)?;
+        writeln!(f, "unpaid redemptions    {}", self.unpaid)?;
         writeln!(f, "applications done     {}", self.applications_done)?;
         writeln!(f, "applications dropped  {}", self.applications_dropped)?;
-        write!(f, "{}", self.coverage)
+        write!(f, "{}{}", self.evenings, self.coverage)
     }
 }

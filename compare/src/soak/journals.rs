@@ -5,8 +5,9 @@ use std::collections::HashSet;
 use std::fmt;
 use std::hash::{DefaultHasher, Hash, Hasher};
 
-use model::book::Book;
+use model::book::{Book, Trade};
 use model::cases::ledger::Ledger;
+use model::coverage::evenings::Evenings;
 use model::coverage::{allowed, Coverage};
 use model::generator::generate;
 use model::generator::random::Random;
@@ -34,6 +35,7 @@ pub struct Journals {
     headroom: Extent,
     fullest_table: usize,
     coverage: Coverage,
+    evenings: Evenings,
 }
 
 impl Trial for Journals {
@@ -60,6 +62,10 @@ impl Trial for Journals {
 
     fn unexpected_pairs(&self) -> Vec<(u8, u32)> {
         self.coverage.unexpected()
+    }
+
+    fn evenings(&self) -> Evenings {
+        self.evenings
     }
 }
 
@@ -91,7 +97,12 @@ impl Journals {
         let length = random.pick(&[70, JOURNAL_EVENTS]);
         for events in journal.events.chunks(length) {
             fill_spare_slots(&mut ledger);
-            let watch = |book: &Book| self.fullest_table = self.fullest_table.max(book.trades);
+            let mut before = ledger.book.clone();
+            let watch = |book: &Book, table: &[Trade]| {
+                self.fullest_table = self.fullest_table.max(book.trades);
+                self.evenings.record(&before, book, table);
+                before.clone_from(book);
+            };
             both_run_watched(&mut ledger, events, watch).expect("the book is fit");
         }
     }
@@ -124,6 +135,6 @@ impl fmt::Display for Journals {
         writeln!(f, "longest listing       {} lines, {} bytes", self.most_lines, self.most_bytes)?;
         writeln!(f, "fullest table         {} trades", self.fullest_table)?;
         writeln!(f, "headroom              {}", self.headroom)?;
-        write!(f, "{}", self.coverage)
+        write!(f, "{}{}", self.evenings, self.coverage)
     }
 }

@@ -1,17 +1,17 @@
-//! Books that no journal leads to: nets that come to their limits, books that
-//! are just fit, and evenings with many applications.
+//! Books that no journal leads to: nets and U that come to their limits, books
+//! that are just fit, evenings with many applications, and with one at the edge.
 
 use compare::sides::{both, both_run, fill_spare_slots};
-use model::cases::evenings::evening;
-use model::cases::nets::{self, Case};
+use model::cases::evenings::{at_the_edge, evening};
 use model::cases::unfit::{busy_ledger, every_event, STILL_FIT};
+use model::cases::{nets, unpaid, Case};
 use model::event::Event;
 use model::generator::random::Random;
 
-#[test]
-fn answer_14_by_nets() {
+/// The events that are answered 14; every other outcome agrees, too.
+fn refused_by_limits<T>(cases: impl Iterator<Item = Case<T>>) -> Vec<u8> {
     let mut refused = Vec::new();
-    for Case { mut ledger, event, outcome } in nets::all() {
+    for Case { mut ledger, event, outcome } in cases {
         fill_spare_slots(&mut ledger);
         let (event, wanted) = (event.encode(), outcome.err().unwrap_or(0));
         let lines = both_run(&mut ledger.clone(), &[event]).expect("the book is fit");
@@ -19,7 +19,25 @@ fn answer_14_by_nets() {
         refused.extend((wanted == 14).then_some(event[0]));
     }
     refused.dedup();
-    assert_eq!(refused, [9, 10, 1, 12], "Initial, Early, Open and Close");
+    refused
+}
+
+#[test]
+fn answer_14_by_nets() {
+    assert_eq!(refused_by_limits(nets::all()), [9, 10, 1, 12], "Initial, Early, Open and Close");
+}
+
+#[test]
+fn answer_14_by_unpaid_redemptions() {
+    assert_eq!(refused_by_limits(unpaid::all()), [10, 1, 12], "Early, Open and Close");
+}
+
+#[test]
+fn unpaid_redemptions_hold_what_they_need() {
+    for Case { mut ledger, event, outcome } in at_the_edge() {
+        fill_spare_slots(&mut ledger);
+        assert_eq!(Ok(both(&mut ledger, &event.encode()).done), outcome);
+    }
 }
 
 #[test]

@@ -24,6 +24,9 @@ mod slips;
 // Document 00's two rehearsals.
 mod rehearsals;
 
+// Evenings with unpaid redemptions.
+mod unpaid;
+
 // A table of structs, lent to the book.
 mod structs;
 
@@ -45,5 +48,6 @@ fn main() {
     rehearsals::first();
     rehearsals::second();
     rehearsals::pledge_alone_late();
+    unpaid::evenings();
     structs::first_trade();
 }

@@ -18,19 +18,21 @@ use Rattle.money.specs.Days.{Calendar}
 use Rattle.money.proofs.Refusals.{hit, skip, clear}
 use Rattle.rules.specs.Limits.{netLimit}
 use Rattle.rules.specs.Book.{answer}
+use Rattle.rules.specs.Unpaid.{passes}
 use Rattle.rules.specs.Days.{paymentDay}
-use Rattle.rules.specs.Trades.{total, maturing, maturityAmount, matured, remaining, packed, over}
+use Rattle.rules.specs.Trades.{total, outstanding, maturing, maturityAmount, matured, remaining, packed, over}
 use Rattle.rules.specs.Fit.{netFit, securitiesFit, cashFit, fit}
-use Rattle.rules.specs.Close.{Evening, mayClose, today, maturedTrades, maturedSheets, maturedAmount, netWithMatured, clearedAtClose, closeCauses, allArrived, evening, closedTable, closedBook, closeAnswer}
+use Rattle.rules.specs.Close.{Evening, mayClose, today, maturedTrades, maturedSheets, maturedAmount, netWithMatured, clearedAtClose, unpaidAtClose, closeCauses, allArrived, claims, evening, claimsAtClose, closedTable, closedBook, closeAnswer}
 use Rattle.rules.proofs.FitParts.{securities-fit, cash-fits}
 use Rattle.rules.proofs.TableFit.{matured-lessens, fewer-fit}
 use Rattle.rules.proofs.EveningFit.{all-arrived-fit}
-use Rattle.core.specs.Types.{Security, Book, Trade}
+use Rattle.core.specs.Types.{Unpaid, Security, Book, Trade}
 use Rattle.scalars.specs.declared.state.Scalars.{Scalars}
 use Rattle.scalars.specs.declared.done.Done.{Done}
 use Rattle.core.specs.declared.evening.EveningScalars.{EveningScalars}
 use Rattle.core.specs.Redemption.{Redeemed, maturityOf}
 use Rattle.core.specs.Flat.{Rows, rowsOf, tradesTo, tradesOf, bookOf, eveningAt, appliedAt, closedBy, tableBy, Kept}
+use Rattle.core.proofs.Column.{first-holds, second-holds, neither-holds}
 use Rattle.core.proofs.FitFacts.{fit-in-use}
 use Rattle.core.proofs.FlatLaws.{length-trades, take-trades}
 use Rattle.core.proofs.EveningLaws.{Kept as KeptEvening}
@@ -51,37 +53,40 @@ outside net e = lt-ltb netLimit (natAbs net) (leb-false (natAbs net) netLimit (f
 inside : (net : ℤ) → not (netFit net) ≡ false → ltb netLimit (natAbs net) ≡ false
 inside net e = le-ltb netLimit (natAbs net) (leb-true (natAbs net) netLimit (holds (netFit net) e))
 
-first-of-two : {a : Bool} (b : Bool) → a ≡ true → (a || b) ≡ true
-first-of-two b e = rw e
-
-second-of-two : {a b : Bool} → a ≡ false → b ≡ true → (a || b) ≡ true
-second-of-two {a} {b} e f = rw (e, f)
-
-none-of-two : {a b : Bool} → a ≡ false → b ≡ false → (a || b) ≡ false
-none-of-two {a} {b} e f = rw (e, f)
-
 module _ (calendar : Calendar) (book : Book) (table : List Trade) where
   pub not-now : not (mayClose (book .standing)) ≡ true → firstOf (closeCauses calendar book table) ≡ some 4
   unfolding closeCauses
   not-now e = hit _ _ e
 
+  -- the three tests of 14
+  abbrev today-over : Bool
+  today-over = ltb netLimit (natAbs (netWithMatured calendar book table))
+
+  abbrev cleared-over : Bool
+  cleared-over = ltb netLimit (natAbs (clearedAtClose calendar book table))
+
+  abbrev unpaid-over : Bool
+  unpaid-over = passes (maturedAmount calendar book table) (book .sums .unpaid)
+
   module _ (may : not (mayClose (book .standing)) ≡ false) where
     pub today-outside : not (netFit (netWithMatured calendar book table)) ≡ true → firstOf (closeCauses calendar book table) ≡ some 14
     unfolding closeCauses
-    today-outside e = skip _ _ may (hit _ _ (first-of-two _ (outside (netWithMatured calendar book table) e)))
+    today-outside e = skip _ _ may (hit _ _ (first-holds unpaid-over (first-holds cleared-over (outside (netWithMatured calendar book table) e))))
 
-    module _ (fits : not (netFit (netWithMatured calendar book table)) ≡ false) where
-      pub cleared-outside : not (netFit (clearedAtClose calendar book table)) ≡ true → firstOf (closeCauses calendar book table) ≡ some 14
-      unfolding closeCauses
-      cleared-outside e =
-          skip _ _ may
-          (hit _ _ (second-of-two (inside (netWithMatured calendar book table) fits) (outside (clearedAtClose calendar book table) e)))
+    pub cleared-outside : not (netFit (clearedAtClose calendar book table)) ≡ true → firstOf (closeCauses calendar book table) ≡ some 14
+    unfolding closeCauses
+    cleared-outside e = skip _ _ may (hit _ _ (first-holds unpaid-over (second-holds today-over (outside (clearedAtClose calendar book table) e))))
 
-      pub may-be-closed : not (netFit (clearedAtClose calendar book table)) ≡ false → firstOf (closeCauses calendar book table) ≡ none
-      unfolding closeCauses
-      may-be-closed e =
-          skip _ _ may
-          (skip _ _ (none-of-two (inside (netWithMatured calendar book table) fits) (inside (clearedAtClose calendar book table) e)) clear)
+    pub unpaid-past : unpaid-over ≡ true → firstOf (closeCauses calendar book table) ≡ some 14
+    unfolding closeCauses
+    unpaid-past e = skip _ _ may (hit _ _ (second-holds (today-over || cleared-over) e))
+
+    pub may-be-closed : not (netFit (netWithMatured calendar book table)) ≡ false → not (netFit (clearedAtClose calendar book table)) ≡ false
+        → unpaid-over ≡ false → firstOf (closeCauses calendar book table) ≡ none
+    unfolding closeCauses
+    may-be-closed today cleared unpaid =
+        skip _ _ may
+        (skip _ _ (neither-holds (neither-holds (inside (netWithMatured calendar book table) today) (inside (clearedAtClose calendar book table) cleared)) unpaid) clear)
 
 -- ---- (a) what is planned over the flat table is what matures
 
@@ -142,6 +147,12 @@ module _ (book : Book) (s : securitiesFit (book .vault) ≡ true) (c : cashFit (
       let arrived = all-arrived-fit (book .cash .client) (book .cash .own) (book .vault) 0 0 (securities-fit (book .vault) s) (cash-fits (book .cash) (book .vault .guarantee) c) in
       record { securities = arrived .securities; free = arrived .cash .free; cash = omega (arith, arrived .cash .sum) }
 
+-- its claims: today's part of U has joined the cleared part
+pub claims-joined : (calendar : Calendar) (book : Book) (left table : List Trade) (sheets : ℕ) (unpaid : Unpaid) → sheets ≡ outstanding left → unpaid ≡ unpaidAtClose calendar book table
+    → claims sheets (unpaid .cleared .0) ≡ claimsAtClose calendar book left table
+unfolding claimsAtClose
+claims-joined calendar book left table sheets unpaid o u = rw (o, u) (omega arith)
+
 -- ---- what Close gives back, refused and done
 
 module _ (calendar : Calendar) (scalars : Scalars) (rows : Rows) (left table : List Trade) where
@@ -158,7 +169,7 @@ pub rows-cleared : (scalars : Scalars) (held : List ℕ) {kinds cleared-kinds un
 rows-cleared scalars held k u e = rw (k, u) e
 
 pub close-done : (calendar : Calendar) (book : Book) (left table : List Trade) (matured : Sheets) (ended : EveningScalars) (securities : List Security) (scalars : Scalars) (rows : Rows)
-    → matured ≡ sheets (maturedSheets book table) → eveningAt ended securities ≡ evening book left → bookOf scalars rows ≡ closedBook calendar book left table
+    → matured ≡ sheets (maturedSheets book table) → eveningAt ended securities ≡ evening book (claimsAtClose calendar book left table) → bookOf scalars rows ≡ closedBook calendar book left table
     → appliedAt (record { answer = record { number = 0; matured = matured; done = ended .done; dropped = ended .dropped }; scalars = scalars }) rows ≡ closedBy none calendar book left table
 unfolding closeAnswer
 close-done calendar book left table matured ended securities scalars rows m end next =

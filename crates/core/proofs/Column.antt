@@ -1,7 +1,7 @@
 -- A refusal's column of early returns against its causes, cause by cause: a ruleset that search follows down the column.
 -- Assumes nothing.
 use mathlib.Core.Path.{_≡_, refl, sym, ap, _∙_}
-use mathlib.Core.Bool.{Bool, true, false, not, _&&_}
+use mathlib.Core.Bool.{Bool, true, false, not, _&&_, _||_}
 use mathlib.Core.List.{List, [], _∷_}
 use Prim.Native.Nat.{ℕ, _<_, _≤_}
 use lib.Dec.{ltb}
@@ -58,10 +58,21 @@ pub second-fails : (x : Bool) {y : Bool} → y ≡ false → (x && y) ≡ false
 second-fails true e = e
 second-fails false e = refl
 
+-- two of which one is enough
+pub first-holds : {x : Bool} (y : Bool) → x ≡ true → (x || y) ≡ true
+first-holds y e = rw e
+
+pub second-holds : (x : Bool) {y : Bool} → y ≡ true → (x || y) ≡ true
+second-holds true e = refl
+second-holds false e = e
+
+pub neither-holds : {x y : Bool} → x ≡ false → y ≡ false → (x || y) ≡ false
+neither-holds {x} {y} e f = rw (e, f)
+
 pub failing-denied : {x : Bool} → x ≡ false → not x ≡ true
 failing-denied e = ap not e
 
 pub holding-denied : {x : Bool} → x ≡ true → not x ≡ false
 holding-denied e = ap not e
 
-pub ruleset column = (applies, passes, ends, le-ltb, lt-ltb, le-leb, lt-leb, eq-eqb, ne-eqb, asked, asked-not, denied, denied-not, asked-below, asked-not-below, asked-above, asked-not-above, both-hold, first-fails, second-fails, failing-denied, holding-denied)
+pub ruleset column = (applies, passes, ends, le-ltb, lt-ltb, le-leb, lt-leb, eq-eqb, ne-eqb, asked, asked-not, denied, denied-not, asked-below, asked-not-below, asked-above, asked-not-above, both-hold, first-fails, second-fails, first-holds, second-holds, neither-holds, failing-denied, holding-denied)

@@ -1,12 +1,14 @@
 -- Early: the bound of the amount, and what no refusal leaves to the code.
 -- Assumes nothing.
 use mathlib.Core.Path.{_≡_}
-use mathlib.Core.Bool.{true}
+use mathlib.Core.Bool.{true, false}
 use mathlib.Core.List.{List}
 use mathlib.Core.Option.{none}
 use Prim.Native.Nat.{ℕ, _-_, _≤_, _<_}
 use native.Mathlib.Omega.{arith}
 use borrow.Author.Tests.{ltb-false}
+use lib.Dec.{ltb}
+use lib.IntN.{natAbs}
 use lib.ListN.{length}
 use Rattle.money.specs.declared.units.Sheets.{Sheets}
 use Rattle.money.specs.declared.units.Ticks.{Ticks}
@@ -15,10 +17,13 @@ use Rattle.money.specs.Limits.{tradeLimit, priceLimit}
 use Rattle.money.specs.Causes.{firstOf, numberOf}
 use Rattle.money.specs.Days.{Calendar}
 use Rattle.money.proofs.Bounds.{redemption-bound}
+use Rattle.rules.specs.Limits.{netLimit}
+use Rattle.rules.specs.Unpaid.{passes}
 use Rattle.rules.specs.Days.{paymentDay}
 use Rattle.rules.specs.Fit.{fit}
 use Rattle.rules.specs.Step.{eventCauses}
-use Rattle.rules.specs.Early.{named, earlyAmount, earlyCauses}
+use Rattle.rules.specs.Early.{named, earlyAmount, netWithEarly, earlyCauses}
+use Rattle.rules.proofs.FoldLaws.{neither}
 use Rattle.rules.proofs.Accepted.{Clear, all-clear}
 use Rattle.core.specs.Types.{Book, Contract, Trade, Early}
 use Rattle.core.specs.Flat.{tradeAt, tradesTo, tradesOf, placeOf, Kept}
@@ -66,3 +71,10 @@ early-redeems calendar book table place contract count price fits stands e =
 
     enough : count .0 ≤ tradeAt table place .sheets .0
     enough = rw (trade-here table (book .trades) place contract (keeps .room) stands below) at (ltb-false (named book (tradesOf table) contract .sheets .0) (count .0) (clear 13))
+
+-- and U has room for the amount
+pub early-within : (calendar : Calendar) (book : Book) (table : List Trade) (contract : Contract) (count : Sheets) (price : Ticks) → firstOf (earlyCauses calendar book table contract count price) ≡ none
+    → passes (earlyAmount calendar book table contract count price) (book .sums .unpaid) ≡ false
+unfolding earlyCauses
+early-within calendar book table contract count price e =
+    neither (ltb netLimit (natAbs (netWithEarly calendar book table contract count price))) _ (all-clear (earlyCauses calendar book table contract count price) e 14) .1

@@ -60,29 +60,29 @@ module _ {A : Type 0} (f : A → A) where
 
 -- ---- an application's test, by its parts in order
 
-module _ (served : Bool) (outstanding kind units : ℕ) (vault : Vault) where
-  pub unserved : served ≡ false → false ≡ mayGo served outstanding kind units vault
+module _ (served : Bool) (claims kind units : ℕ) (vault : Vault) where
+  pub unserved : served ≡ false → false ≡ mayGo served claims kind units vault
   unfolding mayGo
   unserved e = rw e
 
-  pub frozen-stay : served ≡ true → effectiveOf vault kind < frozenOf vault kind + units → false ≡ mayGo served outstanding kind units vault
+  pub frozen-stay : served ≡ true → effectiveOf vault kind < frozenOf vault kind + units → false ≡ mayGo served claims kind units vault
   unfolding mayGo
   frozen-stay e h = rw (e, lt-leb (frozenOf vault kind + units) (effectiveOf vault kind) h)
 
-  pub uncovered : served ≡ true → frozenOf vault kind + units ≤ effectiveOf vault kind → value (takenOut kind units vault) < outstanding → false ≡ mayGo served outstanding kind units vault
-  unfolding mayGo covered
-  uncovered e h k = rw (e, le-leb (frozenOf vault kind + units) (effectiveOf vault kind) h, lt-leb outstanding (value (takenOut kind units vault)) k)
+  pub uncovered : served ≡ true → frozenOf vault kind + units ≤ effectiveOf vault kind → covered claims (value (takenOut kind units vault)) ≡ false → false ≡ mayGo served claims kind units vault
+  unfolding mayGo
+  uncovered e h k = rw (e, le-leb (frozenOf vault kind + units) (effectiveOf vault kind) h, k)
 
-  pub may-go : served ≡ true → frozenOf vault kind + units ≤ effectiveOf vault kind → outstanding ≤ value (takenOut kind units vault) → true ≡ mayGo served outstanding kind units vault
-  unfolding mayGo covered
-  may-go e h k = rw (e, le-leb (frozenOf vault kind + units) (effectiveOf vault kind) h, le-leb outstanding (value (takenOut kind units vault)) k)
+  pub may-go : served ≡ true → frozenOf vault kind + units ≤ effectiveOf vault kind → covered claims (value (takenOut kind units vault)) ≡ true → true ≡ mayGo served claims kind units vault
+  unfolding mayGo
+  may-go e h k = rw (e, le-leb (frozenOf vault kind + units) (effectiveOf vault kind) h, k)
 
   -- what goes was unfrozen
-  pub unfrozen : mayGo served outstanding kind units vault ≡ true → frozenOf vault kind + units ≤ effectiveOf vault kind
+  pub unfrozen : mayGo served claims kind units vault ≡ true → frozenOf vault kind + units ≤ effectiveOf vault kind
   unfolding mayGo
   unfrozen e =
       let enough = leb (frozenOf vault kind + units) (effectiveOf vault kind) in
-      let b = both (served && enough) (covered outstanding (takenOut kind units vault)) e .0 in
+      let b = both (served && enough) (covered claims (value (takenOut kind units vault))) e .0 in
       leb-true (frozenOf vault kind + units) (effectiveOf vault kind) (both served enough b .1)
 
 -- ---- one kind looked at, and written back with units less
@@ -180,32 +180,32 @@ module _ (kind units : ℕ) (evening : Evening) (kept : Kept evening) (enough : 
       by-kind true h = (omega arith, omega (arith, kept .cash))
       by-kind false h = (kept .free, kept .cash)
 
-module _ (served : Bool) (outstanding kind units : ℕ) (evening : Evening) where
-  pub settled-keeps : Kept evening → Kept (settled served outstanding kind units evening)
+module _ (served : Bool) (claims kind units : ℕ) (evening : Evening) where
+  pub settled-keeps : Kept evening → Kept (settled served claims kind units evening)
   settled-keeps kept =
-      by-test (λ goes. Kept (settleOne goes kind units evening)) (mayGo served outstanding kind units (evening .vault))
-      (λ goes. done-keeps kind units evening kept (unfrozen served outstanding kind units (evening .vault) goes))
+      by-test (λ goes. Kept (settleOne goes kind units evening)) (mayGo served claims kind units (evening .vault))
+      (λ goes. done-keeps kind units evening kept (unfrozen served claims kind units (evening .vault) goes))
       (λ stays. record { securities = kept .securities; free = kept .free; cash = kept .cash })
 
-  settled-counts : settled served outstanding kind units evening .done + settled served outstanding kind units evening .dropped ≡ evening .done + evening .dropped + 1
+  settled-counts : settled served claims kind units evening .done + settled served claims kind units evening .dropped ≡ evening .done + evening .dropped + 1
   settled-counts =
       by-test (λ goes. settleOne goes kind units evening .done + settleOne goes kind units evening .dropped ≡ evening .done + evening .dropped + 1)
-      (mayGo served outstanding kind units (evening .vault)) (λ goes. omega arith) (λ stays. omega arith)
+      (mayGo served claims kind units (evening .vault)) (λ goes. omega arith) (λ stays. omega arith)
 
 -- ---- the applications in order
 
-module _ (served : Bool) (outstanding : ℕ) (withdrawals : Withdrawals) where
+module _ (served : Bool) (claims : ℕ) (withdrawals : Withdrawals) where
   -- what the application at a place does
   abbrev pub turn : ℕ → Evening → Evening
-  turn i = settled served outstanding (getD (withdrawals .kinds) i 0) (getD (withdrawals .units) i 0)
+  turn i = settled served claims (getD (withdrawals .kinds) i 0) (getD (withdrawals .units) i 0)
 
   module _ (evening : Evening) where
     pub turns-keep : (n : ℕ) → Kept evening → Kept (inTurn n turn evening)
     turns-keep n kept =
-        in-turn-keeps Kept n turn evening (λ i e. settled-keeps served outstanding (getD (withdrawals .kinds) i 0) (getD (withdrawals .units) i 0) e) kept
+        in-turn-keeps Kept n turn evening (λ i e. settled-keeps served claims (getD (withdrawals .kinds) i 0) (getD (withdrawals .units) i 0) e) kept
 
     pub turns-count : (n : ℕ) → inTurn n turn evening .done + inTurn n turn evening .dropped ≡ evening .done + evening .dropped + n
     unfolding inTurn
     turns-count zero = omega arith
     turns-count (suc n) =
-        omega (arith, turns-count n, settled-counts served outstanding (getD (withdrawals .kinds) n 0) (getD (withdrawals .units) n 0) (inTurn n turn evening))
+        omega (arith, turns-count n, settled-counts served claims (getD (withdrawals .kinds) n 0) (getD (withdrawals .units) n 0) (inTurn n turn evening))

@@ -5,22 +5,28 @@ use mathlib.Core.Bool.{true, false}
 use mathlib.Core.List.{List}
 use mathlib.Core.Option.{none, some}
 use Prim.Native.Nat.{ℕ, _≤_}
-use borrow.Author.Tests.{leb-true, leb-false, lt-ltb, le-ltb}
+use lib.Dec.{ltb}
 use lib.IntN.{natAbs}
 use lib.ListN.{length}
 use Rattle.money.specs.Causes.{firstOf}
+use Rattle.money.specs.Units.{signedFen}
 use Rattle.money.specs.Days.{Calendar}
 use Rattle.rules.specs.Limits.{netLimit}
+use Rattle.rules.specs.Unpaid.{passes}
 use Rattle.rules.specs.Book.{isClosed, withStanding}
 use Rattle.rules.specs.Days.{following, paymentDay, followed}
 use Rattle.rules.specs.Trades.{inUse}
 use Rattle.rules.specs.Fit.{netFit, fit}
-use Rattle.rules.specs.Open.{turnsTerminated, nextDay, netWithFallbacks, openCauses, openedStanding}
+use Rattle.rules.specs.Open.{turnsTerminated, nextDay, fallbackSum, netWithFallbacks, unpaidWithFallbacks, fallbacksPass, openCauses, openedStanding, openedBook}
 use Rattle.rules.proofs.TableFit.{all-the-same}
 use Rattle.rules.proofs.DayFit.{next-day}
 use Rattle.rules.proofs.FitParts.{fit-parts, parts-fit}
-use Rattle.core.specs.Types.{Book, Trading, Trade}
-use Rattle.core.specs.Flat.{tradesOf, Redeemable}
+use Rattle.scalars.specs.Scalars.{withUnpaid}
+use Rattle.scalars.specs.declared.state.Scalars.{Scalars}
+use Rattle.core.specs.Types.{Nets, Standing, Book, Trading, Trade}
+use Rattle.core.specs.Flat.{Rows, bookOf, tradesOf, Redeemable}
+use Rattle.core.proofs.Column.{first-holds, second-holds, neither-holds}
+use Rattle.core.proofs.NetLaws.{over-net, within-net}
 use Rattle.core.proofs.FitFacts.{fit-redeemable}
 
 -- ---- the cause that applies
@@ -42,17 +48,33 @@ module _ (calendar : Calendar) (book : Book) (table : List Trade) where
       none-unless-ended e = rw (closed, follows, e)
 
       module _ (ended : turnsTerminated (book .standing) ≡ true) where
-        pub net-too-large : netFit (netWithFallbacks calendar book table) ≡ false → firstOf (openCauses calendar book table) ≡ some 14
+        past-limits : fallbacksPass calendar book table ≡ true → firstOf (openCauses calendar book table) ≡ some 14
         unfolding openCauses firstOf
-        net-too-large e =
-            let net = natAbs (netWithFallbacks calendar book table) in
-            rw (closed, follows, ended, lt-ltb netLimit net (leb-false net netLimit e))
+        past-limits e = rw (closed, follows, ended, e)
 
-        pub none-within-net : netFit (netWithFallbacks calendar book table) ≡ true → firstOf (openCauses calendar book table) ≡ none
+        within-limits : fallbacksPass calendar book table ≡ false → firstOf (openCauses calendar book table) ≡ none
         unfolding openCauses firstOf
-        none-within-net e =
-            let net = natAbs (netWithFallbacks calendar book table) in
-            rw (closed, follows, ended, le-ltb netLimit net (leb-true net netLimit e))
+        within-limits e = rw (closed, follows, ended, e)
+
+        pub net-past : netFit (netWithFallbacks calendar book table) ≡ false → firstOf (openCauses calendar book table) ≡ some 14
+        net-past e = past-limits (first-holds (passes (fallbackSum calendar book table) (book .sums .unpaid)) (over-net (netWithFallbacks calendar book table) e))
+
+        pub unpaid-past : passes (fallbackSum calendar book table) (book .sums .unpaid) ≡ true → firstOf (openCauses calendar book table) ≡ some 14
+        unpaid-past e = past-limits (second-holds (ltb netLimit (natAbs (netWithFallbacks calendar book table))) e)
+
+        pub none-within-limits : netFit (netWithFallbacks calendar book table) ≡ true → passes (fallbackSum calendar book table) (book .sums .unpaid) ≡ false → firstOf (openCauses calendar book table) ≡ none
+        none-within-limits net unpaid = within-limits (neither-holds (within-net (netWithFallbacks calendar book table) net) unpaid)
+
+-- ---- what it leaves on turning terminated: `owing` are the scalars with the U that it makes
+
+module _ (calendar : Calendar) (scalars owing : Scalars) (rows : Rows) (table : List Trade) (nets : Nets) (after : Standing) where
+  pub terminated-book : turnsTerminated (scalars .standing) ≡ true → after ≡ openedStanding calendar (scalars .standing)
+      → nets ≡ record { today = scalars .nets .today; cleared = signedFen (netWithFallbacks calendar (bookOf scalars rows) table) }
+      → owing ≡ withUnpaid (unpaidWithFallbacks calendar (bookOf scalars rows) table) scalars
+      → bookOf (record { nets = nets; sums = owing .sums; cash = owing .cash; guarantee = owing .guarantee; size = owing .size; standing = after; applications = owing .applications; trades = owing .trades }) rows
+      ≡ openedBook calendar (bookOf scalars rows) table
+  unfolding openedBook
+  terminated-book ended opened cleared owed = rw (owed, cleared, opened, ended)
 
 -- ---- redemption on the day opened
 
@@ -71,6 +93,7 @@ module _ (calendar : Calendar) (book : Book) (table : List ℕ) (fits : fit cale
         each = f .each;
         size = f .size;
         nets = f .nets;
+        sums = f .sums;
         differing = f .differing;
         withdrawals = f .withdrawals;
         day = next-day calendar (book .standing .day) (book .standing .phase) Trading (tradesOf table) trades n n (f .day) follows (all-the-same trades);

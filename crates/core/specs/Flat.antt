@@ -108,6 +108,7 @@ vaultOf guarantee securities = record { guarantee = guarantee; securities = secu
 abbrev pub bookOf : Scalars → Rows → Book
 bookOf scalars rows = record {
   nets = scalars .nets;
+  sums = scalars .sums;
   cash = scalars .cash;
   vault = vaultOf (scalars .guarantee) (rows .securities);
   size = scalars .size;
@@ -119,6 +120,7 @@ bookOf scalars rows = record {
 abbrev pub scalarsOf : Book → Scalars
 scalarsOf book = record {
   nets = book .nets;
+  sums = book .sums;
   cash = book .cash;
   guarantee = book .vault .guarantee;
   size = book .size;
@@ -239,7 +241,7 @@ paidBy cause before = givenBy cause before (record { answer = answer (payNumber 
 -- Close carries its figures in the answer; `left` are the trades in use as its part (b) begins
 abbrev pub closedBy : Option ℕ → Calendar → Book → (left table : List Trade) → Applied
 closedBy cause calendar before left table =
-    givenBy cause before (record { answer = closeAnswer before left table; book = closedBook calendar before left table })
+    givenBy cause before (record { answer = closeAnswer calendar before left table; book = closedBook calendar before left table })
 
 -- what a step gives back beside the table
 abbrev pub appliedOf : Outcome → Applied

@@ -1,6 +1,7 @@
 -- The types of the rules, under one name for the core's contracts and proofs. They are declared in the crate `rules`.
 -- Assumes nothing.
 pub use Rattle.rules.specs.declared.book.Nets.{Nets}
+pub use Rattle.rules.specs.declared.book.Unpaid.{Unpaid}
 pub use Rattle.rules.specs.declared.book.Cash.{Cash}
 pub use Rattle.rules.specs.declared.book.Security.{Security}
 pub use Rattle.rules.specs.declared.book.Guarantee.{Guarantee}

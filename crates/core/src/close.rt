@@ -11,7 +11,7 @@ ghost use Rattle.money.specs.Days.{Calendar};
 ghost use Rattle.rules.specs.Limits.{applicationLimit};
 ghost use Rattle.rules.specs.Vault.{value};
 ghost use Rattle.rules.specs.Book.{noApplications};
-ghost use Rattle.rules.specs.Close.{mayClose, maturedTrades, maturedSheets, clearedAtClose, served, evening as eveningOf, shortMore, shortAtClose, closedStanding, closeCauses, closedBook, closedTable};
+ghost use Rattle.rules.specs.Close.{mayClose, maturedTrades, maturedSheets, clearedAtClose, unpaidAtClose, claims, claimsAtClose, served, evening as eveningOf, shortMore, shortAtClose, closedStanding, closeCauses, closedBook, closedTable};
 ghost use Rattle.rules.specs.Trades.{outstanding, remaining};
 ghost use Rattle.core.specs.Types.{Trade};
 ghost use Rattle.core.specs.Flat.{FitsWhole, RowsFit, Rows, vaultOf, securitiesOf, rowsOf, bookOf, eveningAt, appliedAt, tradesOf, closedBy, tableBy, Kept};
@@ -23,18 +23,22 @@ use crate::packing;
 use crate::redemption;
 use crate::trades;
 use crate::vault;
+use money::units::Fen;
 use money::units::Sheets;
 use rules::book::Cash;
 use rules::book::Nets;
 use rules::book::Phase;
 use rules::book::ShortRun;
 use rules::book::Standing;
+use rules::book::Unpaid;
 use rules::limits::APPLICATION_LIMIT;
 use scalars::done;
 use scalars::done::Done;
 use scalars::headroom;
 use scalars::standing;
+use scalars::state;
 use scalars::state::Scalars;
+use scalars::unpaid;
 
 fn may_close(standing: Standing) -> bool
     ensures { λ r. ⌜ r ≡ mayClose standing ⌝ }
@@ -105,18 +109,19 @@ fn clear(kinds: &mut [u8], units: &mut [u64])
     }
 }
 
-// The evening's end, with the sheets of the trades that part (a) leaves.
+// The evening's end, with the sheets of the trades that part (a) leaves and U as it is then.
 fn evening_end(
     scalars: Scalars,
     held: &mut [u64],
     kinds: &[u8],
     units: &[u64],
     left: Sheets,
+    unpaid: Fen,
 ) -> EveningScalars
     requires { ⌜ RowsFit scalars (now held) (now kinds) (now units) ⌝ }
     ensures { λ r.
         let book = bookOf scalars (rowsOf (now (held .entry)) (now (kinds .entry)) (now (units .entry))) in
-        ⌜ ((trades : List Trade) → left .0 ≡ outstanding trades → eveningAt r (securitiesOf (now (held .exit))) ≡ eveningOf book trades)
+        ⌜ (eveningAt r (securitiesOf (now (held .exit))) ≡ eveningOf book (claims (left .0) (unpaid .0)))
         × (r .value .0 ≡ value (vaultOf (r .guarantee) (securitiesOf (now (held .exit))))) ⌝ }
 {
     let standing = scalars.standing;
@@ -134,6 +139,7 @@ fn evening_end(
     evening::applications(
         is_served(standing),
         left,
+        unpaid,
         kinds,
         units,
         scalars.applications,
@@ -142,10 +148,11 @@ fn evening_end(
     )
 }
 
-// The scalars after the evening: `cleared` has the nets, `kept` the trades that stay.
+// The scalars after the evening: `cleared` has the nets, `unpaid` is U, `kept` the trades that stay.
 fn closed_scalars(
     scalars: Scalars,
     cleared: Nets,
+    unpaid: Unpaid,
     ended: EveningScalars,
     left: Sheets,
     kept: usize,
@@ -154,7 +161,8 @@ fn closed_scalars(
         ⌜ ((calendar : Calendar) (rows : Rows) (held : List ℕ) (trades table : List Trade) →
         let book = bookOf scalars rows in
         cleared ≡ record { today = signedFen (pos 0); cleared = signedFen (clearedAtClose calendar book table) }
-        → eveningAt ended (securitiesOf held) ≡ eveningOf book trades
+        → unpaid ≡ unpaidAtClose calendar book table
+        → eveningAt ended (securitiesOf held) ≡ eveningOf book (claimsAtClose calendar book trades table)
         → ended .value .0 ≡ value (vaultOf (ended .guarantee) (securitiesOf held))
         → left .0 ≡ outstanding trades
         → kept ≡ length (remaining trades)
@@ -167,7 +175,7 @@ fn closed_scalars(
     let own = ended.own;
     let client = scalars.cash.client;
     let cash = Cash { own, client };
-    let mut next = scalars;
+    let mut next = state::with_unpaid(scalars, unpaid);
     next.nets = cleared;
     next.cash = cash;
     next.guarantee = guarantee;
@@ -186,6 +194,7 @@ fn closed(
     table: &mut [u64],
     matured: Sheets,
     cleared: Nets,
+    unpaid: Unpaid,
 ) -> Done
     requires { ⌜ (RowsFit scalars (now held) (now kinds) (now units)) × (Kept (now table) (scalars .trades)) ⌝ }
     ensures { λ r.
@@ -195,6 +204,7 @@ fn closed(
         ⌜ ((calendar : Calendar) →
         matured ≡ sheets (maturedSheets book trades)
         → cleared ≡ record { today = signedFen (pos 0); cleared = signedFen (clearedAtClose calendar book trades) }
+        → unpaid ≡ unpaidAtClose calendar book trades
         → appliedAt r (rowsOf (now (held .exit)) (now (kinds .exit)) (now (units .exit))) ≡ closedBy none calendar book remains trades)
         × (tradesOf (now (table .exit)) ≡ closedTable book remains trades) ⌝ }
 {
@@ -204,9 +214,9 @@ fn closed(
     redemption::redeem_due(table, count, days::day_number(day));
     let left = trades::outstanding_of(&*table, count);
     let kept = packing::pack(table, count);
-    let ended = evening_end(scalars, held, &*kinds, &*units, left);
+    let ended = evening_end(scalars, held, &*kinds, &*units, left, unpaid.cleared);
     clear(kinds, units);
-    let next = closed_scalars(scalars, cleared, ended, left, kept);
+    let next = closed_scalars(scalars, cleared, unpaid, ended, left, kept);
     done::of_close(matured, ended.done, ended.dropped, next)
 }
 
@@ -245,5 +255,19 @@ pub fn close(
     if !nets::cleared_fit(cleared) {
         return done::answered(14, scalars);
     }
-    closed(scalars, held, kinds, units, table, plan.sheets, cleared)
+    let sums = scalars.sums;
+    if unpaid::passes(sums.unpaid, plan.amount) {
+        return done::answered(14, scalars);
+    }
+    let unpaid = unpaid::joined_with(sums.unpaid, plan.amount);
+    closed(
+        scalars,
+        held,
+        kinds,
+        units,
+        table,
+        plan.sheets,
+        cleared,
+        unpaid,
+    )
 }

@@ -19,7 +19,9 @@ use rules::trade::Contract;
 use scalars::done;
 use scalars::done::Done;
 use scalars::standing;
+use scalars::state;
 use scalars::state::Scalars;
+use scalars::unpaid;
 
 // Whether today is at or past the due day of the trade at a place.
 fn past_due(scalars: Scalars, table: &[u64], place: usize, contract: Contract) -> bool
@@ -115,6 +117,10 @@ fn take_refusal(
     if nets::over_plus(nets, plan.amount) {
         return 14;
     }
+    let sums = scalars.sums;
+    if unpaid::passes(sums.unpaid, plan.amount) {
+        return 14;
+    }
     0
 }
 
@@ -173,7 +179,8 @@ pub fn early(
     let left = had.0 - plan.sheets.0;
     flat::put_sheets(table, place, Sheets(left));
     let nets = scalars.nets;
-    let mut next = scalars;
+    let sums = scalars.sums;
+    let mut next = state::with_unpaid(scalars, unpaid::today_plus(sums.unpaid, plan.amount));
     next.nets = nets::today_plus(nets, plan.amount);
     done::answered(0, next)
 }

@@ -9,7 +9,7 @@ ghost use Rattle.money.specs.Collateral.{cashKind, rateOf, unitLimitOf, kindVal
 ghost use Rattle.rules.specs.Limits.{applicationLimit};
 ghost use Rattle.rules.specs.Vault.{securityAt, effectiveOf, frozenOf, value as valueOf};
 ghost use Rattle.rules.specs.Fit.{securitiesFit, withdrawalsFit};
-ghost use Rattle.rules.specs.Close.{securityArrived, guaranteeArrived, takenOut, mayGo, applications};
+ghost use Rattle.rules.specs.Close.{securityArrived, guaranteeArrived, takenOut, claims, mayGo, applications};
 ghost use Rattle.core.specs.Types.{Vault};
 ghost use Rattle.core.specs.Flat.{vaultOf, securitiesOf, eveningAt, heldLength};
 ghost use Rattle.core.specs.Figures.{valueBound};
@@ -21,6 +21,7 @@ use money::units::Fen;
 use money::units::Sheets;
 use rules::book::Guarantee;
 use rules::book::Security;
+use scalars::headroom;
 
 fn security_arrived(security: Security) -> Security
     requires { ⌜ security .effective + security .arriving ≤ unitLimit ⌝ }
@@ -95,6 +96,7 @@ struct Verdict {
 fn judged(
     served: bool,
     outstanding: Sheets,
+    unpaid: Fen,
     kind: u8,
     units: u64,
     had: Security,
@@ -113,7 +115,7 @@ fn judged(
         → had .frozen ≡ frozenOf vault kind
         → had .rate ≡ securityAt vault kind .rate
         → value .0 ≡ valueOf vault
-        → (r .goes ≡ mayGo served (outstanding .0) kind units vault)
+        → (r .goes ≡ mayGo served (claims (outstanding .0) (unpaid .0)) kind units vault)
         × (r .value .0 ≡ cond (r .goes) (valueOf (takenOut kind units vault)) (value .0))) ⌝ }
 {
     if !served {
@@ -125,7 +127,7 @@ fn judged(
     let with = vault::worth(kind, had.effective, had.frozen, had.rate);
     let without = vault::worth(kind, had.effective - units, had.frozen, had.rate);
     let after = value.0 - with.0 + without.0;
-    if after < outstanding.0 {
+    if !headroom::covers(Sheets(after), outstanding, unpaid) {
         return Verdict { goes: false, value };
     }
     Verdict {
@@ -147,6 +149,7 @@ pub struct EveningScalars {
 pub fn applications(
     served: bool,
     outstanding: Sheets,
+    unpaid: Fen,
     kinds: &[u8],
     units: &[u64],
     count: usize,
@@ -167,7 +170,7 @@ pub fn applications(
     ensures { λ r.
         let before = eveningAt begun (securitiesOf (now (held .entry))) in
         ⌜ (eveningAt r (securitiesOf (now (held .exit)))
-        ≡ applications served (outstanding .0) (record { kinds = now (kinds .entry); units = now (units .entry); count = count }) before)
+        ≡ applications served (claims (outstanding .0) (unpaid .0)) (record { kinds = now (kinds .entry); units = now (units .entry); count = count }) before)
         × (r .value .0 ≡ valueOf (vaultOf (r .guarantee) (securitiesOf (now (held .exit))))) ⌝ }
 {
     let mut guarantee = begun.guarantee;
@@ -183,7 +186,15 @@ pub fn applications(
         if kind < CASH_KIND {
             had = held::security_at(&*held, kind as usize);
         }
-        let verdict = judged(served, outstanding, kind, amount, had, Sheets(value));
+        let verdict = judged(
+            served,
+            outstanding,
+            unpaid,
+            kind,
+            amount,
+            had,
+            Sheets(value),
+        );
         value = verdict.value.0;
         if verdict.goes {
             done += 1;

@@ -8,7 +8,7 @@ ghost use Rattle.money.specs.Limits.{calendarLimit};
 ghost use Rattle.rules.specs.Limits.{applicationLimit};
 ghost use Rattle.rules.specs.Folds.{every};
 ghost use Rattle.rules.specs.Trades.{differ};
-ghost use Rattle.rules.specs.Fit.{capacityFit, sizeFit, netsFit, withdrawalsFit, unopenedFit, openedFit, dayFit, fit};
+ghost use Rattle.rules.specs.Fit.{capacityFit, sizeFit, netsFit, sumsFit, withdrawalsFit, unopenedFit, openedFit, dayFit, fit};
 ghost use Rattle.core.specs.Types.{Trade};
 ghost use Rattle.core.specs.Flat.{RowsLong, rowsOf, bookOf, tradesTo, tradesOf, Kept};
 ghost use Rattle.core.specs.Figures.{outstandingAt, latestFirst, summaryOf};
@@ -18,14 +18,17 @@ use crate::nets;
 use crate::trades;
 use crate::trades::Summary;
 use crate::vault;
+use money::units::Fen;
 use money::units::Sheets;
 use rules::book::Day;
 use rules::book::Nets;
 use rules::book::Standing;
+use rules::book::Sums;
 use rules::limits::CAPACITY_LIMIT;
 use rules::limits::SIZE_LIMIT;
 use scalars::standing;
 use scalars::state::Scalars;
+use scalars::unpaid;
 
 fn capacity_fit(count: usize, table: &[u64]) -> bool
     ensures { λ r. ⌜ r ≡ capacityFit count (tradesOf (now (table .entry))) ⌝ }
@@ -54,6 +57,13 @@ fn nets_fit(nets: Nets) -> bool
         return false;
     }
     nets::cleared_fit(nets)
+}
+
+fn sums_fit(sums: Sums) -> bool
+    ensures { λ r. ⌜ r ≡ sumsFit sums ⌝ }
+{
+    let unpaid = sums.unpaid;
+    !unpaid::passes(unpaid, Fen(0))
 }
 
 // A book with no day is Closed with an empty table.
@@ -111,6 +121,7 @@ fn others_fit(
         let trades = tradesTo (now (table .entry)) (scalars .trades) in
         ⌜ r ≡ every
         (netsFit (scalars .nets)
+        ∷ sumsFit (scalars .sums)
         ∷ differ trades
         ∷ withdrawalsFit (record { kinds = now (kinds .entry); units = now (units .entry); count = scalars .applications })
         ∷ dayFit (now (calendar .entry)) (scalars .standing .day) (scalars .standing .phase) trades (scalars .trades)
@@ -118,6 +129,10 @@ fn others_fit(
 {
     let nets = scalars.nets;
     if !nets_fit(nets) {
+        return false;
+    }
+    let sums = scalars.sums;
+    if !sums_fit(sums) {
         return false;
     }
     let count = scalars.trades;

@@ -21,6 +21,8 @@ use rules::book::Phase;
 use rules::book::ShortRun;
 use rules::book::Standing;
 use rules::book::Status;
+use rules::book::Sums;
+use rules::book::Unpaid;
 use rules::limits::APPLICATION_LIMIT;
 use rules::limits::JOURNAL_CAPACITY;
 use scalars::state;
@@ -33,6 +35,12 @@ fn fresh_scalars() -> Scalars
         nets: Nets {
             today: SignedFen(0),
             cleared: SignedFen(0),
+        },
+        sums: Sums {
+            unpaid: Unpaid {
+                today: Fen(0),
+                cleared: Fen(0),
+            },
         },
         cash: Cash {
             own: Fen(0),

@@ -4,15 +4,16 @@ ghost use Prim.Native.Nat.{_≤_};
 ghost use lib.ListN.{length};
 ghost use Rattle.money.specs.Limits.{calendarLimit};
 ghost use Rattle.money.specs.Causes.{firstOf};
-ghost use Rattle.money.specs.Units.{signedFen};
-ghost use Rattle.rules.specs.Open.{statusAtOpen, turnsTerminated, openedStanding, netWithFallbacks, openCauses, openedBook, openedTable};
+ghost use Rattle.money.specs.Units.{fen};
+ghost use Rattle.rules.specs.Open.{statusAtOpen, turnsTerminated, openedStanding, fallbackSum, openCauses, openedBook, openedTable};
 ghost use Rattle.core.specs.Types.{Normal, NotFailed, FailedOnce};
 ghost use Rattle.core.specs.Flat.{Rows, bookOf, Fits, Opening, Ending, appliedAt, tradesOf, appliedBy, tableBy};
+ghost use Rattle.core.specs.Redemption.{amountBound};
 use crate::days;
 use crate::nets;
 use crate::redemption;
+use money::units::Fen;
 use rules::book::FailedRun;
-use rules::book::Nets;
 use rules::book::Phase;
 use rules::book::ShortRun;
 use rules::book::Standing;
@@ -20,7 +21,9 @@ use rules::book::Status;
 use scalars::done;
 use scalars::done::Done;
 use scalars::standing;
+use scalars::state;
 use scalars::state::Scalars;
+use scalars::unpaid;
 
 // Art. 69: short of collateral, initial trades are not taken from the next day on, and are again once headroom is not below
 // zero; still short two days later, the permission ends.
@@ -97,23 +100,20 @@ fn turns_terminated(before: Standing, after: Standing) -> bool
     standing::is_terminated(after)
 }
 
-// Art. 72: every trade is redeemed whole at its fallback price on the day opened, into the cleared net.
-fn with_fallbacks(calendar: &[u32], scalars: Scalars, table: &[u64], after: Standing) -> Nets
+// Art. 72: every trade is redeemed whole at its fallback price on the day opened.
+fn fallback_sum(calendar: &[u32], scalars: Scalars, table: &[u64], after: Standing) -> Fen
     requires { ⌜ Opening (now calendar) scalars (tradesOf (now table)) after ⌝ }
     ensures { λ r.
-        let trades = tradesOf (now (table .entry)) in
-        ⌜ ((rows : Rows) →
-        let book = bookOf scalars rows in
-        r ≡ record { today = scalars .nets .today; cleared = signedFen (netWithFallbacks (now (calendar .entry)) book trades) }) ⌝ }
+        ⌜ ((rows : Rows) → r ≡ fen (fallbackSum (now (calendar .entry)) (bookOf scalars rows) (tradesOf (now (table .entry)))))
+        × (r .0 ≤ amountBound) ⌝ }
 {
-    let nets = scalars.nets;
     let day = after.day;
     let payment = days::payment_day(calendar, day);
     let plan = redemption::termination_plan(table, scalars.trades, payment);
-    nets::cleared_plus(nets, plan.amount)
+    plan.amount
 }
 
-// On turning terminated the table is emptied, unless the net would leave its limit.
+// On turning terminated the table is emptied into the cleared net and U's cleared part, unless either would leave its limit.
 fn terminated(calendar: &[u32], scalars: Scalars, table: &mut [u64], after: Standing) -> Done
     requires { ⌜ Ending (now calendar) scalars (tradesOf (now table)) after ⌝ }
     ensures { λ r.
@@ -124,14 +124,20 @@ fn terminated(calendar: &[u32], scalars: Scalars, table: &mut [u64], after: Stan
         (appliedAt r rows ≡ appliedBy cause book (openedBook (now (calendar .entry)) book trades))
         × (tradesOf (now (table .exit)) ≡ tableBy cause trades (openedTable book trades))) ⌝ }
 {
-    let nets = with_fallbacks(calendar, scalars, &*table, after);
-    if !nets::cleared_fit(nets) {
+    let nets = scalars.nets;
+    let sums = scalars.sums;
+    let amount = fallback_sum(calendar, scalars, &*table, after);
+    let with_fallbacks = nets::cleared_plus(nets, amount);
+    if !nets::cleared_fit(with_fallbacks) {
+        return done::answered(14, scalars);
+    }
+    if unpaid::passes(sums.unpaid, amount) {
         return done::answered(14, scalars);
     }
     // every due day has 32 bits, so every trade is due by the last of them
     redemption::redeem_due(table, scalars.trades, 4_294_967_295);
-    let mut next = scalars;
-    next.nets = nets;
+    let mut next = state::with_unpaid(scalars, unpaid::cleared_plus(sums.unpaid, amount));
+    next.nets = with_fallbacks;
     next.standing = after;
     done::answered(0, next)
 }

@@ -19,7 +19,9 @@ use rules::book::Standing;
 use scalars::done;
 use scalars::done::Done;
 use scalars::standing;
+use scalars::state;
 use scalars::state::Scalars;
+use scalars::unpaid;
 
 fn pay_refusal(scalars: Scalars) -> u8
     ensures { λ r. ⌜ ((rows : Rows) → r ≡ numberOf (firstOf (payCauses (bookOf scalars rows)))) ⌝ }
@@ -122,7 +124,8 @@ fn paid(scalars: Scalars) -> Scalars
     let nets = scalars.nets;
     let cash = scalars.cash;
     let standing = scalars.standing;
-    let mut next = scalars;
+    let sums = scalars.sums;
+    let mut next = state::with_unpaid(scalars, unpaid::paid(sums.unpaid));
     next.nets = nets::paid(nets);
     next.cash = cash_moved(nets, cash);
     next.standing = paid_standing(standing, FailedRun::NotFailed);

@@ -16,12 +16,14 @@ pub fn scalars_of(book: Book) -> Scalars
     ensures { λ r. ⌜ r ≡ scalarsOf book ⌝ }
 {
     let nets = book.nets;
+    let sums = book.sums;
     let cash = book.cash;
     let guarantee = book.vault.guarantee;
     let size = book.size;
     let standing = book.standing;
     Scalars {
         nets,
+        sums,
         cash,
         guarantee,
         size,
@@ -88,12 +90,14 @@ pub fn book_of(
     ensures { λ r. ⌜ r ≡ bookOf scalars (rowsOf (now (held .entry)) kinds units) ⌝ }
 {
     let nets = scalars.nets;
+    let sums = scalars.sums;
     let cash = scalars.cash;
     let guarantee = scalars.guarantee;
     let size = scalars.size;
     let standing = scalars.standing;
     Book {
         nets,
+        sums,
         cash,
         vault: Vault {
             guarantee,

@@ -10,6 +10,7 @@ use Rattle.exports.specs.declared.raw.RawEnded.{RawEnded}
 unfoldable pub scalarsFrom : RawScalars → Scalars
 scalarsFrom raw = record {
   nets = raw .nets;
+  sums = raw .sums;
   cash = raw .cash;
   guarantee = raw .guarantee;
   size = raw .size;
@@ -21,6 +22,7 @@ scalarsFrom raw = record {
 unfoldable pub rawOf : Scalars → RawScalars
 rawOf scalars = record {
   nets = scalars .nets;
+  sums = scalars .sums;
   cash = scalars .cash;
   guarantee = scalars .guarantee;
   size = scalars .size;

@@ -9,6 +9,7 @@ use rules::answer::Answer;
 use rules::book::Cash;
 use rules::book::Guarantee;
 use rules::book::Nets;
+use rules::book::Sums;
 use scalars::done;
 use scalars::done::Done;
 use scalars::state::Scalars;
@@ -17,6 +18,7 @@ use scalars::state::Scalars;
 #[repr(C)]
 pub struct RawScalars {
     pub nets: Nets,
+    pub sums: Sums,
     pub cash: Cash,
     pub guarantee: Guarantee,
     pub size: Sheets,
@@ -43,11 +45,13 @@ pub fn scalars_from(raw: RawScalars) -> Scalars
     ensures { λ r. ⌜ r ≡ scalarsFrom raw ⌝ }
 {
     let nets = raw.nets;
+    let sums = raw.sums;
     let cash = raw.cash;
     let guarantee = raw.guarantee;
     let size = raw.size;
     Scalars {
         nets,
+        sums,
         cash,
         guarantee,
         size,
@@ -61,11 +65,13 @@ fn raw_of(scalars: Scalars) -> RawScalars
     ensures { λ r. ⌜ r ≡ rawOf scalars ⌝ }
 {
     let nets = scalars.nets;
+    let sums = scalars.sums;
     let cash = scalars.cash;
     let guarantee = scalars.guarantee;
     let size = scalars.size;
     RawScalars {
         nets,
+        sums,
         cash,
         guarantee,
         size,

@@ -20,7 +20,7 @@ use Rattle.rules.specs.Funds.{holds, fundedIn, fundedOut}
 use Rattle.rules.specs.Pledge.{cashArrived, pledged}
 use Rattle.rules.specs.Freeze.{cashFrozen, frozen}
 use Rattle.rules.specs.Pay.{payerHolds, moved}
-use Rattle.rules.specs.Close.{Evening, fewerCash, takenOut, mayGo, settleOne, settled, applications, allArrived, evening, closedBook}
+use Rattle.rules.specs.Close.{Evening, fewerCash, takenOut, mayGo, settleOne, settled, applications, allArrived, claimsAtClose, evening, closedBook}
 use Rattle.rules.specs.Demand3.{WholeOrNothing}
 use Rattle.rules.proofs.Signed.{same, sum-parts, diff-parts}
 use Rattle.money.proofs.TwoTests.{both}
@@ -97,16 +97,16 @@ abbrev movable : Evening → ℕ
 movable evening = evening .own .0 + evening .vault .guarantee .effective .0 + evening .vault .guarantee .arriving .0
 
 -- what goes is effective
-enough-to-go : (served : Bool) (outstanding kind units : ℕ) (vault : Vault) → mayGo served outstanding kind units vault ≡ true → units ≤ effectiveOf vault kind
+enough-to-go : (served : Bool) (claims kind units : ℕ) (vault : Vault) → mayGo served claims kind units vault ≡ true → units ≤ effectiveOf vault kind
 unfolding mayGo
-enough-to-go served outstanding kind units vault h =
+enough-to-go served claims kind units vault h =
     let suffices : leb (frozenOf vault kind + units) (effectiveOf vault kind) ≡ true = both served _ (both (served && leb (frozenOf vault kind + units) (effectiveOf vault kind)) _ h .0) .1 in
     omega (arith, leb-true (frozenOf vault kind + units) (effectiveOf vault kind) suffices)
 
-settled-keeps-cash : (served : Bool) (outstanding kind units : ℕ) (evening : Evening) → movable (settled served outstanding kind units evening) ≡ movable evening
+settled-keeps-cash : (served : Bool) (claims kind units : ℕ) (evening : Evening) → movable (settled served claims kind units evening) ≡ movable evening
 unfolding takenOut
-settled-keeps-cash served outstanding kind units evening =
-    go (mayGo served outstanding kind units (evening .vault)) (enough-to-go served outstanding kind units (evening .vault))
+settled-keeps-cash served claims kind units evening =
+    go (mayGo served claims kind units (evening .vault)) (enough-to-go served claims kind units (evening .vault))
   where
     by-kind : (own other : ℕ) (guarantee : Guarantee) (cash : Bool) → units ≤ cond cash (guarantee .effective .0) other
         → cond cash (own + units) own + cond cash (fewerCash units guarantee) guarantee .effective .0 + cond cash (fewerCash units guarantee) guarantee .arriving .0 ≡ own + guarantee .effective .0 + guarantee .arriving .0
@@ -122,10 +122,10 @@ unfolding inTurn
 inTurn-keeps measure f keeps zero a = refl
 inTurn-keeps measure f keeps (suc n) a = keeps n (inTurn n f a) ∙ inTurn-keeps measure f keeps n a
 
-evening-keeps-cash : (book : Book) (left : List Trade) → movable (evening book left) ≡ book .cash .own .0 + book .vault .guarantee .effective .0 + book .vault .guarantee .arriving .0
+evening-keeps-cash : (book : Book) (claims : ℕ) → movable (evening book claims) ≡ book .cash .own .0 + book .vault .guarantee .effective .0 + book .vault .guarantee .arriving .0
 unfolding evening applications allArrived
-evening-keeps-cash book left = inTurn-keeps movable _ (λ i a. settled-keeps-cash _ _ _ _ a) _ _ ∙ omega arith
+evening-keeps-cash book claims = inTurn-keeps movable _ (λ i a. settled-keeps-cash _ _ _ _ a) _ _ ∙ omega arith
 
 pub close-keeps-cash : (calendar : Calendar) (book : Book) (left table : List Trade) → cashOf (closedBook calendar book left table) ≡ cashOf book
 unfolding closedBook
-close-keeps-cash calendar book left table = omega (arith, evening-keeps-cash book left)
+close-keeps-cash calendar book left table = omega (arith, evening-keeps-cash book (claimsAtClose calendar book left table))

@@ -2,7 +2,6 @@
 -- Assumes nothing.
 use mathlib.Core.Path.{_≡_, refl}
 use mathlib.Core.Bool.{Bool, true, false, cond, _&&_}
-use mathlib.Core.List.{List}
 use Prim.Native.Nat.{ℕ, _+_, _≤_}
 use native.Mathlib.Omega.{arith}
 use borrow.Author.Tests.{leb-true}
@@ -11,8 +10,7 @@ use lib.ListN.{getD, List·getD-map}
 use Rattle.money.specs.declared.units.Fen.{Fen}
 use Rattle.money.specs.Units.{fen}
 use Rattle.rules.specs.Book.{Security, Vault, Book, noSecurity}
-use Rattle.rules.specs.Trades.{Trade, outstanding}
-use Rattle.rules.specs.Vault.{securityAt, isCash, effectiveOf, frozenOf}
+use Rattle.rules.specs.Vault.{securityAt, isCash, effectiveOf, frozenOf, value}
 use Rattle.rules.specs.Close.{Evening, securityArrived, allArrived, fewer, fewerCash, takenOut, covered, mayGo, settleOne, settled, served, applications, evening}
 use Rattle.money.proofs.TwoTests.{both}
 use Rattle.rules.proofs.FoldLaws.{by-test, in-turn-keeps}
@@ -53,23 +51,23 @@ taken-fits client own vault kind units done dropped s c h = record {
       (λ b. let enough = rw b at h in record { sum = omega (arith, c .sum); free = omega arith }) (λ _. c);
 }
 
-settled-fits : (client : Fen) (served : Bool) (outstanding kind units : ℕ) (e : Evening) → EveningFits client e → EveningFits client (settled served outstanding kind units e)
+settled-fits : (client : Fen) (served : Bool) (claims kind units : ℕ) (e : Evening) → EveningFits client e → EveningFits client (settled served claims kind units e)
 unfolding mayGo
-settled-fits client served outstanding kind units e f = go (mayGo served outstanding kind units (e .vault)) refl
+settled-fits client served claims kind units e f = go (mayGo served claims kind units (e .vault)) refl
   where
-    go : (goes : Bool) → mayGo served outstanding kind units (e .vault) ≡ goes → EveningFits client (settleOne goes kind units e)
+    go : (goes : Bool) → mayGo served claims kind units (e .vault) ≡ goes → EveningFits client (settleOne goes kind units e)
     go true m =
         let enough = leb (frozenOf (e .vault) kind + units) (effectiveOf (e .vault) kind) in
-        let b = both (served && enough) (covered outstanding (takenOut kind units (e .vault))) m .0 in
+        let b = both (served && enough) (covered claims (value (takenOut kind units (e .vault)))) m .0 in
         taken-fits client (e .own) (e .vault) kind units (e .done + 1) (e .dropped) (f .securities) (f .cash)
         (leb-true (frozenOf (e .vault) kind + units) (effectiveOf (e .vault) kind) (both served enough b .1))
     go false m = record { securities = f .securities; cash = f .cash }
 
-pub evening-fits : (book : Book) (left : List Trade) → SecuritiesFit (book .vault) → CashFits (book .cash) (book .vault .guarantee) → EveningFits (book .cash .client) (evening book left)
+pub evening-fits : (book : Book) (claims : ℕ) → SecuritiesFit (book .vault) → CashFits (book .cash) (book .vault .guarantee) → EveningFits (book .cash .client) (evening book claims)
 unfolding evening applications
-evening-fits book left s c =
+evening-fits book claims s c =
     in-turn-keeps (EveningFits (book .cash .client)) (book .withdrawals .count)
-    (λ i. settled (served (book .standing)) (outstanding left) (getD (book .withdrawals .kinds) i 0) (getD (book .withdrawals .units) i 0))
+    (λ i. settled (served (book .standing)) claims (getD (book .withdrawals .kinds) i 0) (getD (book .withdrawals .units) i 0))
     (record { own = book .cash .own; vault = allArrived (book .vault); done = 0; dropped = 0 })
-    (λ i e f. settled-fits (book .cash .client) (served (book .standing)) (outstanding left) (getD (book .withdrawals .kinds) i 0) (getD (book .withdrawals .units) i 0) e f)
+    (λ i e f. settled-fits (book .cash .client) (served (book .standing)) claims (getD (book .withdrawals .kinds) i 0) (getD (book .withdrawals .units) i 0) e f)
     (all-arrived-fit (book .cash .client) (book .cash .own) (book .vault) 0 0 s c)

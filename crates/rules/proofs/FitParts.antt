@@ -12,10 +12,11 @@ use Rattle.money.specs.Limits.{unitLimit, rateLimit, cashLimit}
 use Rattle.money.specs.Days.{Calendar}
 use Rattle.rules.specs.Folds.{allBelow}
 use Rattle.rules.specs.Limits.{capacityLimit, sizeLimit, netLimit, applicationLimit}
-use Rattle.rules.specs.Book.{Nets, Cash, Security, Guarantee, Vault, Withdrawals, Book}
+use Rattle.rules.specs.Book.{Nets, Sums, Cash, Security, Guarantee, Vault, Withdrawals, Book}
+use Rattle.rules.specs.Unpaid.{unpaidSum}
 use Rattle.rules.specs.Trades.{Trade, inUse, differ}
 use Rattle.rules.specs.Vault.{securityAt, outstandingOf}
-use Rattle.rules.specs.Fit.{capacityFit, securityFit, securitiesFit, allCash, cashFit, tradeFit, allTrades, sizeFit, netFit, netsFit, applicationFit, withdrawalsFit, dayFit, fit}
+use Rattle.rules.specs.Fit.{capacityFit, securityFit, securitiesFit, allCash, cashFit, tradeFit, allTrades, sizeFit, netFit, netsFit, sumsFit, applicationFit, withdrawalsFit, dayFit, fit}
 use Rattle.money.proofs.TwoTests.{both, both-of}
 use Rattle.rules.proofs.FoldLaws.{every-holds, every-of, all-at, all-of}
 
@@ -45,6 +46,9 @@ pub record NetsFit (nets : Nets) : Type 0 where
   pub today : natAbs (nets .today .0) ≤ netLimit
   pub cleared : natAbs (nets .cleared .0) ≤ netLimit
 
+pub record SumsFit (sums : Sums) : Type 0 where
+  pub unpaid : unpaidSum (sums .unpaid) ≤ netLimit
+
 pub record ApplicationFits (kind units : ℕ) : Type 0 where
   pub known : kind ≤ 32
   pub within : units ≤ cashLimit
@@ -62,6 +66,7 @@ pub record Fit (calendar : Calendar) (book : Book) (table : List Trade) : Type 0
   pub each : allTrades tradeFit (inUse (book .trades) table) ≡ true
   pub size : SizeFits (book .size .0) (outstandingOf book table)
   pub nets : NetsFit (book .nets)
+  pub sums : SumsFit (book .sums)
   pub differing : differ (inUse (book .trades) table) ≡ true
   pub withdrawals : WithdrawalsFit (book .withdrawals)
   pub day : dayFit calendar (book .standing .day) (book .standing .phase) (inUse (book .trades) table) (book .trades) ≡ true
@@ -133,6 +138,14 @@ unfolding netsFit
 fit-nets nets f =
     both-of (netFit (nets .today .0)) (netFit (nets .cleared .0)) (le-leb (natAbs (nets .today .0)) netLimit (f .today)) (le-leb (natAbs (nets .cleared .0)) netLimit (f .cleared))
 
+pub sums-fit : (sums : Sums) → sumsFit sums ≡ true → SumsFit sums
+unfolding sumsFit
+sums-fit sums e = record { unpaid = leb-true (unpaidSum (sums .unpaid)) netLimit e }
+
+pub fit-sums : (sums : Sums) → SumsFit sums → sumsFit sums ≡ true
+unfolding sumsFit
+fit-sums sums f = le-leb (unpaidSum (sums .unpaid)) netLimit (f .unpaid)
+
 application-fits : (kind units : ℕ) → applicationFit kind units ≡ true → ApplicationFits kind units
 application-fits kind units e =
     let b = both (leb kind 32) (leb units cashLimit) e in
@@ -174,9 +187,10 @@ module _ (calendar : Calendar) (book : Book) (table : List Trade) where
         each = h .1 .1 .1 .0;
         size = size-fits (book .size .0) (outstandingOf book table) (h .1 .1 .1 .1 .0);
         nets = nets-fit (book .nets) (h .1 .1 .1 .1 .1 .0);
-        differing = h .1 .1 .1 .1 .1 .1 .0;
-        withdrawals = withdrawals-fit (book .withdrawals) (h .1 .1 .1 .1 .1 .1 .1 .0);
-        day = h .1 .1 .1 .1 .1 .1 .1 .1 .0;
+        sums = sums-fit (book .sums) (h .1 .1 .1 .1 .1 .1 .0);
+        differing = h .1 .1 .1 .1 .1 .1 .1 .0;
+        withdrawals = withdrawals-fit (book .withdrawals) (h .1 .1 .1 .1 .1 .1 .1 .1 .0);
+        day = h .1 .1 .1 .1 .1 .1 .1 .1 .1 .0;
       }
 
   pub parts-fit : Fit calendar book table → fit calendar book table ≡ true
@@ -195,10 +209,10 @@ module _ (calendar : Calendar) (book : Book) (table : List Trade) where
                 (
                   fit-nets (book .nets) (f .nets),
                   (
-                    f .differing,
+                    fit-sums (book .sums) (f .sums),
                     (
-                      fit-withdrawals (book .withdrawals) (f .withdrawals),
-                      (f .day, tt),
+                      f .differing,
+                      (fit-withdrawals (book .withdrawals) (f .withdrawals), (f .day, tt)),
                     ),
                   ),
                 ),

@@ -23,7 +23,7 @@ use Rattle.rules.specs.Open.{turnsTerminated, openCauses, openedBook, op
 use Rattle.rules.specs.Size.{sizeCauses}
 use Rattle.rules.specs.Initial.{initialCauses, begun, initialTable}
 use Rattle.rules.specs.Early.{earlyCauses, earlyBook, earlyTable}
-use Rattle.rules.specs.Close.{maturedTrades, maturedSheets, maturedAmount, closeCauses, closeAnswer, closedBook, closedTable}
+use Rattle.rules.specs.Close.{maturedTrades, maturedSheets, maturedAmount, claimsAtClose, closeCauses, closeAnswer, closedBook, closedTable}
 use Rattle.rules.specs.Step.{Outcome, outcome, eventCauses, entryCauses, causes, act, actOn, refuseOr, step}
 
 -- a table with more slots behind it
@@ -110,12 +110,12 @@ module _ (calendar : Calendar) (book : Book) (front rest : List Trade) (room : b
   unfolding earlyBook
   early-book-front contract count price = rw in-use
 
-  answer-front : (left : List Trade) → closeAnswer book left (front ++ rest) ≡ closeAnswer book left front
-  unfolding closeAnswer maturedSheets
+  answer-front : (left : List Trade) → closeAnswer calendar book left (front ++ rest) ≡ closeAnswer calendar book left front
+  unfolding closeAnswer maturedSheets claimsAtClose maturedAmount
   answer-front left = rw in-use
 
   closed-book-front : (left : List Trade) → closedBook calendar book left (front ++ rest) ≡ closedBook calendar book left front
-  unfolding closedBook maturedAmount
+  unfolding closedBook claimsAtClose maturedAmount
   closed-book-front left = rw in-use
 
   closed-front : (left : List Trade) → closedTable book left (front ++ rest) ≡ closedTable book left front ++ rest

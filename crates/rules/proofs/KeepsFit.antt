@@ -66,6 +66,7 @@ module _ (calendar : Calendar) (book : Book) (table : List Trade) (f : Fit calen
     each = f .each;
     size = f .size;
     nets = f .nets;
+    sums = f .sums;
     differing = f .differing;
     withdrawals = f .withdrawals;
     day = f .day;
@@ -139,6 +140,7 @@ module _ (calendar : Calendar) (book : Book) (table : List Trade) (f : Fit calen
       covers = ltb-false (size .0) (outstandingOf book table) (all-clear (sizeCauses book table size) e 15);
     };
     nets = f .nets;
+    sums = f .sums;
     differing = f .differing;
     withdrawals = f .withdrawals;
     day = f .day;
@@ -158,6 +160,7 @@ module _ (calendar : Calendar) (book : Book) (table : List Trade) (f : Fit calen
         each = f .each;
         size = f .size;
         nets = f .nets;
+        sums = f .sums;
         differing = f .differing;
         withdrawals = record {
           count = omega arith;

@@ -20,22 +20,23 @@ use Rattle.money.specs.Causes.{firstOf}
 use Rattle.money.specs.Days.{Calendar}
 use Rattle.rules.specs.Limits.{netLimit}
 use Rattle.rules.specs.Book.{Cash, Guarantee, Closed, Trading, Paid, Book, isTerminated}
+use Rattle.rules.specs.Unpaid.{unpaidSum, unpaidOf, passes}
 use Rattle.rules.specs.Days.{following, paymentDay, followed}
 use Rattle.rules.specs.Trades.{Contract, Trade, Terms, inUse, emptied, takeOff, remaining, over}
 use Rattle.rules.specs.Vault.{value, headroom, outstandingOf}
 use Rattle.rules.specs.Fit.{tradeFit, dayFit}
-use Rattle.rules.specs.Open.{nextDay, turnsTerminated, netWithFallbacks, openCauses, openedBook, openedTable}
+use Rattle.rules.specs.Open.{nextDay, turnsTerminated, fallbackSum, netWithFallbacks, unpaidWithFallbacks, fallbacksPass, openCauses, openedBook, openedTable}
 use Rattle.rules.specs.Initial.{netLess, initialCauses, begun, initialBook, initialTable}
-use Rattle.rules.specs.Early.{netWithEarly, earlyCauses, earlyBook, earlyTable}
+use Rattle.rules.specs.Early.{earlyAmount, netWithEarly, earlyCauses, earlyBook, earlyTable}
 use Rattle.rules.specs.Pay.{payerHolds, moved, fails, payCauses, afterPay}
-use Rattle.rules.specs.Close.{today, maturedTrades, netWithMatured, clearedAtClose, closeCauses, closedBook, closedTable}
+use Rattle.rules.specs.Close.{today, maturedTrades, maturedAmount, netWithMatured, clearedAtClose, claimsAtClose, closeCauses, closedBook, closedTable}
 use Rattle.rules.proofs.FoldLaws.{neither, every-of}
 use Rattle.rules.proofs.TradeLaws.{outstanding-append, outstanding-one, length-takeOff, take-over, length-over, take-packed, length-packed, take-begun}
 use Rattle.rules.proofs.TableFit.{Fewer, tradeTests, all-the-same, emptied-lessens, matured-lessens, takeOff-lessens, remaining-lessens, fewer-length, fewer-outstanding, fewer-fit, fewer-begun, fewer-differ, all-append, differ-append}
 use Rattle.rules.proofs.DayFit.{trading-not-closed, closing-not-closed, same-day, next-day}
 use Rattle.rules.proofs.EveningFit.{evening-fits}
 use Rattle.rules.proofs.Accepted.{all-clear}
-use Rattle.rules.proofs.FitParts.{SecuritiesFit, CashFits, NetsFit, WithdrawalsFit, Fit}
+use Rattle.rules.proofs.FitParts.{SecuritiesFit, CashFits, NetsFit, SumsFit, WithdrawalsFit, Fit}
 
 -- ---- a table that holds the same trades, some lessened and some gone
 
@@ -67,15 +68,16 @@ moved-fits (negsuc net) cash guarantee c h = record { sum = omega (arith, c .sum
 module _ (calendar : Calendar) (book : Book) (table : List Trade) (f : Fit calendar book table) where
   -- the groups that read the table follow, and the others are given
   lessened-fits : {last : ℕ} (book′ : Book) (table′ : List Trade) → Lessens last (book .trades) (book′ .trades) table table′ → book′ .size ≡ book .size
-      → SecuritiesFit (book′ .vault) → CashFits (book′ .cash) (book′ .vault .guarantee) → NetsFit (book′ .nets) → WithdrawalsFit (book′ .withdrawals)
+      → SecuritiesFit (book′ .vault) → CashFits (book′ .cash) (book′ .vault .guarantee) → NetsFit (book′ .nets) → SumsFit (book′ .sums) → WithdrawalsFit (book′ .withdrawals)
       → dayFit calendar (book′ .standing .day) (book′ .standing .phase) (inUse (book′ .trades) table′) (book′ .trades) ≡ true → Fit calendar book′ table′
-  lessened-fits book′ table′ l s securities cash nets withdrawals day = record {
+  lessened-fits book′ table′ l s securities cash nets sums withdrawals day = record {
     capacity = record { within = rw (l .long) (f .capacity .within); room = rw (l .long) (omega (arith, l .count, f .capacity .room)) };
     securities = securities;
     cash = cash;
     each = fewer-fit (l .fewer) (f .each);
     size = record { within = rw s (f .size .within); covers = rw s (omega (arith, f .size .covers, fewer-outstanding (l .fewer))) };
     nets = nets;
+    sums = sums;
     differing = fewer-differ (l .fewer) (f .differing);
     withdrawals = withdrawals;
     day = day;
@@ -92,16 +94,20 @@ module _ (calendar : Calendar) (book : Book) (table : List Trade) (f : Fit calen
   opened-fits e =
       let follows = not-false (followed calendar (following calendar (book .standing .day))) (all-clear (openCauses calendar book table) e 16) in
       let l = opened-lessens (paymentDay calendar (nextDay calendar (book .standing))) (turnsTerminated (book .standing)) in
+      let within = cleared-within (followed calendar (following calendar (book .standing .day))) (turnsTerminated (book .standing)) follows (all-clear (openCauses calendar book table) e 14) in
       lessened-fits (openedBook calendar book table) (openedTable book table) l refl (f .securities) (f .cash)
-      (record { today = f .nets .today; cleared = cleared (followed calendar (following calendar (book .standing .day))) (turnsTerminated (book .standing)) follows (all-clear (openCauses calendar book table) e 14) })
-      (f .withdrawals)
+      (record { today = f .nets .today; cleared = within .0 }) (record { unpaid = within .1 }) (f .withdrawals)
       (next-day calendar (book .standing .day) (book .standing .phase) Trading table _ (book .trades) (book .trades) (f .day) follows (l .fewer))
     where
-      cleared : (goes ended : Bool) → goes ≡ true → (goes && ended && ltb netLimit (natAbs (netWithFallbacks calendar book table))) ≡ false
-          → natAbs (cond ended (netWithFallbacks calendar book table) (book .nets .cleared .0)) ≤ netLimit
-      cleared true true g h = ltb-false netLimit (natAbs (netWithFallbacks calendar book table)) h
-      cleared true false g h = f .nets .cleared
-      cleared false ended g h = let z : _≡_ {A = ℕ} 0 1 = cc in absurd (omega arith)
+      cleared-within : (goes ended : Bool) → goes ≡ true → (goes && ended && fallbacksPass calendar book table) ≡ false
+          → (natAbs (cond ended (netWithFallbacks calendar book table) (book .nets .cleared .0)) ≤ netLimit)
+          × (unpaidSum (cond ended (unpaidWithFallbacks calendar book table) (book .sums .unpaid)) ≤ netLimit)
+      cleared-within true true g h =
+          let net = netWithFallbacks calendar book table in
+          let n = neither (ltb netLimit (natAbs net)) (passes (fallbackSum calendar book table) (book .sums .unpaid)) h in
+          (ltb-false netLimit (natAbs net) (n .0), omega (arith, ltb-false netLimit (unpaidOf book + fallbackSum calendar book table) (n .1)))
+      cleared-within true false g h = (f .nets .cleared, f .sums .unpaid)
+      cleared-within false ended g h = let z : _≡_ {A = ℕ} 0 1 = cc in absurd (omega arith)
 
   -- ---- 9 Initial
 
@@ -144,6 +150,7 @@ module _ (calendar : Calendar) (book : Book) (table : List Trade) (f : Fit calen
           covers = rw now (omega (arith, outstanding-append trades (trade ∷ []), outstanding-one trade, initial-covered (terms .sheets .0) (all-clear cs e 12)));
         };
         nets = record { today = ltb-false netLimit (natAbs (netLess book terms)) (all-clear cs e 14); cleared = f .nets .cleared };
+        sums = f .sums;
         differing = rw now (differ-append trades trade (f .differing) (all-clear cs e 10));
         withdrawals = f .withdrawals;
         day = rw now (same-day calendar (book .standing .day) (book .standing .phase) (book .standing .phase) trades (trades ++ (trade ∷ [])) (book .trades) (book .trades + 1)
@@ -160,8 +167,12 @@ module _ (calendar : Calendar) (book : Book) (table : List Trade) (f : Fit calen
       let cs = earlyCauses calendar book table contract count price in
       let trades = inUse (book .trades) table in
       let l = over-lessens (paymentDay calendar (book .standing .day)) (book .trades) table (takeOff contract (count .0) trades) (f .capacity .room) (length-takeOff contract (count .0) trades) (takeOff-lessens contract (count .0) trades) in
+      let net = netWithEarly calendar book table contract count price in
+      let amount = earlyAmount calendar book table contract count price in
+      let n = neither (ltb netLimit (natAbs net)) (passes amount (book .sums .unpaid)) (all-clear cs e 14) in
       lessened-fits (earlyBook calendar book table contract count price) (earlyTable book table contract count) l refl (f .securities) (f .cash)
-      (record { today = ltb-false netLimit (natAbs (netWithEarly calendar book table contract count price)) (all-clear cs e 14); cleared = f .nets .cleared })
+      (record { today = ltb-false netLimit (natAbs net) (n .0); cleared = f .nets .cleared })
+      (record { unpaid = omega (arith, ltb-false netLimit (unpaidOf book + amount) (n .1)) })
       (f .withdrawals)
       (same-day calendar (book .standing .day) (book .standing .phase) (book .standing .phase) trades _ (book .trades) (book .trades)
       (trading-not-closed (book .standing .phase) (all-clear cs e 4)) (fewer-begun _ (omega arith) (l .fewer)) (f .day))
@@ -178,11 +189,11 @@ module _ (calendar : Calendar) (book : Book) (table : List Trade) (f : Fit calen
           (trading-not-closed (book .standing .phase) (all-clear (payCauses book) e 4)) (λ b. b) (f .day)
 
       go : (failing : Bool) → fails book ≡ failing → Fit calendar (afterPay failing book) table
-      go true b = lessened-fits (afterPay true book) table (same-lessens (paymentDay calendar (book .standing .day)) (book .trades) table) refl (f .securities) (f .cash) (f .nets) (f .withdrawals) day
+      go true b = lessened-fits (afterPay true book) table (same-lessens (paymentDay calendar (book .standing .day)) (book .trades) table) refl (f .securities) (f .cash) (f .nets) (f .sums) (f .withdrawals) day
       go false b =
           lessened-fits (afterPay false book) table (same-lessens (paymentDay calendar (book .standing .day)) (book .trades) table) refl (f .securities)
           (moved-fits (book .nets .cleared .0) (book .cash) (book .vault .guarantee) (f .cash) b)
-          (record { today = f .nets .today; cleared = omega arith }) (f .withdrawals) day
+          (record { today = f .nets .today; cleared = omega arith }) (record { unpaid = omega (arith, f .sums .unpaid) }) (f .withdrawals) day
 
   -- ---- 12 Close
 
@@ -208,10 +219,14 @@ module _ (calendar : Calendar) (book : Book) (table : List Trade) (f : Fit calen
   closed-fits e =
       let left = maturedTrades book table in
       let lessens = closed-lessens left matured-fewer in
-      let ev = evening-fits book left (f .securities) (f .cash) in
-      let n = neither (ltb netLimit (natAbs (netWithMatured calendar book table))) (ltb netLimit (natAbs (clearedAtClose calendar book table))) (all-clear (closeCauses calendar book table) e 14) in
+      let ev = evening-fits book (claimsAtClose calendar book left table) (f .securities) (f .cash) in
+      let today = ltb netLimit (natAbs (netWithMatured calendar book table)) in
+      let cleared = ltb netLimit (natAbs (clearedAtClose calendar book table)) in
+      let amount = maturedAmount calendar book table in
+      let n = neither (today || cleared) (passes amount (book .sums .unpaid)) (all-clear (closeCauses calendar book table) e 14) in
       lessened-fits (closedBook calendar book left table) (closedTable book left table) lessens refl (ev .securities) (ev .cash)
-      (record { today = omega arith; cleared = ltb-false netLimit (natAbs (clearedAtClose calendar book table)) (n .1) })
+      (record { today = omega arith; cleared = ltb-false netLimit (natAbs (clearedAtClose calendar book table)) (neither today cleared (n .0) .1) })
+      (record { unpaid = omega (arith, ltb-false netLimit (unpaidOf book + amount) (n .1)) })
       (record { count = omega arith; each = λ i h. absurd (omega arith) })
       (same-day calendar (book .standing .day) (book .standing .phase) Closed (inUse (book .trades) table) _ (book .trades) _
       (closing-not-closed (book .standing .phase) (isTerminated (book .standing .status)) (all-clear (closeCauses calendar book table) e 4))

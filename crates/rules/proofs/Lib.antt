@@ -14,6 +14,9 @@ pub mod KeepsFit
 pub mod EveningFit
 pub mod KeepsFitDay
 pub mod StaysFit
+-- unpaid redemptions: how they grow and are paid, what they hold back, and what does not see them
+pub mod UnpaidLaws
+pub mod UnpaidUnseen
 -- an entry looks at the slots in use and the next one
 pub mod FrontLaws
 -- demand 3 over every list of entries
@@ -28,6 +31,7 @@ pub mod Demand3OfRuns
 pub mod Opened
 pub mod Cases
 pub mod Slips
+pub mod UnpaidCases
 pub mod Falls
 -- laws of the decoder
 pub mod Bytes

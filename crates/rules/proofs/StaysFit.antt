@@ -36,6 +36,7 @@ fresh-is-fit calendar table h =
       each = refl;
       size = record { within = omega arith; covers = omega arith };
       nets = record { today = omega arith; cleared = omega arith };
+      sums = record { unpaid = omega arith };
       differing = refl;
       withdrawals = record { count = omega arith; each = λ i k. absurd (omega arith) };
       day = refl;

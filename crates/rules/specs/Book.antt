@@ -8,6 +8,8 @@ use Rattle.money.specs.declared.units.Sheets.{Sheets}
 use Rattle.money.specs.Units.{fen, sheets, signedFen}
 use Rattle.rules.specs.Limits.{applicationLimit}
 pub use Rattle.rules.specs.declared.book.Nets.{Nets}
+pub use Rattle.rules.specs.declared.book.Unpaid.{Unpaid}
+pub use Rattle.rules.specs.declared.book.Sums.{Sums}
 pub use Rattle.rules.specs.declared.book.Cash.{Cash}
 pub use Rattle.rules.specs.declared.book.Security.{Security}
 pub use Rattle.rules.specs.declared.book.Guarantee.{Guarantee}
@@ -68,27 +70,36 @@ isShort ShortThrice = true
 -- ---- the book with a part set anew
 
 abbrev pub withNets : Nets → Book → Book
-withNets nets book = record { nets = nets; cash = book .cash; vault = book .vault; size = book .size; standing = book .standing; withdrawals = book .withdrawals; trades = book .trades }
+withNets nets book = record { nets = nets; sums = book .sums; cash = book .cash; vault = book .vault; size = book .size; standing = book .standing; withdrawals = book .withdrawals; trades = book .trades }
+
+abbrev pub withSums : Sums → Book → Book
+withSums sums book = record { nets = book .nets; sums = sums; cash = book .cash; vault = book .vault; size = book .size; standing = book .standing; withdrawals = book .withdrawals; trades = book .trades }
+
+abbrev pub withUnpaid : Unpaid → Book → Book
+withUnpaid unpaid book = withSums (record { unpaid = unpaid }) book
 
 abbrev pub withCash : Cash → Book → Book
-withCash cash book = record { nets = book .nets; cash = cash; vault = book .vault; size = book .size; standing = book .standing; withdrawals = book .withdrawals; trades = book .trades }
+withCash cash book = record { nets = book .nets; sums = book .sums; cash = cash; vault = book .vault; size = book .size; standing = book .standing; withdrawals = book .withdrawals; trades = book .trades }
 
 abbrev pub withVault : Vault → Book → Book
-withVault vault book = record { nets = book .nets; cash = book .cash; vault = vault; size = book .size; standing = book .standing; withdrawals = book .withdrawals; trades = book .trades }
+withVault vault book = record { nets = book .nets; sums = book .sums; cash = book .cash; vault = vault; size = book .size; standing = book .standing; withdrawals = book .withdrawals; trades = book .trades }
 
 abbrev pub withSize : Sheets → Book → Book
-withSize size book = record { nets = book .nets; cash = book .cash; vault = book .vault; size = size; standing = book .standing; withdrawals = book .withdrawals; trades = book .trades }
+withSize size book = record { nets = book .nets; sums = book .sums; cash = book .cash; vault = book .vault; size = size; standing = book .standing; withdrawals = book .withdrawals; trades = book .trades }
 
 abbrev pub withStanding : Standing → Book → Book
-withStanding standing book = record { nets = book .nets; cash = book .cash; vault = book .vault; size = book .size; standing = standing; withdrawals = book .withdrawals; trades = book .trades }
+withStanding standing book = record { nets = book .nets; sums = book .sums; cash = book .cash; vault = book .vault; size = book .size; standing = standing; withdrawals = book .withdrawals; trades = book .trades }
 
 abbrev pub withWithdrawals : Withdrawals → Book → Book
-withWithdrawals withdrawals book = record { nets = book .nets; cash = book .cash; vault = book .vault; size = book .size; standing = book .standing; withdrawals = withdrawals; trades = book .trades }
+withWithdrawals withdrawals book = record { nets = book .nets; sums = book .sums; cash = book .cash; vault = book .vault; size = book .size; standing = book .standing; withdrawals = withdrawals; trades = book .trades }
 
 abbrev pub withTrades : ℕ → Book → Book
-withTrades trades book = record { nets = book .nets; cash = book .cash; vault = book .vault; size = book .size; standing = book .standing; withdrawals = book .withdrawals; trades = trades }
+withTrades trades book = record { nets = book .nets; sums = book .sums; cash = book .cash; vault = book .vault; size = book .size; standing = book .standing; withdrawals = book .withdrawals; trades = trades }
 
 -- ---- a fresh book: "Closed and normal, all numbers 0 (the cash rate isn't kept in it), table and applications empty"
+
+abbrev pub noSums : Sums
+noSums = record { unpaid = record { today = fen 0; cleared = fen 0 } }
 
 abbrev pub noSecurity : Security
 noSecurity = record { effective = 0; arriving = 0; frozen = 0; rate = 0 }
@@ -99,6 +110,7 @@ noApplications = record { kinds = replicate applicationLimit 0; units = replicat
 unfoldable pub freshBook : Book
 freshBook = record {
   nets = record { today = signedFen (pos 0); cleared = signedFen (pos 0) };
+  sums = noSums;
   cash = record { own = fen 0; client = fen 0 };
   vault = record { guarantee = record { effective = fen 0; arriving = fen 0; frozen = fen 0 }; securities = replicate 32 noSecurity };
   size = sheets 0;

@@ -1,19 +1,20 @@
 -- "12 Close, in Paid, or in Trading if terminated": its parts (a) to (f). (arts. 52, 53, 60, 61, 69)
 -- Assumes nothing.
-use Prim.Native.Nat.{ℕ, _+_, _-_}
+use Prim.Native.Nat.{ℕ, _+_, _-_, _*_}
 use mathlib.Core.Bool.{Bool, true, false, cond, not, _&&_, _||_}
 use mathlib.Core.List.{List, [], _∷_, map}
 use lib.Dec.{ltb, leb}
 use lib.IntN.{ℤ, pos, natAbs, _+ℤ_}
 use lib.ListN.{length, getD, set}
 use lib.Signed.{ltZ}
-use Rattle.money.specs.Units.{fen, sheets, signedFen}
+use Rattle.money.specs.Units.{fen, sheets, signedFen, sheetFen}
 use Rattle.money.specs.declared.units.Fen.{Fen}
 use Rattle.money.specs.Causes.{Cause, _⇒_}
 use Rattle.money.specs.Days.{Calendar}
 use Rattle.rules.specs.Folds.{inTurn}
 use Rattle.rules.specs.Limits.{netLimit}
-use Rattle.rules.specs.Book.{Security, Guarantee, Vault, Closed, ShortRun, NotShort, ShortOnce, ShortTwice, ShortThrice, Standing, Withdrawals, Book, Answer, isPaid, isTrading, isTerminated, hasFailed, noApplications}
+use Rattle.rules.specs.Book.{Security, Guarantee, Vault, Closed, ShortRun, NotShort, ShortOnce, ShortTwice, ShortThrice, Standing, Withdrawals, Unpaid, Book, Answer, isPaid, isTrading, isTerminated, hasFailed, noApplications}
+use Rattle.rules.specs.Unpaid.{unpaidSum, withToday, joined, passes}
 pub use Rattle.rules.specs.Days.{today}
 use Rattle.rules.specs.Days.{paymentDay}
 use Rattle.rules.specs.Trades.{Trade, inUse, total, outstanding, maturing, maturityAmount, matured, remaining, packed}
@@ -42,11 +43,17 @@ netWithMatured calendar book table = book .nets .today .0 +ℤ pos (maturedAmoun
 abbrev pub clearedAtClose : Calendar → Book → List Trade → ℤ
 clearedAtClose calendar book table = book .nets .cleared .0 +ℤ netWithMatured calendar book table
 
--- "For Close, 14 looks at today's net as (b) begins and at the cleared net after it"
+-- U with this Close's maturities: "Close adds the second to the first before it looks at applications" (02, ask 2)
+abbrev pub unpaidAtClose : Calendar → Book → List Trade → Unpaid
+unpaidAtClose calendar book table = joined (withToday (maturedAmount calendar book table) (book .sums .unpaid))
+
+-- "For Close, 14 looks at today's net as (b) begins and at the cleared net after it", and at U
 unfoldable pub closeCauses : Calendar → Book → List Trade → List Cause
 closeCauses calendar book table =
     (not (mayClose (book .standing)) ⇒ 4)
-    ∷ (ltb netLimit (natAbs (netWithMatured calendar book table)) || ltb netLimit (natAbs (clearedAtClose calendar book table)) ⇒ 14)
+    ∷ (ltb netLimit (natAbs (netWithMatured calendar book table))
+    || ltb netLimit (natAbs (clearedAtClose calendar book table))
+    || passes (maturedAmount calendar book table) (book .sums .unpaid) ⇒ 14)
     ∷ []
 
 -- ---- (c) "arriving becomes effective"
@@ -82,14 +89,18 @@ takenOut kind units vault = record {
   securities = cond (isCash kind) (vault .securities) (set (vault .securities) kind (fewer units (securityAt vault kind)));
 }
 
--- "V afterwards is at least O"
-unfoldable pub covered : (outstanding : ℕ) → Vault → Bool
-covered outstanding vault = leb outstanding (value vault)
+-- "10,000 × O + U": what the pledge answers for, in fen (02, ask 2; art. 49)
+abbrev pub claims : (outstanding unpaid : ℕ) → ℕ
+claims outstanding unpaid = sheetFen * outstanding + unpaid
 
--- "done if the phase was Paid with no failed run, unfrozen units suffice, and V afterwards is at least O"
-unfoldable pub mayGo : (served : Bool) → (outstanding kind units : ℕ) → Vault → Bool
-mayGo served outstanding kind units vault =
-    served && leb (frozenOf vault kind + units) (effectiveOf vault kind) && covered outstanding (takenOut kind units vault)
+-- "only if 10,000 × V afterwards is at least 10,000 × O + U"
+abbrev pub covered : (claims value : ℕ) → Bool
+covered claims value = leb claims (sheetFen * value)
+
+-- "done if the phase was Paid with no failed run, unfrozen units suffice", and V afterwards covers the claims
+unfoldable pub mayGo : (served : Bool) → (claims kind units : ℕ) → Vault → Bool
+mayGo served claims kind units vault =
+    served && leb (frozenOf vault kind + units) (effectiveOf vault kind) && covered claims (value (takenOut kind units vault))
 
 -- "cash goes to own"
 abbrev pub doneOne : (kind units : ℕ) → Evening → Evening
@@ -108,22 +119,26 @@ abbrev pub settleOne : (goes : Bool) → (kind units : ℕ) → Evening → Even
 settleOne true kind units evening = doneOne kind units evening
 settleOne false kind units evening = droppedOne evening
 
-abbrev pub settled : (served : Bool) → (outstanding kind units : ℕ) → Evening → Evening
-settled served outstanding kind units evening = settleOne (mayGo served outstanding kind units (evening .vault)) kind units evening
+abbrev pub settled : (served : Bool) → (claims kind units : ℕ) → Evening → Evening
+settled served claims kind units evening = settleOne (mayGo served claims kind units (evening .vault)) kind units evening
 
 -- "the phase was Paid with no failed run"
 abbrev pub served : Standing → Bool
 served standing = isPaid (standing .phase) && not (hasFailed (standing .failed))
 
-unfoldable pub applications : (served : Bool) → (outstanding : ℕ) → Withdrawals → Evening → Evening
-applications served outstanding withdrawals evening =
-    inTurn (withdrawals .count) (λ i. settled served outstanding (getD (withdrawals .kinds) i 0) (getD (withdrawals .units) i 0)) evening
+unfoldable pub applications : (served : Bool) → (claims : ℕ) → Withdrawals → Evening → Evening
+applications served claims withdrawals evening =
+    inTurn (withdrawals .count) (λ i. settled served claims (getD (withdrawals .kinds) i 0) (getD (withdrawals .units) i 0)) evening
 
--- the evening's end: `left` are the trades in use as (b) begins, which O is taken of, and the vault is that after (c)
-unfoldable pub evening : Book → (left : List Trade) → Evening
-evening book left =
-    applications (served (book .standing)) (outstanding left) (book .withdrawals)
+-- the evening's end; it begins with own cash and the vault after (c)
+unfoldable pub evening : Book → (claims : ℕ) → Evening
+evening book claims =
+    applications (served (book .standing)) claims (book .withdrawals)
     (record { own = book .cash .own; vault = allArrived (book .vault); done = 0; dropped = 0 })
+
+-- the claims of an evening: O is that of the trades left as (b) begins, U that with this Close's maturities
+unfoldable pub claimsAtClose : Calendar → Book → (left table : List Trade) → ℕ
+claimsAtClose calendar book left table = claims (outstanding left) (unpaidSum (unpaidAtClose calendar book table))
 
 -- ---- (e) "trades with nothing left leave the table, order kept"
 
@@ -138,8 +153,8 @@ shortMore ShortOnce = ShortTwice
 shortMore ShortTwice = ShortThrice
 shortMore ShortThrice = ShortThrice
 
-unfoldable pub isShortClose : Book → (left : List Trade) → Bool
-isShortClose book left = ltZ (headroomOf (book .size .0) (value (evening book left .vault)) (outstanding left)) (pos 0)
+unfoldable pub isShortClose : Book → (left : List Trade) → Vault → Bool
+isShortClose book left vault = ltZ (headroomOf (book .size .0) (value vault) (outstanding left)) (pos 0)
 
 abbrev pub shortAtClose : Bool → ShortRun → ShortRun
 shortAtClose true short = shortMore short
@@ -150,21 +165,21 @@ abbrev pub closedStanding : ShortRun → Standing → Standing
 closedStanding short standing = record { day = standing .day; phase = Closed; status = standing .status; failed = standing .failed; short = short }
 
 unfoldable pub closedBook : Calendar → Book → (left table : List Trade) → Book
-closedBook calendar book left table = record {
-  nets = record { today = signedFen (pos 0); cleared = signedFen (clearedAtClose calendar book table) };
-  cash = record { own = evening book left .own; client = book .cash .client };
-  vault = evening book left .vault;
-  size = book .size;
-  standing = closedStanding (shortAtClose (isShortClose book left) (book .standing .short)) (book .standing);
-  withdrawals = noApplications;
-  trades = length (remaining left);
-}
+closedBook calendar book left table =
+    let end = evening book (claimsAtClose calendar book left table) in
+    record {
+      nets = record { today = signedFen (pos 0); cleared = signedFen (clearedAtClose calendar book table) };
+      sums = record { unpaid = unpaidAtClose calendar book table };
+      cash = record { own = end .own; client = book .cash .client };
+      vault = end .vault;
+      size = book .size;
+      standing = closedStanding (shortAtClose (isShortClose book left (end .vault)) (book .standing .short)) (book .standing);
+      withdrawals = noApplications;
+      trades = length (remaining left);
+    }
 
 -- "The answer carries sheets matured, applications done and dropped"
-unfoldable pub closeAnswer : Book → (left table : List Trade) → Answer
-closeAnswer book left table = record {
-  number = 0;
-  matured = sheets (maturedSheets book table);
-  done = evening book left .done;
-  dropped = evening book left .dropped;
-}
+unfoldable pub closeAnswer : Calendar → Book → (left table : List Trade) → Answer
+closeAnswer calendar book left table =
+    let end = evening book (claimsAtClose calendar book left table) in
+    record { number = 0; matured = sheets (maturedSheets book table); done = end .done; dropped = end .dropped }

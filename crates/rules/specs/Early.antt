@@ -1,7 +1,7 @@
 -- "10 Early, in Trading: takes sheets off a trade at the price given; the amount joins today's net (art. 29)."
 -- Assumes nothing.
 use Prim.Native.Nat.{ℕ}
-use mathlib.Core.Bool.{Bool, not, _&&_}
+use mathlib.Core.Bool.{Bool, not, _&&_, _||_}
 use mathlib.Core.List.{List, [], _∷_, _++_}
 use lib.Dec.{ltb, leb, eqb}
 use lib.IntN.{ℤ, pos, natAbs, _+ℤ_}
@@ -12,7 +12,8 @@ use Rattle.money.specs.Limits.{priceLimit}
 use Rattle.money.specs.Causes.{Cause, _⇒_}
 use Rattle.money.specs.Days.{Calendar}
 use Rattle.rules.specs.Limits.{netLimit}
-use Rattle.rules.specs.Book.{Book, isTrading, isTerminated, withNets}
+use Rattle.rules.specs.Book.{Unpaid, Book, isTrading, isTerminated, withNets, withUnpaid}
+use Rattle.rules.specs.Unpaid.{withToday, passes}
 use Rattle.rules.specs.Days.{dayNumber, paymentDay}
 use Rattle.rules.specs.Trades.{Contract, Trade, inUse, onTable, tradeOf, takeOff, redeemed, over}
 
@@ -27,6 +28,10 @@ earlyAmount calendar book table contract count price =
 
 abbrev pub netWithEarly : Calendar → Book → List Trade → Contract → Sheets → Ticks → ℤ
 netWithEarly calendar book table contract count price = book .nets .today .0 +ℤ pos (earlyAmount calendar book table contract count price)
+
+-- U with that amount in its part of today (02, ask 2)
+abbrev pub unpaidWithEarly : Calendar → Book → List Trade → Contract → Sheets → Ticks → Unpaid
+unpaidWithEarly calendar book table contract count price = withToday (earlyAmount calendar book table contract count price) (book .sums .unpaid)
 
 -- "today at or past due", of a trade that is on the table
 abbrev pub pastDue : Book → List Trade → Contract → Bool
@@ -49,11 +54,12 @@ namedCauses book table contract =
     ∷ (not (onTable contract (inUse (book .trades) table)) ⇒ 10)
     ∷ []
 
--- it must have the sheets, and today's net room for the amount
+-- it must have the sheets, and today's net and U room for the amount
 abbrev pub takeCauses : Calendar → Book → List Trade → Contract → Sheets → Ticks → List Cause
 takeCauses calendar book table contract count price =
     (ltb (named book table contract .sheets .0) (count .0) ⇒ 13)
-    ∷ (ltb netLimit (natAbs (netWithEarly calendar book table contract count price)) ⇒ 14)
+    ∷ (ltb netLimit (natAbs (netWithEarly calendar book table contract count price))
+    || passes (earlyAmount calendar book table contract count price) (book .sums .unpaid) ⇒ 14)
     ∷ []
 
 unfoldable pub earlyCauses : Calendar → Book → List Trade → Contract → Sheets → Ticks → List Cause
@@ -64,7 +70,8 @@ earlyCauses calendar book table contract count price =
 
 unfoldable pub earlyBook : Calendar → Book → List Trade → Contract → Sheets → Ticks → Book
 earlyBook calendar book table contract count price =
-    withNets (record { today = signedFen (netWithEarly calendar book table contract count price); cleared = book .nets .cleared }) book
+    withNets (record { today = signedFen (netWithEarly calendar book table contract count price); cleared = book .nets .cleared })
+    (withUnpaid (unpaidWithEarly calendar book table contract count price) book)
 
 unfoldable pub earlyTable : Book → List Trade → Contract → Sheets → List Trade
 earlyTable book table contract count = over (book .trades) (takeOff contract (count .0) (inUse (book .trades) table)) table

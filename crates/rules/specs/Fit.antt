@@ -12,7 +12,8 @@ use Rattle.money.specs.Limits.{unitLimit, rateLimit, cashLimit, tradeLimit, pri
 use Rattle.money.specs.Days.{Calendar, trades}
 use Rattle.rules.specs.Folds.{allBelow, every}
 use Rattle.rules.specs.Limits.{capacityLimit, sizeLimit, netLimit, applicationLimit}
-use Rattle.rules.specs.Book.{Nets, Cash, Security, Guarantee, Vault, Day, Never, On, Phase, Withdrawals, Book, isClosed}
+use Rattle.rules.specs.Book.{Nets, Sums, Cash, Security, Guarantee, Vault, Day, Never, On, Phase, Withdrawals, Book, isClosed}
+use Rattle.rules.specs.Unpaid.{unpaidSum}
 use Rattle.rules.specs.Days.{followed, paymentDay}
 use Rattle.rules.specs.Trades.{Trade, inUse, differ}
 use Rattle.rules.specs.Vault.{securityAt, outstandingOf}
@@ -61,6 +62,10 @@ netFit net = leb (natAbs net) netLimit
 unfoldable pub netsFit : Nets → Bool
 netsFit nets = netFit (nets .today .0) && netFit (nets .cleared .0)
 
+-- "U has the limit of a net": "a book with U beyond it is unfit" (02, ask 2)
+unfoldable pub sumsFit : Sums → Bool
+sumsFit sums = leb (unpaidSum (sums .unpaid)) netLimit
+
 -- "applications name kinds to 32 and at most 10^16 units"
 abbrev pub applicationFit : (kind units : ℕ) → Bool
 applicationFit kind units = leb kind cashKind && leb units cashLimit
@@ -96,6 +101,7 @@ fit calendar book table =
     ∷ allTrades tradeFit (inUse (book .trades) table)
     ∷ sizeFit (book .size .0) (outstandingOf book table)
     ∷ netsFit (book .nets)
+    ∷ sumsFit (book .sums)
     ∷ differ (inUse (book .trades) table)
     ∷ withdrawalsFit (book .withdrawals)
     ∷ dayFit calendar (book .standing .day) (book .standing .phase) (inUse (book .trades) table) (book .trades)

@@ -2,6 +2,7 @@
 pub mod Folds
 pub mod Limits
 pub mod Book
+pub mod Unpaid
 pub mod Days
 pub mod Trades
 pub mod Vault
@@ -18,6 +19,7 @@ pub mod Initial
 pub mod Early
 pub mod Pay
 pub mod Close
+pub mod Redeemed
 pub mod Step
 pub mod Cover
 pub mod Run

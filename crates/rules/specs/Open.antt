@@ -1,5 +1,6 @@
 -- "1 Open, in Closed: goes to the next trading day, at first the earliest." (arts. 69, 70, 72)
 -- Assumes nothing.
+use Prim.Native.Nat.{ℕ}
 use mathlib.Core.Bool.{Bool, true, false, cond, not, _&&_, _||_}
 use mathlib.Core.List.{List, [], _∷_, map}
 use lib.Dec.{ltb}
@@ -8,7 +9,8 @@ use Rattle.money.specs.Units.{signedFen}
 use Rattle.money.specs.Causes.{Cause, _⇒_}
 use Rattle.money.specs.Days.{Calendar}
 use Rattle.rules.specs.Limits.{netLimit}
-use Rattle.rules.specs.Book.{Day, Trading, Status, Normal, Suspended, Terminated, FailedRun, NotFailed, FailedOnce, FailedTwice, ShortRun, NotShort, ShortOnce, ShortTwice, ShortThrice, Standing, Book, isClosed, isTerminated, hasFailed, isShort, withNets, withStanding}
+use Rattle.rules.specs.Book.{Day, Trading, Status, Normal, Suspended, Terminated, FailedRun, NotFailed, FailedOnce, FailedTwice, ShortRun, NotShort, ShortOnce, ShortTwice, ShortThrice, Standing, Unpaid, Book, isClosed, isTerminated, hasFailed, isShort, withNets, withUnpaid, withStanding}
+use Rattle.rules.specs.Unpaid.{withCleared, passes}
 use Rattle.rules.specs.Days.{following, toDay, paymentDay, followed}
 use Rattle.rules.specs.Trades.{Trade, inUse, total, fallbackAmount, emptied, over}
 
@@ -41,16 +43,27 @@ abbrev pub nextDay : Calendar → Standing → Day
 nextDay calendar standing = toDay (following calendar (standing .day))
 
 -- "every trade is redeemed whole at its fallback price, the one due that day included, into the cleared net (art. 72)"
+abbrev pub fallbackSum : Calendar → Book → List Trade → ℕ
+fallbackSum calendar book table = total (fallbackAmount (paymentDay calendar (nextDay calendar (book .standing)))) (inUse (book .trades) table)
+
 abbrev pub netWithFallbacks : Calendar → Book → List Trade → ℤ
-netWithFallbacks calendar book table =
-    book .nets .cleared .0 +ℤ pos (total (fallbackAmount (paymentDay calendar (nextDay calendar (book .standing)))) (inUse (book .trades) table))
+netWithFallbacks calendar book table = book .nets .cleared .0 +ℤ pos (fallbackSum calendar book table)
+
+-- "termination adds to the first" part of U (02, ask 2)
+abbrev pub unpaidWithFallbacks : Calendar → Book → List Trade → Unpaid
+unpaidWithFallbacks calendar book table = withCleared (fallbackSum calendar book table) (book .sums .unpaid)
+
+-- a termination that would pass the limit of the cleared net, or that of U
+abbrev pub fallbacksPass : Calendar → Book → List Trade → Bool
+fallbacksPass calendar book table =
+    ltb netLimit (natAbs (netWithFallbacks calendar book table)) || passes (fallbackSum calendar book table) (book .sums .unpaid)
 
 -- "for Open, 14 doesn't apply where 16 does"
 unfoldable pub openCauses : Calendar → Book → List Trade → List Cause
 openCauses calendar book table =
     let found = followed calendar (following calendar (book .standing .day)) in
     (not (isClosed (book .standing .phase)) ⇒ 4)
-    ∷ (found && turnsTerminated (book .standing) && ltb netLimit (natAbs (netWithFallbacks calendar book table)) ⇒ 14)
+    ∷ (found && turnsTerminated (book .standing) && fallbacksPass calendar book table ⇒ 14)
     ∷ (not found ⇒ 16)
     ∷ []
 
@@ -66,8 +79,11 @@ openedStanding calendar standing = record {
 
 unfoldable pub openedBook : Calendar → Book → List Trade → Book
 openedBook calendar book table =
-    let cleared = cond (turnsTerminated (book .standing)) (netWithFallbacks calendar book table) (book .nets .cleared .0) in
-    withStanding (openedStanding calendar (book .standing)) (withNets (record { today = book .nets .today; cleared = signedFen cleared }) book)
+    let turns = turnsTerminated (book .standing) in
+    let cleared = cond turns (netWithFallbacks calendar book table) (book .nets .cleared .0) in
+    let unpaid = cond turns (unpaidWithFallbacks calendar book table) (book .sums .unpaid) in
+    withStanding (openedStanding calendar (book .standing))
+    (withNets (record { today = book .nets .today; cleared = signedFen cleared }) (withUnpaid unpaid book))
 
 unfoldable pub openedTable : Book → List Trade → List Trade
 openedTable book table =

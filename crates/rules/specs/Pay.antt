@@ -7,7 +7,8 @@ use lib.Dec.{ltb}
 use lib.IntN.{ℤ, pos, negsuc, natAbs}
 use Rattle.money.specs.Units.{fen, signedFen}
 use Rattle.money.specs.Causes.{Cause, _⇒_}
-use Rattle.rules.specs.Book.{Cash, Paid, FailedRun, NotFailed, FailedOnce, FailedTwice, Standing, Book, isTrading, isTerminated, withNets, withCash, withStanding}
+use Rattle.rules.specs.Book.{Cash, Paid, FailedRun, NotFailed, FailedOnce, FailedTwice, Standing, Book, isTrading, isTerminated, withNets, withUnpaid, withCash, withStanding}
+use Rattle.rules.specs.Unpaid.{clearedPaid}
 
 -- what the payer of a net holds
 abbrev pub payerHolds : ℤ → Cash → ℕ
@@ -38,12 +39,14 @@ payCauses book =
 abbrev pub paidStanding : FailedRun → Standing → Standing
 paidStanding failed standing = record { day = standing .day; phase = Paid; status = standing .status; failed = failed; short = standing .short }
 
--- "N waits for the next Pay with whatever is cleared since"; "Otherwise N and that run become 0."
+-- "N waits for the next Pay with whatever is cleared since"; "Otherwise N and that run become 0.", and with
+-- them U's cleared part (02, ask 2)
 unfoldable pub afterPay : (failing : Bool) → Book → Book
 afterPay true book = withStanding (paidStanding (failedMore (book .standing .failed)) (book .standing)) book
 afterPay false book =
     withStanding (paidStanding NotFailed (book .standing))
-    (withNets (record { today = book .nets .today; cleared = signedFen (pos 0) }) (withCash (moved (book .nets .cleared .0) (book .cash)) book))
+    (withNets (record { today = book .nets .today; cleared = signedFen (pos 0) })
+    (withUnpaid (clearedPaid (book .sums .unpaid)) (withCash (moved (book .nets .cleared .0) (book .cash)) book)))
 
 abbrev pub payNumber : (failing : Bool) → ℕ
 payNumber true = 99

@@ -77,7 +77,7 @@ act calendar book table (Early contract count price) =
 act calendar book table Pay = outcome (answer (payNumber (fails book))) (afterPay (fails book) book) table
 act calendar book table Close =
     let left = maturedTrades book table in
-    outcome (closeAnswer book left table) (closedBook calendar book left table) (closedTable book left table)
+    outcome (closeAnswer calendar book left table) (closedBook calendar book left table) (closedTable book left table)
 
 abbrev pub actOn : Calendar → Book → List Trade → Entry → Outcome
 actOn calendar book table (Known event) = act calendar book table event

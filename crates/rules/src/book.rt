@@ -14,6 +14,19 @@ pub struct Nets {
     pub cleared: SignedFen,
 }
 
+// U, the gross redemption amounts not yet paid: what was redeemed today, and what was cleared before.
+#[repr(C)]
+pub struct Unpaid {
+    pub today: Fen,
+    pub cleared: Fen,
+}
+
+// The sums that a book carries beside its nets.
+#[repr(C)]
+pub struct Sums {
+    pub unpaid: Unpaid,
+}
+
 // The two settlement accounts.
 #[repr(C)]
 pub struct Cash {
@@ -97,6 +110,7 @@ pub struct Withdrawals {
 // `size` is S, the declared size; `trades` is how many slots of the lent table are in use.
 pub struct Book {
     pub nets: Nets,
+    pub sums: Sums,
     pub cash: Cash,
     pub vault: Vault,
     pub size: Sheets,
@@ -113,6 +127,12 @@ pub fn fresh() -> Book
         nets: Nets {
             today: SignedFen(0),
             cleared: SignedFen(0),
+        },
+        sums: Sums {
+            unpaid: Unpaid {
+                today: Fen(0),
+                cleared: Fen(0),
+            },
         },
         cash: Cash {
             own: Fen(0),

@@ -11,6 +11,9 @@ pub const NET_LIMIT: i64 = 4_000_000_000_000_000_000;
 
 pub const NET_LIMIT_DOWN: i64 = -4_000_000_000_000_000_000;
 
+// "U has the limit of a net"
+pub const UNPAID_LIMIT: u64 = NET_LIMIT as u64;
+
 // "up to 128 applications stand for the evening"
 pub const APPLICATION_LIMIT: usize = 128;
 

@@ -1,2 +1,3 @@
--- The laws of headroom's tests.
+-- The laws of headroom's tests, of the claims, and of U's limit.
 pub mod HeadroomLaws
+pub mod UnpaidLaws

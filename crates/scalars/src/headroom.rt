@@ -1,10 +1,13 @@
-// Headroom, the smaller of S and V less O, and its two tests.
+// Headroom, the smaller of S and V less O, and its two tests; and whether V covers the claims on the pledge.
 ghost use mathlib.Core.Path.{_≡_};
 ghost use Prim.Native.Nat.{min};
 ghost use lib.IntN.{pos};
 ghost use lib.Signed.{ltZ};
 ghost use Rattle.rules.specs.Vault.{headroomOf};
+ghost use Rattle.rules.specs.Close.{claims, covered};
 ghost use Rattle.rules.specs.Cover.{coverRefused};
+use money::units::Fen;
+use money::units::SHEET_FEN;
 use money::units::Sheets;
 use money::units::SignedSheets;
 use rules::answer::Cover;
@@ -35,6 +38,22 @@ pub fn above_headroom(size: Sheets, value: Sheets, outstanding: Sheets, count: S
         return true;
     }
     cover.0 - outstanding.0 < count.0
+}
+
+// Whether V covers the sheets outstanding and U, all in fen: by whole sheets, so that no product leaves 64 bits.
+pub fn covers(value: Sheets, outstanding: Sheets, unpaid: Fen) -> bool
+    ensures { λ r. ⌜ r ≡ covered (claims (outstanding .0) (unpaid .0)) (value .0) ⌝ }
+{
+    if value.0 < outstanding.0 {
+        return false;
+    }
+    let spare = value.0 - outstanding.0;
+    let owed = unpaid.0;
+    let whole = owed / SHEET_FEN;
+    if owed % SHEET_FEN == 0 {
+        return whole <= spare;
+    }
+    whole < spare
 }
 
 // What is answered of a book that is not fit.

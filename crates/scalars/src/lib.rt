@@ -4,6 +4,7 @@
 pub mod done;
 pub mod state;
 
-// Headroom, and where the firm stands.
+// Headroom and the claims on the pledge, U, and where the firm stands.
 pub mod headroom;
 pub mod standing;
+pub mod unpaid;

@@ -2,17 +2,20 @@
 ghost use mathlib.Core.Path.{_≡_};
 ghost use lib.Dec.{leb, ltb};
 ghost use Rattle.money.specs.Limits.{calendarLimit};
-ghost use Rattle.scalars.specs.Scalars.{withNetsAndTrades};
+ghost use Rattle.scalars.specs.Scalars.{withNetsAndTrades, withUnpaid};
 use money::limits::CALENDAR_LIMIT;
 use money::units::Sheets;
 use rules::book::Cash;
 use rules::book::Guarantee;
 use rules::book::Nets;
 use rules::book::Standing;
+use rules::book::Sums;
+use rules::book::Unpaid;
 
 // `applications` is how many stand for the evening, `trades` how many slots of the table are in use.
 pub struct Scalars {
     pub nets: Nets,
+    pub sums: Sums,
     pub cash: Cash,
     pub guarantee: Guarantee,
     pub size: Sheets,
@@ -28,6 +31,17 @@ pub fn with_nets_and_trades(scalars: Scalars, nets: Nets, trades: usize) -> Scal
     let mut next = scalars;
     next.nets = nets;
     next.trades = trades;
+    next
+}
+
+// The scalars with another U.
+pub fn with_unpaid(scalars: Scalars, unpaid: Unpaid) -> Scalars
+    ensures { λ r. ⌜ r ≡ withUnpaid unpaid scalars ⌝ }
+{
+    let mut sums = scalars.sums;
+    sums.unpaid = unpaid;
+    let mut next = scalars;
+    next.sums = sums;
     next
 }
 

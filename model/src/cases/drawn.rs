@@ -7,9 +7,9 @@ use crate::generator::calendars::{calendar, Sort};
 use crate::generator::random::Random;
 use crate::limits::{
     APPLICATIONS, APPLICATION_UNITS, CAPACITY, CASH, DAYS_AHEAD, FAILED_PAYMENTS, NET, PRICE, RATE,
-    SECURITY_UNITS, SHORT_CLOSES, SIZE, TRADE_SHEETS,
+    SECURITY_UNITS, SHORT_CLOSES, SIZE, TRADE_SHEETS, UNPAID,
 };
-use crate::money::{first_from, next_after, CASH_KIND, KINDS};
+use crate::money::{first_from, next_after, CASH_KIND, FEN_PER_SHEET, KINDS};
 
 /// A fit book over a table with strays in its spare slots.
 pub fn drawn(random: &mut Random) -> Ledger {
@@ -24,6 +24,7 @@ pub fn drawn(random: &mut Random) -> Ledger {
     ledger.book.size = random.pick(&[outstanding, SIZE, outstanding + (SIZE - outstanding) / 2]);
     draw_holdings(random, &mut ledger.book, outstanding);
     draw_cash_and_nets(random, &mut ledger.book);
+    draw_unpaid(random, &mut ledger.book, outstanding);
     draw_applications(random, &mut ledger.book);
     ledger
 }
@@ -149,6 +150,16 @@ fn net(random: &mut Random, book: &Book) -> i64 {
     random.pick(&[0, near, -near, own, own + 1, -client, -client - 1, NET - near, near - NET, NET, -NET])
 }
 
+/// U that V covers beside O, just so or just not, and U around its limit.
+fn draw_unpaid(random: &mut Random, book: &mut Book, outstanding: u64) {
+    let near = up_to(random, CASH);
+    let spare = FEN_PER_SHEET * book.value().saturating_sub(outstanding);
+    let unpaid =
+        random.pick(&[0, 0, near, near, spare / 2, spare, spare, spare + 1, UNPAID - near, UNPAID]);
+    book.todays_unpaid = up_to(random, unpaid);
+    book.cleared_unpaid = unpaid - book.todays_unpaid;
+}
+
 /// Free places hold strays.
 fn draw_applications(random: &mut Random, book: &mut Book) {
     book.applications = random.pick(&[0, 0, 1, 2, 5, 20, APPLICATIONS - 1, APPLICATIONS]);
@@ -167,7 +178,7 @@ pub fn replace_a_number(random: &mut Random, Ledger { calendar, book, table }: &
     let number = random.any() >> random.below(64);
     let held = &mut book.holdings[random.below(KINDS as u64) as usize];
     let place = random.below(APPLICATIONS as u64) as usize;
-    match random.below(17) {
+    match random.below(19) {
         0 => book.own = number,
         1 => book.client = number,
         2 => held.effective = number,
@@ -177,13 +188,15 @@ pub fn replace_a_number(random: &mut Random, Ledger { calendar, book, table }: &
         6 => book.size = number,
         7 => book.todays_net = number as i64,
         8 => book.cleared_net = (number as i64).wrapping_neg(),
-        9 => book.day = Some(number as u32),
-        10 => book.failed_run = number as u8,
-        11 => book.short_run = number as u8,
-        12 => book.trades = number as usize,
-        13 => book.applications = number as usize,
-        14 => book.application_kinds[place] = number as u8,
-        15 => book.application_units[place] = number,
+        9 => book.todays_unpaid = number,
+        10 => book.cleared_unpaid = number,
+        11 => book.day = Some(number as u32),
+        12 => book.failed_run = number as u8,
+        13 => book.short_run = number as u8,
+        14 => book.trades = number as usize,
+        15 => book.applications = number as usize,
+        16 => book.application_kinds[place] = number as u8,
+        17 => book.application_units[place] = number,
         _ if calendar.is_empty() || random.percent(70) => replace_in_a_slot(random, table, number),
         _ => {
             let word = random.below(calendar.len() as u64) as usize;

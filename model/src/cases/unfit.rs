@@ -44,7 +44,7 @@ pub fn every_event() -> Vec<[u8; EVENT_BYTES]> {
 }
 
 /// Each of them makes a fit book unfit that `can_be_changed`.
-pub const UNFIT: [Change; 51] = [
+pub const UNFIT: [Change; 56] = [
     ("calendar above 1,200 words", |l| l.calendar.resize(1_201, 0)),
     ("capacity above 4,096", |l| l.table.resize(4_097, Trade::default())),
     ("more trades than capacity", |l| l.table.truncate(l.book.trades - 1)),
@@ -79,6 +79,13 @@ pub const UNFIT: [Change; 51] = [
     ("cleared net up", |l| l.book.cleared_net = 4_000_000_000_000_000_001),
     ("cleared net at the highest", |l| l.book.cleared_net = i64::MAX),
     ("cleared net down", |l| l.book.cleared_net = -4_000_000_000_000_000_001),
+    ("today's unpaid above 4×10^18", |l| l.book.todays_unpaid = 4_000_000_000_000_000_001),
+    ("cleared unpaid above 4×10^18", |l| l.book.cleared_unpaid = 4_000_000_000_000_000_001),
+    ("both unpaid above 4×10^18", |l| {
+        (l.book.todays_unpaid, l.book.cleared_unpaid) = (1, 4_000_000_000_000_000_000)
+    }),
+    ("both unpaid 2^63", |l| (l.book.todays_unpaid, l.book.cleared_unpaid) = (1 << 63, 1 << 63)),
+    ("unpaid 1 and 2^64 less 1", |l| (l.book.todays_unpaid, l.book.cleared_unpaid) = (1, u64::MAX)),
     ("frozen above effective", |l| l.book.holdings[0].frozen = l.book.holdings[0].effective + 1),
     ("frozen near 2^64", |l| l.book.holdings[31].frozen = u64::MAX),
     ("frozen cash above effective", |l| l.book.holdings[32].frozen = l.book.holdings[32].effective + 1),
@@ -131,7 +138,7 @@ fn todays_word(ledger: &mut Ledger) -> &mut u32 {
 }
 
 /// Of the busy ledger, which each of them leaves fit.
-pub const STILL_FIT: [Change; 15] = [
+pub const STILL_FIT: [Change; 17] = [
     ("capacity 4,096", |l| l.table.resize(4_096, Trade::default())),
     ("no spare slot", |l| l.table.truncate(2)),
     ("10^12 units", |l| (l.book.holdings[9].effective, l.book.holdings[9].arriving) = (1, 999_999_999_999)),
@@ -142,6 +149,8 @@ pub const STILL_FIT: [Change; 15] = [
     ("trade of 10^8", |l| (l.book.size, l.table[0].sheets) = (100_000_010, 100_000_000)),
     ("prices at 100,000", |l| (l.table[0].price, l.table[0].fallback) = (100_000, 100_000)),
     ("nets", |l| (l.book.todays_net, l.book.cleared_net) = (-4 * 10i64.pow(18), 4 * 10i64.pow(18))),
+    ("cleared unpaid", |l| l.book.cleared_unpaid = 4 * 10u64.pow(18)),
+    ("both unpaid", |l| (l.book.todays_unpaid, l.book.cleared_unpaid) = (10u64.pow(18), 3 * 10u64.pow(18))),
     ("runs", |l| (l.book.failed_run, l.book.short_run) = (2, 3)),
     ("due days of any sort", |l| (l.table[0].due, l.table[1].due) = (0, u32::MAX)),
     ("spare slots of any content", |l| l.table[2] = Trade { contract: 7, sheets: u64::MAX, ..l.table[0] }),

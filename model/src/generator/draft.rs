@@ -178,6 +178,17 @@ impl Draft {
         Event::Withdraw { kind, units: self.amount(free / 2, free) }
     }
 
+    /// The book as a Close would leave it, were the day paid; no spare slots.
+    pub fn tonight(&self) -> Ledger {
+        let book = Book { cleared_net: 0, ..self.book.clone() };
+        let table = self.table[..book.trades].to_vec();
+        let mut ledger = Ledger { calendar: self.calendar.clone(), book, table };
+        for event in [Event::Pay, Event::Close] {
+            step(&self.calendar, &mut ledger.book, &mut ledger.table, &event.encode());
+        }
+        ledger
+    }
+
     pub fn draw_initial(&mut self) -> Event {
         let headroom = self.book.headroom(&self.table).max(0) as u64;
         let sheets = if self.is_bold() {

@@ -3,11 +3,12 @@
 use super::draft::Draft;
 use super::noise::undecodable;
 use crate::book::Phase;
+use crate::cases::ledger::Ledger;
 use crate::event::{Account, Event, Terms};
 use crate::limits::{
     APPLICATIONS, CASH, DAYS_AHEAD, JOURNAL_CAPACITY, PRICE, SECURITY_UNITS, SIZE, TRADE_SHEETS,
 };
-use crate::money::KINDS;
+use crate::money::{CASH_KIND, FEN_PER_SHEET, KINDS, RATE_DIVISOR};
 
 /// Chances are in percent.
 #[derive(Clone, Copy, Debug)]
@@ -26,6 +27,8 @@ pub struct Habits {
     pub drained: u64,
     /// Closes before which the pledges lose value.
     pub shrunk: u64,
+    /// Days with applications down to what the evening lets go.
+    pub edges: u64,
     /// Days that begin with the damage of earlier ones repaired.
     pub mending: u64,
     pub largest_trade: u64,
@@ -42,6 +45,7 @@ impl Habits {
         bold: 8,
         drained: 15,
         shrunk: 15,
+        edges: 15,
         mending: 80,
         largest_trade: 80_000,
         rich: false,
@@ -124,8 +128,45 @@ fn trade_or_pay(draft: &mut Draft, habits: &Habits) {
     } else if draft.is_terminated() {
         draft.offer(Event::Close);
     } else {
+        if draft.random.percent(habits.edges) {
+            redeem_at_once(draft);
+            apply_to_the_edge(draft);
+        }
         prepare_payment(draft, habits);
         draft.offer(Event::Pay);
+    }
+}
+
+/// A trade begun and redeemed, whole or in part, within the day: it brings no
+/// income, so that U may be whole sheets' worth.
+fn redeem_at_once(draft: &mut Draft) {
+    let initial = draft.draw_initial();
+    let Event::Initial(Terms { contract, sheets, price, .. }) = initial else { return };
+    if draft.offer(initial) == Some(0) {
+        let sheets = draft.random.of_any_order(sheets);
+        draft.offer(Event::Early { contract, sheets, price });
+    }
+}
+
+/// Applications that together leave V just what O and U need, or what O alone
+/// does, or are off by a unit: whole kinds, and then as much of the next one.
+fn apply_to_the_edge(draft: &mut Draft) {
+    let with_unpaid = draft.random.percent(75);
+    let first = draft.random.below(3) as usize;
+    for kind in [0, 1, CASH_KIND].into_iter().cycle().skip(first).take(3) {
+        let Ledger { book, table, .. } = draft.tonight();
+        let unpaid = if with_unpaid { book.unpaid().div_ceil(FEN_PER_SHEET) } else { 0 };
+        let left = book.outstanding(&table) + unpaid;
+        let of_kind = left.saturating_sub(book.value() - book.value_of(kind));
+        let kept = (of_kind * RATE_DIVISOR).div_ceil(book.rate_of(kind).max(1));
+        let spare = book.unfrozen(kind).saturating_sub(kept);
+        if kept == 0 {
+            draft.offer(Event::Withdraw { kind: kind as u8, units: spare });
+            continue;
+        }
+        let units = draft.random.pick(&[spare, spare, spare + 1, spare.saturating_sub(1)]);
+        draft.offer(Event::Withdraw { kind: kind as u8, units });
+        return;
     }
 }
 

@@ -1,10 +1,10 @@
 //! The day's course: Open, Pay and Close, events 1, 11 and 12.
 
-use super::net_within_limit;
+use super::{net_within_limit, unpaid_within_limit};
 use crate::answer::{Answer, Refusal};
 use crate::book::{Book, Phase, Status, Trade};
 use crate::limits::{APPLICATIONS, FAILED_PAYMENTS, SHORT_CLOSES};
-use crate::money::{first_from, next_after, CASH_KIND};
+use crate::money::{first_from, next_after, CASH_KIND, FEN_PER_SHEET};
 
 /// "goes to the next trading day, at first the earliest", which needs another
 /// after it: "for Open, 14 doesn't apply where 16 does", so 16 is tested first.
@@ -39,17 +39,23 @@ pub fn status_at_open(book: &Book) -> Status {
 }
 
 /// "On turning terminated, every trade is redeemed whole at its fallback
-/// price, the one due that day included, into the cleared net (art. 72)."
+/// price, the one due that day included, into the cleared net (art. 72)." Of U
+/// too, "termination adds to the first", the cleared part.
 fn redeem_at_fallback(book: &mut Book, table: &mut [Trade], payment_day: u32) -> Result<(), Refusal> {
     let trades = &mut table[..book.trades];
     let amounts = trades.iter().map(|trade| trade.redeem(trade.sheets, trade.fallback, payment_day));
-    book.cleared_net = net_within_limit(book.cleared_net + amounts.sum::<i64>())?;
+    let amount: u64 = amounts.sum();
+    let net = net_within_limit(book.cleared_net + amount as i64)?;
+    unpaid_within_limit(book, amount)?;
+    book.cleared_net = net;
+    book.cleared_unpaid += amount;
     trades.iter_mut().for_each(|trade| trade.sheets = 0);
     Ok(())
 }
 
 /// "the whole cleared net N moves, own to client if above 0, the other way if
-/// below." A net of 0 is paid by a payer that holds at least 0.
+/// below." A net of 0 is paid by a payer that holds at least 0. "Pay made sets
+/// the cleared part to 0 and keeps the part of today."
 pub fn pay(book: &mut Book) -> Result<Answer, Refusal> {
     Refusal::WrongPhase.when(book.phase != Phase::Trading)?;
     Refusal::Terminated.when(book.status == Status::Terminated)?;
@@ -67,6 +73,7 @@ pub fn pay(book: &mut Book) -> Result<Answer, Refusal> {
     *payer -= fen;
     *payee += fen;
     book.cleared_net = 0;
+    book.cleared_unpaid = 0;
     book.failed_run = 0;
     Ok(Answer::DONE)
 }
@@ -74,19 +81,23 @@ pub fn pay(book: &mut Book) -> Result<Answer, Refusal> {
 pub fn close(calendar: &[u32], book: &mut Book, table: &mut [Trade]) -> Result<Answer, Refusal> {
     let today = closing_day(book)?;
     let payment_day = next_after(calendar, today).expect("a fit book's day has a payment day");
-    // 14 looks at today's net as (b) begins and at the cleared net after it.
+    // 14 looks at today's net as (b) begins, at the cleared net after it, and at U.
     let due = || table[..book.trades].iter().filter(|trade| trade.due <= today);
-    let amount: i64 = due().map(|trade| trade.redeem(trade.sheets, trade.price, payment_day)).sum();
+    let amount: u64 = due().map(|trade| trade.redeem(trade.sheets, trade.price, payment_day)).sum();
     let matured = due().map(|trade| trade.sheets).sum();
-    let todays_net = net_within_limit(book.todays_net + amount)?;
+    let todays_net = net_within_limit(book.todays_net + amount as i64)?;
     let cleared_net = net_within_limit(book.cleared_net + todays_net)?;
+    unpaid_within_limit(book, amount)?;
 
-    // (a), (b)
+    // (a), (b); of U, "Close adds the second to the first before it looks at applications"
     let trades = &mut table[..book.trades];
     trades.iter_mut().filter(|trade| trade.due <= today).for_each(|trade| trade.sheets = 0);
     book.todays_net = 0;
     book.cleared_net = cleared_net;
-    settle_arrivals(book);
+    book.cleared_unpaid = book.unpaid() + amount;
+    book.todays_unpaid = 0;
+    // (c)
+    book.settle_arrivals();
     let outstanding = book.outstanding(table);
     let (done, dropped) = settle_applications(book, outstanding);
     remove_redeemed(book, table);
@@ -106,20 +117,13 @@ fn closing_day(book: &Book) -> Result<u32, Refusal> {
     book.day.filter(|_| may_close).ok_or(Refusal::WrongPhase)
 }
 
-/// (c) "arriving becomes effective"
-fn settle_arrivals(book: &mut Book) {
-    for held in &mut book.holdings {
-        held.effective += held.arriving;
-        held.arriving = 0;
-    }
-}
-
 /// (d) "applications in order: done if the phase was Paid with no failed run,
-/// unfrozen units suffice, and V afterwards is at least O, else dropped (arts.
-/// 52, 53); cash goes to own; the list empties to zeros". Gives the numbers
-/// done and dropped.
+/// unfrozen units suffice, and" 10,000 × V afterwards is at least 10,000 × O + U,
+/// "else dropped (arts. 52, 53); cash goes to own; the list empties to zeros".
+/// Gives the numbers done and dropped.
 fn settle_applications(book: &mut Book, outstanding: u64) -> (u32, u32) {
     let day_was_paid = book.phase == Phase::Paid && book.failed_run == 0;
+    let claims = FEN_PER_SHEET * outstanding + book.unpaid();
     let mut value = book.value();
     let mut done = 0;
     for place in 0..book.applications {
@@ -131,7 +135,7 @@ fn settle_applications(book: &mut Book, outstanding: u64) -> (u32, u32) {
         let others = value - book.value_of(kind);
         book.holdings[kind].effective -= units;
         let value_afterwards = others + book.value_of(kind);
-        if value_afterwards < outstanding {
+        if FEN_PER_SHEET * value_afterwards < claims {
             book.holdings[kind].effective += units;
             continue;
         }

@@ -1,6 +1,6 @@
 //! Initial trades and early redemptions: events 9 and 10.
 
-use super::{net_within_limit, trading_day};
+use super::{net_within_limit, trading_day, unpaid_within_limit};
 use crate::answer::{Answer, Refusal};
 use crate::book::{Book, Status, Trade};
 use crate::event::Terms;
@@ -41,7 +41,7 @@ fn due_day_is_good(calendar: &[u32], today: u32, due: u32) -> bool {
 }
 
 /// "takes sheets off a trade at the price given; the amount joins today's net
-/// (art. 29)." A trade with nothing left stands until the Close.
+/// (art. 29)", and U's part of today. A trade with nothing left stands until the Close.
 pub fn early(
     calendar: &[u32],
     book: &mut Book,
@@ -60,7 +60,11 @@ pub fn early(
     Refusal::BadDueDay.when(today >= trade.due)?;
     Refusal::NotEnough.when(sheets > trade.sheets)?;
     let payment_day = next_after(calendar, today).expect("a fit book's day has a payment day");
-    book.todays_net = net_within_limit(book.todays_net + trade.redeem(sheets, price, payment_day))?;
+    let amount = trade.redeem(sheets, price, payment_day);
+    let net = net_within_limit(book.todays_net + amount as i64)?;
+    unpaid_within_limit(book, amount)?;
+    book.todays_net = net;
+    book.todays_unpaid += amount;
     trade.sheets -= sheets;
     Ok(Answer::DONE)
 }

@@ -3,8 +3,11 @@
 //! leaves everything untouched.
 
 use model::book::{Book, Phase, Status, Trade};
+use model::cases::drawn::drawn;
 use model::cases::ledger::Ledger;
 use model::event::{Account, Event, Terms};
+use model::generator::event_for;
+use model::generator::random::Random;
 use model::money::{earliest_trading_day, next_trading_day, redemption, trading_day_at_or_after};
 use model::{generator, journal};
 
@@ -101,6 +104,11 @@ fn amount(ledger: &Ledger, day: u32, trade: &Trade, sheets: u64, price: u32) -> 
     redemption(sheets, price.into(), (payment_day - trade.first_payment).into()).1.into()
 }
 
+/// U before the event.
+fn unpaid(book: &Book) -> i128 {
+    i128::from(book.todays_unpaid) + i128::from(book.cleared_unpaid)
+}
+
 fn open_rows(ledger: &Ledger) -> Vec<Option<u32>> {
     let book = &ledger.book;
     let (number, day) = match book.day {
@@ -113,7 +121,7 @@ fn open_rows(ledger: &Ledger) -> Vec<Option<u32>> {
     let turns = book.status != Status::Terminated && (book.failed_run == 2 || book.short_run == 3);
     let trades = in_use(book, &ledger.table).iter().filter(|_| turns);
     let redeemed: i128 = trades.map(|trade| amount(ledger, day, trade, trade.sheets, trade.fallback)).sum();
-    vec![row(14, i128::from(book.cleared_net) + redeemed > NET)]
+    vec![row(14, i128::from(book.cleared_net) + redeemed > NET || unpaid(book) + redeemed > NET)]
 }
 
 fn initial_rows(ledger: &Ledger, terms: Terms) -> Vec<Option<u32>> {
@@ -137,8 +145,9 @@ fn early_rows(ledger: &Ledger, contract: u64, sheets: u64, price: u32) -> Vec<Op
     let Some(trade) = in_use(book, &ledger.table).iter().find(|trade| trade.contract == contract) else {
         return vec![Some(10)];
     };
-    let net = i128::from(book.todays_net) + amount(ledger, today, trade, sheets, price);
-    vec![row(9, today >= trade.due), row(13, sheets > trade.sheets), row(14, net > NET)]
+    let amount = amount(ledger, today, trade, sheets, price);
+    let passed = i128::from(book.todays_net) + amount > NET || unpaid(book) + amount > NET;
+    vec![row(9, today >= trade.due), row(13, sheets > trade.sheets), row(14, passed)]
 }
 
 fn close_rows(ledger: &Ledger) -> Vec<Option<u32>> {
@@ -148,7 +157,19 @@ fn close_rows(ledger: &Ledger) -> Vec<Option<u32>> {
     let amounts: i128 = due.map(|trade| amount(ledger, today, trade, trade.sheets, trade.price)).sum();
     let todays = i128::from(book.todays_net) + amounts;
     let cleared = i128::from(book.cleared_net) + todays;
-    vec![row(14, todays.abs() > NET || cleared.abs() > NET)]
+    vec![row(14, todays.abs() > NET || cleared.abs() > NET || unpaid(book) + amounts > NET)]
+}
+
+/// Books that no journal leads to: the limits of the nets and of U among them.
+#[test]
+fn the_smallest_cause_answers_on_drawn_books() {
+    for seed in 0..20_000 {
+        let mut random = Random::new(seed);
+        let mut ledger = drawn(&mut random);
+        let bytes = event_for(&mut random, &ledger);
+        let number = Event::decode(&bytes).map_or(2, |event| expected_number(&ledger, event));
+        assert_eq!(ledger.does_bytes(&bytes).number, number, "seed {seed}");
+    }
 }
 
 #[test]

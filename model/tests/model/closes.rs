@@ -1,10 +1,12 @@
 //! The evening: why applications are done or dropped, and what a Close may do.
 
 use model::book::{Book, Phase, Status};
-use model::cases::evenings::evening;
+use model::cases::evenings::{at_the_edge, evening};
 use model::cases::ledger::{trade, Ledger};
+use model::cases::Case;
 use model::event::{Account, Event};
 use model::generator::random::Random;
+use model::money::redemption;
 
 /// The third day, with 30,000 fen of guarantee cash; V is 183, O 100.
 fn with_cash_pledged() -> Ledger {
@@ -93,19 +95,22 @@ fn a_terminated_book_closes_from_trading_and_from_paid() {
 }
 
 /// How many applications a Close does, and the book after them: V is counted
-/// anew after each, over all 33 kinds.
+/// anew after each, over all 33 kinds. Of an evening's two trades the second
+/// matures, over the two days from 0 to the payment day.
 fn settled(before: &Ledger) -> (u32, Book) {
     let mut book = before.book.clone();
-    let outstanding = book.outstanding(&before.table);
+    let [stays, matures] = [before.table[0], before.table[1]];
+    let (_, amount) = redemption(matures.sheets, matures.price.into(), 2);
+    let claims = 10_000 * stays.sheets + book.todays_unpaid + book.cleared_unpaid + amount;
     for held in &mut book.holdings {
         held.effective += std::mem::take(&mut held.arriving);
     }
-    let done = (0..book.applications).filter(|&place| is_done(&mut book, place, outstanding)).count();
+    let done = (0..book.applications).filter(|&place| is_done(&mut book, place, claims)).count();
     (done as u32, book)
 }
 
 /// Does an application if it may be done, and says whether.
-fn is_done(book: &mut Book, place: usize, outstanding: u64) -> bool {
+fn is_done(book: &mut Book, place: usize, claims: u64) -> bool {
     let (kind, units) = (usize::from(book.application_kinds[place]), book.application_units[place]);
     let mut afterwards = book.clone();
     let held = &mut afterwards.holdings[kind];
@@ -114,7 +119,7 @@ fn is_done(book: &mut Book, place: usize, outstanding: u64) -> bool {
     }
     held.effective -= units;
     afterwards.own += if kind == 32 { units } else { 0 };
-    let done = afterwards.value() >= outstanding;
+    let done = 10_000 * afterwards.value() >= claims;
     if done {
         *book = afterwards;
     }
@@ -135,6 +140,14 @@ fn applications_are_weighed_by_the_whole_book_after_each() {
         (done, dropped) = (done + answer.done, dropped + answer.dropped);
     }
     assert!(done > 10_000 && dropped > 10_000, "{done} done and {dropped} dropped");
+}
+
+#[test]
+fn unpaid_redemptions_hold_what_they_need() {
+    for (place, Case { mut ledger, outcome, .. }) in at_the_edge().enumerate() {
+        let done = outcome.unwrap();
+        assert_eq!(done_and_dropped(&mut ledger), (done, 1 - done), "case {place}");
+    }
 }
 
 /// "These five fit any phase and act immediately."

@@ -5,6 +5,7 @@ use std::collections::{BTreeMap, HashSet};
 use model::answer::Answer;
 use model::book::{Phase, Status};
 use model::cases::ledger::Ledger;
+use model::coverage::evenings::Evenings;
 use model::coverage::{allowed, Coverage, OUT_OF_REACH};
 use model::event::Event;
 use model::generator::{self, Profile};
@@ -13,18 +14,25 @@ use model::{journal, money, step};
 
 #[test]
 fn two_thousand_journals_meet_every_allowed_pair() {
-    let mut coverage = Coverage::default();
+    let (mut coverage, mut evenings, mut done) = (Coverage::default(), Evenings::default(), 0);
     for seed in 0..2_000 {
         let bytes = generator::generate(seed);
         let Ok(journal) = journal::parse(&bytes) else { continue };
-        journal::run_fresh(&journal.calendar, journal.events, |event, line| {
-            coverage.record(event, line.answer);
+        let Ledger { calendar, mut book, mut table } = Ledger::fresh(&journal.calendar);
+        let mut before = book.clone();
+        step::run(&calendar, &mut book, &mut table, journal.events, |event, answer, book, table| {
+            coverage.record(event, answer.number);
+            evenings.record(&before, book, table);
+            done += if book.unpaid() > 0 { u64::from(answer.done) } else { 0 };
+            before.clone_from(book);
         });
     }
     assert_eq!(coverage.missing(), []);
     assert_eq!(coverage.unexpected(), []);
     let rare: Vec<_> = allowed().filter(|&(code, number)| coverage.count(code, number) < 50).collect();
     assert_eq!(rare, [], "met, but seldom\n{coverage}");
+    assert!(evenings.rarer_than(50).is_empty(), "{evenings}");
+    assert_eq!(evenings.done, done, "applications done by their answers");
 }
 
 #[test]

@@ -1,4 +1,4 @@
-//! The model against document 01: its worked cases, and laws on random runs.
+//! The model against documents 01 and 02: worked cases, and laws on random runs.
 
 mod causes;
 mod closes;
@@ -11,4 +11,5 @@ mod journals;
 mod limits;
 mod money;
 mod pencil;
+mod unpaid;
 mod worked_example;

@@ -8,15 +8,18 @@ use lib.IntN.{ℤ, pos, natAbs, _+ℤ_}
 use Rattle.money.specs.declared.units.Fen.{Fen}
 use Rattle.money.specs.Units.{fen, sheets, signedFen}
 use Rattle.rules.specs.Limits.{netLimit}
+use Rattle.rules.specs.Unpaid.{withToday, joined, passes}
 use Rattle.rules.specs.Fit.{netFit}
 use Rattle.rules.specs.Close.{mayClose, maturedTrades, maturedSheets, maturedAmount, netWithMatured, clearedAtClose}
 use Rattle.rules.proofs.FitParts.{fit-parts, fit-withdrawals, fit-securities, fits-cash}
+use Rattle.scalars.specs.Scalars.{unlessPast}
+use Rattle.scalars.proofs.UnpaidLaws.{not-past}
 use Rattle.core.specs.Types.{Nets, Book, Trade}
 use Rattle.core.specs.Flat.{Rows, tradesOf, rowsOf, bookOf, Redeemable}
 use Rattle.core.proofs.FitFacts.{fit-keeps, fit-redeemable}
 use Rattle.core.proofs.RedemptionLaws.{maturity-bound}
-use Rattle.core.proofs.Column.{denied, denied-not}
-use Rattle.core.proofs.CloseLaws.{holds, close-refused, not-now, today-outside, cleared-outside, may-be-closed, sheets-planned, amount-planned}
+use Rattle.core.proofs.Column.{asked, asked-not, denied, denied-not}
+use Rattle.core.proofs.CloseLaws.{holds, close-refused, not-now, today-outside, cleared-outside, unpaid-past, may-be-closed, sheets-planned, amount-planned}
 use Rattle.core.proofs.close.close.Statement.{statement}
 use Rattle.core.proofs.close.close.Tie as tie
 
@@ -49,16 +52,32 @@ from-today c =
     let at-maturity-plan : tie.After-maturity-plan = search needs in
     from-plan at-maturity-plan
 
-abbrev from-cleared : tie.After-cleared-fit → tie.Start
-from-cleared c =
-    let at-today-fit : tie.After-today-fit = search needs in
-    from-today at-today-fit
-
 abbrev from-day : tie.After-day-number → tie.Start
 from-day c = search needs
 
 abbrev past-first : tie.After-today-fit → tie.Else1
 past-first c = search needs
+
+abbrev planned : tie.After-today-fit → tie.After-maturity-plan
+planned c = search needs
+
+abbrev today : tie.After-cleared-fit → tie.After-today-fit
+today c = search needs
+
+abbrev from-cleared : tie.After-cleared-fit → tie.Start
+from-cleared c = from-today (today c)
+
+abbrev past-second : tie.After-cleared-fit → tie.Else2
+past-second c = search needs
+
+abbrev joining : tie.After-cleared-fit → tie.After-joined
+joining c = search needs
+
+abbrev cleared : tie.After-passes → tie.After-cleared-fit
+cleared c = search needs
+
+abbrev past-third : tie.After-passes → tie.Else3
+past-third c = search needs
 
 abbrev paid-on : tie.After-day-number → tie.After-payment-day
 paid-on c = search needs
@@ -112,6 +131,14 @@ today-asked c = c .today-fit .ensures ∙ ap (λ (nets : Nets). netFit (nets .to
 cleared-asked : (c : tie.After-cleared-fit)
     → c .cleared-fit .result ≡ netFit (cleared-net (from-cleared c))
 cleared-asked c = c .cleared-fit .ensures ∙ ap (λ (nets : Nets). netFit (nets .cleared .0)) (all-joined (c .before))
+
+abbrev from-passes : tie.After-passes → tie.Start
+from-passes c = from-cleared (cleared c)
+
+unpaid-asked : (c : tie.After-passes)
+    → c .passes .result ≡ passes (maturedAmount (from-passes c .args .calendar .now) (book (from-passes c)) (trades (from-passes c))) (from-passes c .args .scalars .sums .unpaid)
+unpaid-asked c =
+    c .passes .ensures ∙ ap (λ (amount : Fen). passes (amount .0) (from-passes c .args .scalars .sums .unpaid)) (amount-matured (planned (today (cleared c))))
 
 may-close-requires : tie.Need-may-close-requires
 may-close-requires c κs = search needs
@@ -180,17 +207,36 @@ returns-3 : tie.Need-returns-3
 returns-3 c =
     let at-cleared-fit : tie.After-cleared-fit = search needs in
     let past1 : tie.Else1 = search needs in
-    let at-today-fit : tie.After-today-fit = search needs in
-    let past2 : tie.Else2 = search needs in
     let s = from-cleared at-cleared-fit in
     close-refused (s .args .calendar .now) (s .args .scalars) (rows s) (left-of s) (trades s) 14 _
-    (cleared-outside (s .args .calendar .now) (book s) (trades s) (may-go-on past1) (denied-not (today-asked at-today-fit) (past2 .if2 .left)) (denied (cleared-asked at-cleared-fit) (c .before .if3 .taken)))
+    (cleared-outside (s .args .calendar .now) (book s) (trades s) (may-go-on past1) (denied (cleared-asked at-cleared-fit) (c .before .if3 .taken)))
     (c .answered3 .ensures)
+
+passes-requires : tie.Need-passes-requires
+passes-requires c κs = search needs
+
+answered-requires-4 : tie.Need-answered-requires-4
+answered-requires-4 c κs = search needs
+
+same-length-3 : tie.Need-same-length-3
+same-length-3 c = search needs
+
+returns-4 : tie.Need-returns-4
+returns-4 c =
+    let at-passes : tie.After-passes = search needs in
+    let past1 = past-first (today (cleared at-passes)) in
+    let s = from-passes at-passes in
+    close-refused (s .args .calendar .now) (s .args .scalars) (rows s) (left-of s) (trades s) 14 _
+    (unpaid-past (s .args .calendar .now) (book s) (trades s) (may-go-on past1) (asked (unpaid-asked at-passes) (c .before .if4 .taken)))
+    (c .answered4 .ensures)
+
+joined-with-requires : tie.Need-joined-with-requires
+joined-with-requires c κs = search needs
 
 closed-requires : tie.Need-closed-requires
 closed-requires c κs =
-    let at-cleared-fit : tie.After-cleared-fit = search needs in
-    let s = from-cleared at-cleared-fit in
+    let at-passes : tie.After-passes = search needs in
+    let s = from-passes at-passes in
     let fits = fit-parts (s .args .calendar .now) (book s) (trades s) (s .pre .fits) in (
       record {
         held-long = s .pre .held-long;
@@ -203,9 +249,6 @@ closed-requires c κs =
       fit-keeps (s .args .calendar .now) (book s) (s .args .table .now) (s .pre .fits),
     )
 
-same-length-3 : tie.Need-same-length-3
-same-length-3 c = search needs
-
 same-length-4 : tie.Need-same-length-4
 same-length-4 c = search needs
 
@@ -215,15 +258,25 @@ same-length-5 c = search needs
 same-length-6 : tie.Need-same-length-6
 same-length-6 c = search needs
 
-returns-4 : tie.Need-returns-4
-returns-4 c =
+same-length-7 : tie.Need-same-length-7
+same-length-7 c = search needs
+
+returns-5 : tie.Need-returns-5
+returns-5 c =
     let closed : tie.After-closed = search needs in
-    let left : tie.Else3 = search needs in
-    let tested = left .before in
-    let today = tested .before .before .before in
-    let s = from-cleared tested in
-    rw (may-be-closed (s .args .calendar .now) (book s) (trades s) (may-go-on (past-first today)) (denied-not (today-asked today) (tested .before .before .if2 .left)) (denied-not (cleared-asked tested) (left .if3 .left)))
-    (closed .closed .ensures .0 (s .args .calendar .now) (sheets-matured (today .before .before)) (all-joined (tested .before)), closed .closed .ensures .1)
+    let grown : tie.After-joined-with = search needs in
+    let left : tie.Else4 = search needs in
+    let asked-unpaid : tie.After-passes = search needs in
+    let asked-cleared = cleared asked-unpaid in
+    let asked-today = today asked-cleared in
+    let s = from-cleared asked-cleared in
+    let unpaid = s .args .scalars .sums .unpaid in
+    let within = asked-not (unpaid-asked asked-unpaid) (left .if4 .left) in
+    rw (may-be-closed (s .args .calendar .now) (book s) (trades s) (may-go-on (past-first asked-today)) (denied-not (today-asked asked-today) (past-second asked-cleared .if2 .left)) (denied-not (cleared-asked asked-cleared) (past-third asked-unpaid .if3 .left)) within) (
+      closed .closed .ensures .0 (s .args .calendar .now) (sheets-matured (planned asked-today)) (all-joined (joining asked-cleared))
+          (grown .joined-with .ensures ∙ ap (λ (amount : Fen). unlessPast (amount .0) unpaid (joined (withToday (amount .0) unpaid))) (amount-matured (planned asked-today)) ∙ not-past unpaid _ _ within),
+      closed .closed .ensures .1,
+    )
 
 pub close-spec : {M : Type 1} → statement M
 close-spec =
@@ -245,9 +298,14 @@ close-spec =
     answered-requires-3
     same-length-2
     returns-3
-    closed-requires
+    passes-requires
+    answered-requires-4
     same-length-3
+    returns-4
+    joined-with-requires
+    closed-requires
     same-length-4
     same-length-5
     same-length-6
-    returns-4)
+    same-length-7
+    returns-5)

@@ -2,11 +2,12 @@ use mathlib.Core.Path.{_≡_, ap, _∙_}
 use mathlib.Core.List.{List}
 use borrow.Author.Needs.{needs}
 use lib.ListN.{length}
+use Rattle.money.specs.Days.{Calendar}
 use Rattle.rules.specs.Trades.{outstanding, remaining}
-use Rattle.rules.specs.Close.{maturedTrades, evening}
+use Rattle.rules.specs.Close.{maturedTrades, unpaidAtClose, claimsAtClose, evening}
 use Rattle.core.specs.Types.{Book, Trade}
 use Rattle.core.specs.Flat.{tradesTo, tradesOf, securitiesOf, rowsOf, bookOf, eveningAt}
-use Rattle.core.proofs.CloseLaws.{redeemed-kept, trades-after-maturity, packed-after-maturity, rows-cleared, close-done}
+use Rattle.core.proofs.CloseLaws.{redeemed-kept, trades-after-maturity, packed-after-maturity, claims-joined, rows-cleared, close-done}
 use Rattle.core.proofs.close.closed.Statement.{statement}
 use Rattle.core.proofs.close.closed.Tie as tie
 
@@ -55,8 +56,10 @@ module _ (c : tie.After-evening-end) where
   abbrev from-evening : tie.Start
   from-evening = from-count (counted c)
 
-  evening-over : eveningAt (c .evening-end .result) (securitiesOf (c .evening-end .last .1 .0)) ≡ evening (book from-evening) (left-of from-evening)
-  evening-over = c .evening-end .ensures .0 (left-of from-evening) (sheets-left (counted c))
+  evening-over : (calendar : Calendar) → from-evening .args .unpaid ≡ unpaidAtClose calendar (book from-evening) (trades from-evening)
+      → eveningAt (c .evening-end .result) (securitiesOf (c .evening-end .last .1 .0)) ≡ evening (book from-evening) (claimsAtClose calendar (book from-evening) (left-of from-evening) (trades from-evening))
+  evening-over calendar unpaid =
+      c .evening-end .ensures .0 ∙ ap (evening (book from-evening)) (claims-joined calendar (book from-evening) (left-of from-evening) (trades from-evening) _ (from-evening .args .unpaid) (sheets-left (counted c)) unpaid)
 
 day-number-requires : tie.Need-day-number-requires
 day-number-requires c κs = search needs
@@ -109,12 +112,12 @@ returns c =
     let due = redeemed count in
     let s = from-count count in
     let scalars = c .before .closed-scalars in (
-      (λ calendar matured nets.
+      (λ calendar matured nets unpaid.
           let kept = pack .ensures .0 ∙ ap (λ l. length (remaining l)) (trades-left count) in
-          let next = scalars .ensures calendar _ _ (left-of s) (trades s) nets (evening-over end) (end .evening-end .ensures .1) (sheets-left count) kept in
+          let next = scalars .ensures calendar _ _ (left-of s) (trades s) nets unpaid (evening-over end calendar unpaid) (end .evening-end .ensures .1) (sheets-left count) kept in
           rw (c .of-close .ensures)
           (close-done calendar (book s) (left-of s) (trades s) (s .args .matured) (end .evening-end .result) (securitiesOf (end .evening-end .last .1 .0))
-          (scalars .result) (rowsOf (end .evening-end .last .1 .0) (clear .last .0) (clear .last .1 .0)) matured (evening-over end) (rows-cleared _ _ (clear .ensures .0) (clear .ensures .1) next))),
+          (scalars .result) (rowsOf (end .evening-end .last .1 .0) (clear .last .0) (clear .last .1 .0)) matured (evening-over end calendar unpaid) (rows-cleared _ _ (clear .ensures .0) (clear .ensures .1) next))),
       pack .ensures .1 ∙ packed-after-maturity (book s) _ _ _ (due .before .day-number .ensures) (s .pre .1) (due .redeem-due .kept .0) (due .redeem-due .ensures),
     )
 

@@ -59,7 +59,7 @@ returns c =
     let at-guarantee-arrived : tie.After-guarantee-arrived = search needs in
     let at-all-arrived : tie.After-all-arrived = search needs in
     let end : tie.After-applications = search needs in
-    (λ trades left. rw (end .applications .ensures .0, at-is-served .is-served .ensures, at-guarantee-arrived .guarantee-arrived .ensures, at-all-arrived .all-arrived .ensures, left), end .applications .ensures .1)
+    (rw (end .applications .ensures .0, at-is-served .is-served .ensures, at-guarantee-arrived .guarantee-arrived .ensures, at-all-arrived .all-arrived .ensures), end .applications .ensures .1)
 
 pub evening-end-spec : {M : Type 1} → statement M
 evening-end-spec =

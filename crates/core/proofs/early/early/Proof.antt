@@ -12,7 +12,7 @@ use Rattle.core.specs.Redemption.{Redeemed}
 use Rattle.core.proofs.Refusing.{refused, turned-down, carried-out}
 use Rattle.core.proofs.FitFacts.{fit-keeps, fit-net}
 use Rattle.core.proofs.ContractLaws.{take-off-here}
-use Rattle.core.proofs.EarlyLaws.{Redeems, early-at-most, early-clear, early-redeems}
+use Rattle.core.proofs.EarlyLaws.{Redeems, early-at-most, early-clear, early-redeems, early-within}
 use Rattle.core.proofs.early.early.Statement.{statement}
 use Rattle.core.proofs.early.early.Tie as tie
 
@@ -97,10 +97,17 @@ put-sheets-requires c κs =
     omega (arith, redeems past1 .below, kept s .room)
 
 today-plus-requires : tie.Need-today-plus-requires
-today-plus-requires c κs =
-    let past1 : tie.Else1 = search needs in
-    let at-early-plan : tie.After-early-plan = search needs in
-    let start : tie.Start = search needs in
+today-plus-requires c κs = search needs
+
+with-unpaid-requires : tie.Need-with-unpaid-requires
+with-unpaid-requires c κs = search needs
+
+today-plus-requires-2 : tie.Need-today-plus-requires-2
+today-plus-requires-2 c κs =
+    let at-put-sheets : tie.After-put-sheets = search needs in
+    let at-early-plan = planned (counted at-put-sheets) in
+    let past1 = allowed at-early-plan in
+    let start = start-of past1 in
     let s = start .args in
     let r = redeems past1 in
     let book = bookOf (s .scalars) (start .pre .rows) in
@@ -130,7 +137,11 @@ returns-2 c rows =
     let written = at-put-sheets .put-sheets .ensures ∙ ap (λ n. set (tradesOf (a .table .now)) (at-place-of .place-of .result) (withSheets n trade)) rest in
     let taken-off = take-off-here _ _ _ _ (kept start .room) (at-place-of .place-of .ensures) _ (r .below) in
     let e = clear past1 rows in
-    (carried-out _ _ rows _ _ e (c .answered2 .ensures) (rw (c .before .today-plus .ensures, at-early-plan .early-plan .ensures rows)), rw e (written ∙ taken-off))
+    let within = early-within (a .calendar .now) (bookOf (a .scalars) rows) (tradesOf (a .table .now)) (a .contract) (a .count) (a .price) e in
+    let net : tie.After-today-plus2 = search needs in
+    let set : tie.After-with-unpaid = search needs in
+    let unpaid : tie.After-today-plus = search needs in
+    (carried-out _ _ rows _ _ e (c .answered2 .ensures) (rw (net .today-plus2 .ensures, set .with-unpaid .ensures, unpaid .today-plus .ensures, at-early-plan .early-plan .ensures rows, within)), rw e (written ∙ taken-off))
 
 pub early-spec : {M : Type 1} → statement M
 early-spec =
@@ -146,6 +157,8 @@ early-spec =
     sub-left
     put-sheets-requires
     today-plus-requires
+    with-unpaid-requires
+    today-plus-requires-2
     answered-requires-2
     same-length-2
     returns-2)

@@ -3,7 +3,7 @@ use native.Mathlib.Omega.{arith}
 use borrow.Author.Needs.{needs}
 use Rattle.money.specs.Limits.{tradeLimit}
 use Rattle.core.specs.Flat.{bookOf, tradesOf, Kept}
-use Rattle.core.proofs.Column.{column}
+use Rattle.core.proofs.Column.{column, passes, ends, asked-not, neither-holds}
 use Rattle.core.proofs.RedemptionLaws.{kept-within}
 use Rattle.core.proofs.FitFacts.{fit-keeps, fit-net}
 use Rattle.core.proofs.ContractLaws.{short-of, not-short-of}
@@ -58,6 +58,10 @@ returns-2 c rows =
     let has = not-short-of _ _ _ _ (kept s .room) (s .pre .named .stands) _ _ (read .sheets-at .ensures) (s .pre .below) (enough .if1 .left) in
     let net = rw (at-early-plan .early-plan .ensures rows) at (c .before .over-plus .ensures) in search column depth 20
 
+passes-requires : tie.Need-passes-requires
+passes-requires c κs = search needs
+
+-- past the net: the sheets suffice, and both tests are of the amount planned
 returns-3 : tie.Need-returns-3
 returns-3 c rows =
     let at-early-plan : tie.After-early-plan = search needs in
@@ -65,7 +69,30 @@ returns-3 c rows =
     let s = start enough in
     let read : tie.After-sheets-at = search needs in
     let has = not-short-of _ _ _ _ (kept s .room) (s .pre .named .stands) _ _ (read .sheets-at .ensures) (s .pre .below) (enough .if1 .left) in
-    let net = rw (at-early-plan .early-plan .ensures rows) at (c .before .over-plus .ensures) in search column depth 20
+    let unpaid = rw (at-early-plan .early-plan .ensures rows) at (c .before .passes .ensures) in search column depth 20
+
+returns-4 : tie.Need-returns-4
+returns-4 c rows =
+    let asked : tie.After-over-plus = search needs in
+    let at-early-plan : tie.After-early-plan = search needs in
+    let enough : tie.Else1 = search needs in
+    let s = start enough in
+    let read : tie.After-sheets-at = search needs in
+    let has = not-short-of _ _ _ _ (kept s .room) (s .pre .named .stands) _ _ (read .sheets-at .ensures) (s .pre .below) (enough .if1 .left) in
+    let net = rw (at-early-plan .early-plan .ensures rows) at (asked .over-plus .ensures) in
+    let past2 : tie.Else2 = search needs in
+    let unpaid = rw (at-early-plan .early-plan .ensures rows) at (c .before .passes .ensures) in
+    passes 13 _ _ has (passes 14 _ _ (neither-holds (asked-not net (past2 .if2 .left)) (asked-not unpaid (c .if3 .left))) ends)
 
 pub take-refusal-spec : {M : Type 1} → statement M
-take-refusal-spec = tie.close (tie.spec sheets-at-requires returns early-plan-requires over-plus-requires returns-2 returns-3)
+take-refusal-spec =
+    tie.close
+    (tie.spec
+    sheets-at-requires
+    returns
+    early-plan-requires
+    over-plus-requires
+    returns-2
+    passes-requires
+    returns-3
+    returns-4)

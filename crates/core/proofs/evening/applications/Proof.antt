@@ -11,7 +11,7 @@ use lib.ListN.{length, getD}
 use Rattle.money.specs.Units.{fen}
 use Rattle.rules.specs.Folds.{inTurn}
 use Rattle.rules.specs.Vault.{securityAt, isCash, effectiveOf, value as valueOf}
-use Rattle.rules.specs.Close.{Evening, takenOut, mayGo, settled, applications}
+use Rattle.rules.specs.Close.{Evening, takenOut, claims, mayGo, settled, applications}
 use Rattle.rules.proofs.FitParts.{ApplicationFits, securities-fit, withdrawals-fit}
 use Rattle.core.specs.Types.{Security, Guarantee, Vault, Withdrawals}
 use Rattle.core.specs.Flat.{securitiesOf, vaultOf, eveningAt}
@@ -36,24 +36,24 @@ abbrev made : ℕ → Vault → ℕ → ℕ → Evening
 made own vault done dropped = record { own = fen own; vault = vault; done = done; dropped = dropped }
 
 -- it is the evening after an application that goes, or stays
-module _ (served : Bool) (outstanding kind units : ℕ) (e : Evening) {own done dropped : ℕ} {vault : Vault} where
-  went : mayGo served outstanding kind units (e .vault) ≡ true → own ≡ cond (isCash kind) (e .own .0 + units) (e .own .0) → vault ≡ takenOut kind units (e .vault) → done ≡ e .done + 1 → dropped ≡ e .dropped
-      → made own vault done dropped ≡ settled served outstanding kind units e
+module _ (served : Bool) (claims kind units : ℕ) (e : Evening) {own done dropped : ℕ} {vault : Vault} where
+  went : mayGo served claims kind units (e .vault) ≡ true → own ≡ cond (isCash kind) (e .own .0 + units) (e .own .0) → vault ≡ takenOut kind units (e .vault) → done ≡ e .done + 1 → dropped ≡ e .dropped
+      → made own vault done dropped ≡ settled served claims kind units e
   went goes o v d r = rw (goes, o, v, d, r)
 
-  stayed : mayGo served outstanding kind units (e .vault) ≡ false → own ≡ e .own .0 → vault ≡ e .vault → done ≡ e .done → dropped ≡ e .dropped + 1
-      → made own vault done dropped ≡ settled served outstanding kind units e
+  stayed : mayGo served claims kind units (e .vault) ≡ false → own ≡ e .own .0 → vault ≡ e .vault → done ≡ e .done → dropped ≡ e .dropped + 1
+      → made own vault done dropped ≡ settled served claims kind units e
   stayed stays o v d r = rw (stays, o, v, d, r)
 
 abbrev Inv-loop : tie.InvT-loop
-Inv-loop served outstanding kinds units count held₀ guarantee₀ own₀ value₀ done₀ dropped₀ i₀ held guarantee own value done dropped i =
+Inv-loop served outstanding unpaid kinds units count held₀ guarantee₀ own₀ value₀ done₀ dropped₀ i₀ held guarantee own value done dropped i =
     (i ≤ count)
     × (length held ≡ length held₀)
-    × (made own (vaultFrom held guarantee) done dropped ≡ inTurn i (turn served (outstanding .0) (asked kinds units count)) (made own₀ (vaultFrom held₀ guarantee₀) done₀ dropped₀))
+    × (made own (vaultFrom held guarantee) done dropped ≡ inTurn i (turn served (claims (outstanding .0) (unpaid .0)) (asked kinds units count)) (made own₀ (vaultFrom held₀ guarantee₀) done₀ dropped₀))
     × (value ≡ valueOf (vaultFrom held guarantee))
 
 abbrev μ-loop : tie.MeasureT-loop
-μ-loop served outstanding kinds units count held₀ guarantee₀ own₀ value₀ done₀ dropped₀ i₀ held guarantee own value done dropped i =
+μ-loop served outstanding unpaid kinds units count held₀ guarantee₀ own₀ value₀ done₀ dropped₀ i₀ held guarantee own value done dropped i =
     count - i
 
 loop-holds : tie.Need-loop-holds Inv-loop μ-loop
@@ -87,8 +87,11 @@ module _ (c : tie.In-loop Inv-loop μ-loop) where
   abbrev before : Evening
   before = made (c .before .loop .own) vault (c .before .loop .done) (c .before .loop .dropped)
 
+  abbrev claimed : ℕ
+  claimed = claims (s .args .outstanding .0) (s .args .unpaid .0)
+
   abbrev turns : ℕ → Evening → Evening
-  turns = turn (s .args .served) (s .args .outstanding .0) w
+  turns = turn (s .args .served) claimed w
 
   few : w .count ≤ 128
   few = withdrawals-fit w (s .pre .0 .3) .count
@@ -99,14 +102,14 @@ module _ (c : tie.In-loop Inv-loop μ-loop) where
   kept : Kept before
   kept =
       rw (c .before .loop .inv .2)
-      (turns-keep (s .args .served) (s .args .outstanding .0) w first i (record { securities = securities-fit _ (s .pre .1 .0); free = s .pre .1 .1; cash = s .pre .1 .3 }))
+      (turns-keep (s .args .served) claimed w first i (record { securities = securities-fit _ (s .pre .1 .0); free = s .pre .1 .1; cash = s .pre .1 .3 }))
 
   seen : before .done + before .dropped ≡ i
   seen =
       omega (
         arith,
         ap (λ (e : Evening). e .done + e .dropped) (c .before .loop .inv .2),
-        turns-count (s .args .served) (s .args .outstanding .0) w first i,
+        turns-count (s .args .served) claimed w first i,
         s .pre .1 .5,
         s .pre .1 .6,
       )
@@ -164,13 +167,13 @@ module _ (c : tie.After-judged Inv-loop μ-loop) where
   abbrev turn-at : tie.In-loop Inv-loop μ-loop
   turn-at = search needs
 
-  judgement : (c .judged .result .goes ≡ mayGo (s turn-at .args .served) (s turn-at .args .outstanding .0) (kind turn-at) (units turn-at) (vault turn-at))
+  judgement : (c .judged .result .goes ≡ mayGo (s turn-at .args .served) (claimed turn-at) (kind turn-at) (units turn-at) (vault turn-at))
       × (c .judged .result .value .0 ≡ cond (c .judged .result .goes) (valueOf (takenOut (kind turn-at) (units turn-at) (vault turn-at))) (turn-at .before .loop .value))
   judgement = c .judged .ensures (vault turn-at) (full turn-at) (held (c .before) .effective) (held (c .before) .frozen) (held (c .before) .rate) (turn-at .before .loop .inv .3)
 
   enough : c .judged .result .goes ≡ true → units turn-at ≤ effectiveOf (vault turn-at) (kind turn-at)
   enough goes =
-      omega (arith, unfrozen (s turn-at .args .served) (s turn-at .args .outstanding .0) (kind turn-at) (units turn-at) (vault turn-at) (sym (judgement .0) ∙ goes))
+      omega (arith, unfrozen (s turn-at .args .served) (claimed turn-at) (kind turn-at) (units turn-at) (vault turn-at) (sym (judgement .0) ∙ goes))
 
 add-done : tie.Need-add-done Inv-loop μ-loop
 add-done c = let at = turn-at (c .before) in omega (arith, seen at, few at, at .loop-test .taken)
@@ -284,7 +287,7 @@ returns c =
     let e : c .before .loop .i ≡ s .args .count = omega arith in
     let first = eveningAt (s .args .begun) (securitiesOf (s .args .held .now)) in (
       c .before .loop .inv .2
-          ∙ ap (λ n. inTurn n (turn (s .args .served) (s .args .outstanding .0) (asked (s .args .kinds .now) (s .args .units .now) (s .args .count))) first) e,
+          ∙ ap (λ n. inTurn n (turn (s .args .served) (claims (s .args .outstanding .0) (s .args .unpaid .0)) (asked (s .args .kinds .now) (s .args .units .now) (s .args .count))) first) e,
       c .before .loop .inv .3,
     )
 

@@ -1,5 +1,5 @@
 use Prim.Native.Nat.{_+_, _-_, _≤_}
-use mathlib.Core.Path.{_≡_, refl, ap, _∙_}
+use mathlib.Core.Path.{_≡_, refl, sym, ap, _∙_}
 use native.Mathlib.Omega.{arith}
 use borrow.Author.Needs.{needs}
 use borrow.Author.Tests.{not-true, not-false}
@@ -74,22 +74,27 @@ add-after c =
     let small : kindValue (s w .args .kind) (had .effective - s w .args .units) (had .frozen) (had .rate) .0 ≤ 2000000000000 = value-bound _ _ _ _ (omega (arith, s w .pre .2)) (s w .pre .3) in
     omega (arith, small, without-value w, s w .pre .5)
 
+covers-requires : tie.Need-covers-requires
+covers-requires c κs = search needs
+
 returns-3 : tie.Need-returns-3
 returns-3 c =
     let past1 : tie.Else1 = search needs in
+    let asked : tie.After-covers = search needs in
     let w : tie.After-worth2 = search needs in
     λ vault full e f r v.
     let held : Held vault (s w .args .kind) (s w .args .had) = record { effective = e; frozen = f; rate = r } in
-    (uncovered _ _ _ _ vault (not-false _ (past1 .if1 .left)) (enough w vault held) (rw (after w vault held full v) at (c .if3 .taken)), refl)
+    (uncovered _ _ _ _ vault (not-false _ (past1 .if1 .left)) (enough w vault held) (rw (after w vault held full v) at (sym (asked .covers .ensures) ∙ not-true _ (c .if3 .taken))), refl)
 
 returns-4 : tie.Need-returns-4
 returns-4 c =
     let past1 : tie.Else1 = search needs in
     let past3 : tie.Else3 = search needs in
+    let asked : tie.After-covers = search needs in
     let w : tie.After-worth2 = search needs in
     λ vault full e f r v.
     let held : Held vault (s w .args .kind) (s w .args .had) = record { effective = e; frozen = f; rate = r } in
-    (may-go _ _ _ _ vault (not-false _ (past1 .if1 .left)) (enough w vault held) (rw (after w vault held full v) at (past3 .if3 .left)), after w vault held full v)
+    (may-go _ _ _ _ vault (not-false _ (past1 .if1 .left)) (enough w vault held) (rw (after w vault held full v) at (sym (asked .covers .ensures) ∙ not-false _ (past3 .if3 .left))), after w vault held full v)
 
 pub judged-spec : {M : Type 1} → statement M
 judged-spec =
@@ -103,5 +108,6 @@ judged-spec =
     worth-requires-2
     sub-after
     add-after
+    covers-requires
     returns-3
     returns-4)

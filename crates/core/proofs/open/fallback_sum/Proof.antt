@@ -1,16 +1,13 @@
-use mathlib.Core.Path.{_∙_}
 use borrow.Author.Needs.{needs}
-use borrow.Author.Tests.{le-leb}
 use denote.Ref.{now}
 use Rattle.rules.specs.Days.{paymentDay}
-use Rattle.rules.proofs.FitParts.{fit-parts}
 use Rattle.core.specs.Types.{Book}
-use Rattle.core.specs.Flat.{Redeemable, bookOf, tradesOf}
+use Rattle.core.specs.Flat.{Redeemable, bookOf}
 use Rattle.core.proofs.FitFacts.{fit-in-use}
 use Rattle.core.proofs.RedemptionLaws.{fallback-bound}
 use Rattle.core.proofs.OpenLaws.{redeemable-next-day}
-use Rattle.core.proofs.open.with_fallbacks.Statement.{statement}
-use Rattle.core.proofs.open.with_fallbacks.Tie as tie
+use Rattle.core.proofs.open.fallback_sum.Statement.{statement}
+use Rattle.core.proofs.open.fallback_sum.Tie as tie
 
 -- the book that the scalars are fit as
 abbrev book : tie.Start → Book
@@ -29,19 +26,14 @@ termination-plan-requires c κs =
     let s : tie.Start = search needs in
     rw (c .payment-day .ensures) (redeemable s)
 
-cleared-plus-requires : tie.Need-cleared-plus-requires
-cleared-plus-requires c κs =
-    let s : tie.Start = search needs in
-    let f = fit-parts (now (s .args .calendar)) (book s) (tradesOf (now (s .args .table))) (s .pre .book .fits) in
-    (le-leb _ _ (f .nets .cleared), rw (c .termination-plan .ensures, c .before .payment-day .ensures) (fallback-bound _ _ _ (redeemable s)))
-
 returns : tie.Need-returns
-returns c rows =
+returns c =
+    let plan : tie.After-termination-plan = search needs in
     let at-payment-day : tie.After-payment-day = search needs in
-    let s : tie.Start = search needs in
-    c .cleared-plus .ensures
-    ∙ rw (c .before .termination-plan .ensures, at-payment-day .payment-day .ensures, s .pre .opened, fit-in-use (now (s .args .calendar)) (book s) (now (s .args .table)) (s .pre .book .fits))
+    let s : tie.Start = search needs in (
+      (λ rows. rw (plan .termination-plan .ensures, at-payment-day .payment-day .ensures, s .pre .opened, fit-in-use (now (s .args .calendar)) (book s) (now (s .args .table)) (s .pre .book .fits))),
+      rw (plan .termination-plan .ensures, at-payment-day .payment-day .ensures) (fallback-bound _ _ _ (redeemable s)),
+    )
 
-pub with-fallbacks-spec : {M : Type 1} → statement M
-with-fallbacks-spec =
-    tie.close (tie.spec payment-day-requires termination-plan-requires cleared-plus-requires returns)
+pub fallback-sum-spec : {M : Type 1} → statement M
+fallback-sum-spec = tie.close (tie.spec payment-day-requires termination-plan-requires returns)
