@@ -22,7 +22,7 @@ use Rattle.rules.specs.Unpaid.{passes}
 use Rattle.rules.specs.Days.{paymentDay}
 use Rattle.rules.specs.Trades.{total, outstanding, maturing, maturityAmount, matured, remaining, packed, over}
 use Rattle.rules.specs.Fit.{netFit, securitiesFit, cashFit, fit}
-use Rattle.rules.specs.Close.{Evening, mayClose, today, maturedTrades, maturedSheets, maturedAmount, netWithMatured, clearedAtClose, unpaidAtClose, closeCauses, allArrived, claims, evening, claimsAtClose, closedTable, closedBook, closeAnswer}
+use Rattle.rules.specs.Close.{Evening, mayClose, today, maturedTrades, maturedSheets, maturedAmount, netWithMatured, clearedAtClose, unpaidAtClose, closeCauses, allArrived, claimsOf, evening, claimsAtClose, closedTable, closedBook, closeAnswer}
 use Rattle.rules.proofs.FitParts.{securities-fit, cash-fits}
 use Rattle.rules.proofs.TableFit.{matured-lessens, fewer-fit}
 use Rattle.rules.proofs.EveningFit.{all-arrived-fit}
@@ -149,7 +149,7 @@ module _ (book : Book) (s : securitiesFit (book .vault) ≡ true) (c : cashFit (
 
 -- its claims: today's part of U has joined the cleared part
 pub claims-joined : (calendar : Calendar) (book : Book) (left table : List Trade) (sheets : ℕ) (unpaid : Unpaid) → sheets ≡ outstanding left → unpaid ≡ unpaidAtClose calendar book table
-    → claims sheets (unpaid .cleared .0) ≡ claimsAtClose calendar book left table
+    → claimsOf sheets (unpaid .cleared .0) ≡ claimsAtClose calendar book left table
 unfolding claimsAtClose
 claims-joined calendar book left table sheets unpaid o u = rw (o, u) (omega arith)
 

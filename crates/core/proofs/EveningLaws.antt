@@ -17,7 +17,7 @@ use Rattle.money.specs.Collateral.{rateOf, unitLimitOf, kindValue}
 use Rattle.rules.specs.Folds.{inTurn}
 use Rattle.rules.specs.Book.{noSecurity}
 use Rattle.rules.specs.Vault.{securityAt, isCash, effectiveOf, frozenOf, value}
-use Rattle.rules.specs.Close.{Evening, fewer, fewerCash, takenOut, covered, mayGo, doneOne, settleOne, settled}
+use Rattle.rules.specs.Close.{Evening, fewer, fewerCash, takenOut, covers, mayGo, doneOne, settleOne, settled}
 use Rattle.money.proofs.TwoTests.{both}
 use Rattle.rules.proofs.FoldLaws.{by-test, in-turn-keeps, at-set}
 use Rattle.rules.proofs.FitParts.{SecurityFits, SecuritiesFit, fit-securities}
@@ -69,11 +69,11 @@ module _ (served : Bool) (claims kind units : ℕ) (vault : Vault) where
   unfolding mayGo
   frozen-stay e h = rw (e, lt-leb (frozenOf vault kind + units) (effectiveOf vault kind) h)
 
-  pub uncovered : served ≡ true → frozenOf vault kind + units ≤ effectiveOf vault kind → covered claims (value (takenOut kind units vault)) ≡ false → false ≡ mayGo served claims kind units vault
+  pub uncovered : served ≡ true → frozenOf vault kind + units ≤ effectiveOf vault kind → covers (value (takenOut kind units vault)) claims ≡ false → false ≡ mayGo served claims kind units vault
   unfolding mayGo
   uncovered e h k = rw (e, le-leb (frozenOf vault kind + units) (effectiveOf vault kind) h, k)
 
-  pub may-go : served ≡ true → frozenOf vault kind + units ≤ effectiveOf vault kind → covered claims (value (takenOut kind units vault)) ≡ true → true ≡ mayGo served claims kind units vault
+  pub may-go : served ≡ true → frozenOf vault kind + units ≤ effectiveOf vault kind → covers (value (takenOut kind units vault)) claims ≡ true → true ≡ mayGo served claims kind units vault
   unfolding mayGo
   may-go e h k = rw (e, le-leb (frozenOf vault kind + units) (effectiveOf vault kind) h, k)
 
@@ -82,7 +82,7 @@ module _ (served : Bool) (claims kind units : ℕ) (vault : Vault) where
   unfolding mayGo
   unfrozen e =
       let enough = leb (frozenOf vault kind + units) (effectiveOf vault kind) in
-      let b = both (served && enough) (covered claims (value (takenOut kind units vault))) e .0 in
+      let b = both (served && enough) (covers (value (takenOut kind units vault)) claims) e .0 in
       leb-true (frozenOf vault kind + units) (effectiveOf vault kind) (both served enough b .1)
 
 -- ---- one kind looked at, and written back with units less

@@ -1,4 +1,4 @@
-// 12 Close: maturity, the nets, the evening's applications, the table and the short run.
+// 12 Close: maturity, the nets and U, the evening's applications, the table and the short run.
 ghost use mathlib.Core.Path.{_≡_};
 ghost use Prim.Native.Nat.{ℕ};
 ghost use mathlib.Core.List.{List};
@@ -11,7 +11,7 @@ ghost use Rattle.money.specs.Days.{Calendar};
 ghost use Rattle.rules.specs.Limits.{applicationLimit};
 ghost use Rattle.rules.specs.Vault.{value};
 ghost use Rattle.rules.specs.Book.{noApplications};
-ghost use Rattle.rules.specs.Close.{mayClose, maturedTrades, maturedSheets, clearedAtClose, unpaidAtClose, claims, claimsAtClose, served, evening as eveningOf, shortMore, shortAtClose, closedStanding, closeCauses, closedBook, closedTable};
+ghost use Rattle.rules.specs.Close.{mayClose, maturedTrades, maturedSheets, clearedAtClose, unpaidAtClose, claimsOf, claimsAtClose, served, evening as eveningOf, shortMore, shortAtClose, closedStanding, closeCauses, closedBook, closedTable};
 ghost use Rattle.rules.specs.Trades.{outstanding, remaining};
 ghost use Rattle.core.specs.Types.{Trade};
 ghost use Rattle.core.specs.Flat.{FitsWhole, RowsFit, Rows, vaultOf, securitiesOf, rowsOf, bookOf, eveningAt, appliedAt, tradesOf, closedBy, tableBy, Kept};
@@ -121,7 +121,7 @@ fn evening_end(
     requires { ⌜ RowsFit scalars (now held) (now kinds) (now units) ⌝ }
     ensures { λ r.
         let book = bookOf scalars (rowsOf (now (held .entry)) (now (kinds .entry)) (now (units .entry))) in
-        ⌜ (eveningAt r (securitiesOf (now (held .exit))) ≡ eveningOf book (claims (left .0) (unpaid .0)))
+        ⌜ (eveningAt r (securitiesOf (now (held .exit))) ≡ eveningOf book (claimsOf (left .0) (unpaid .0)))
         × (r .value .0 ≡ value (vaultOf (r .guarantee) (securitiesOf (now (held .exit))))) ⌝ }
 {
     let standing = scalars.standing;

@@ -1,4 +1,4 @@
-// 10 Early: takes sheets off a trade at the price given; the amount joins today's net.
+// 10 Early: takes sheets off a trade at the price given; the amount joins today's net, and U.
 ghost use mathlib.Core.Path.{_≡_};
 ghost use Prim.Native.Nat.{_≤_};
 ghost use Rattle.money.specs.Limits.{tradeLimit};

@@ -9,7 +9,7 @@ ghost use Rattle.money.specs.Collateral.{cashKind, rateOf, unitLimitOf, kindVal
 ghost use Rattle.rules.specs.Limits.{applicationLimit};
 ghost use Rattle.rules.specs.Vault.{securityAt, effectiveOf, frozenOf, value as valueOf};
 ghost use Rattle.rules.specs.Fit.{securitiesFit, withdrawalsFit};
-ghost use Rattle.rules.specs.Close.{securityArrived, guaranteeArrived, takenOut, claims, mayGo, applications};
+ghost use Rattle.rules.specs.Close.{securityArrived, guaranteeArrived, takenOut, claimsOf, mayGo, applications};
 ghost use Rattle.core.specs.Types.{Vault};
 ghost use Rattle.core.specs.Flat.{vaultOf, securitiesOf, eveningAt, heldLength};
 ghost use Rattle.core.specs.Figures.{valueBound};
@@ -115,7 +115,7 @@ fn judged(
         → had .frozen ≡ frozenOf vault kind
         → had .rate ≡ securityAt vault kind .rate
         → value .0 ≡ valueOf vault
-        → (r .goes ≡ mayGo served (claims (outstanding .0) (unpaid .0)) kind units vault)
+        → (r .goes ≡ mayGo served (claimsOf (outstanding .0) (unpaid .0)) kind units vault)
         × (r .value .0 ≡ cond (r .goes) (valueOf (takenOut kind units vault)) (value .0))) ⌝ }
 {
     if !served {
@@ -170,7 +170,7 @@ pub fn applications(
     ensures { λ r.
         let before = eveningAt begun (securitiesOf (now (held .entry))) in
         ⌜ (eveningAt r (securitiesOf (now (held .exit)))
-        ≡ applications served (claims (outstanding .0) (unpaid .0)) (record { kinds = now (kinds .entry); units = now (units .entry); count = count }) before)
+        ≡ applications served (claimsOf (outstanding .0) (unpaid .0)) (record { kinds = now (kinds .entry); units = now (units .entry); count = count }) before)
         × (r .value .0 ≡ valueOf (vaultOf (r .guarantee) (securitiesOf (now (held .exit))))) ⌝ }
 {
     let mut guarantee = begun.guarantee;

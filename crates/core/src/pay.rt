@@ -1,4 +1,4 @@
-// 11 Pay: the whole cleared net moves, or nothing.
+// 11 Pay: the whole cleared net moves and U's cleared part is paid, or nothing.
 ghost use mathlib.Core.Path.{_≡_};
 ghost use mathlib.Core.Bool.{true, false};
 ghost use Prim.Native.Nat.{_+_, _≤_};
@@ -105,7 +105,7 @@ fn paid_standing(standing: Standing, failed: FailedRun) -> Standing
 }
 
 // Nothing moves, and the failed run grows.
-fn unpaid(scalars: Scalars) -> Scalars
+fn not_made(scalars: Scalars) -> Scalars
     ensures { λ r. ⌜ ((rows : Rows) → bookOf r rows ≡ afterPay true (bookOf scalars rows)) ⌝ }
 {
     let standing = scalars.standing;
@@ -143,7 +143,7 @@ pub fn pay(scalars: Scalars) -> Done
     let nets = scalars.nets;
     let cash = scalars.cash;
     if falls_short(nets, cash) {
-        return done::answered(99, unpaid(scalars));
+        return done::answered(99, not_made(scalars));
     }
     done::answered(0, paid(scalars))
 }

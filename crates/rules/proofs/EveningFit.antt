@@ -11,7 +11,7 @@ use Rattle.money.specs.declared.units.Fen.{Fen}
 use Rattle.money.specs.Units.{fen}
 use Rattle.rules.specs.Book.{Security, Vault, Book, noSecurity}
 use Rattle.rules.specs.Vault.{securityAt, isCash, effectiveOf, frozenOf, value}
-use Rattle.rules.specs.Close.{Evening, securityArrived, allArrived, fewer, fewerCash, takenOut, covered, mayGo, settleOne, settled, served, applications, evening}
+use Rattle.rules.specs.Close.{Evening, securityArrived, allArrived, fewer, fewerCash, takenOut, covers, mayGo, settleOne, settled, served, applications, evening}
 use Rattle.money.proofs.TwoTests.{both}
 use Rattle.rules.proofs.FoldLaws.{by-test, in-turn-keeps}
 use Rattle.rules.proofs.FitParts.{SecurityFits, SecuritiesFit, CashFits}
@@ -58,7 +58,7 @@ settled-fits client served claims kind units e f = go (mayGo served claims kind 
     go : (goes : Bool) → mayGo served claims kind units (e .vault) ≡ goes → EveningFits client (settleOne goes kind units e)
     go true m =
         let enough = leb (frozenOf (e .vault) kind + units) (effectiveOf (e .vault) kind) in
-        let b = both (served && enough) (covered claims (value (takenOut kind units (e .vault)))) m .0 in
+        let b = both (served && enough) (covers (value (takenOut kind units (e .vault))) claims) m .0 in
         taken-fits client (e .own) (e .vault) kind units (e .done + 1) (e .dropped) (f .securities) (f .cash)
         (leb-true (frozenOf (e .vault) kind + units) (effectiveOf (e .vault) kind) (both served enough b .1))
     go false m = record { securities = f .securities; cash = f .cash }

@@ -1,7 +1,7 @@
 -- Withdrawals on evenings with unpaid redemptions, what becomes of U, and its limit, computed. (02, ask 2; arts. 49, 52, 53)
 -- Assumes nothing.
 use mathlib.Core.Path.{_≡_, refl}
-use mathlib.Core.Bool.{Bool, true, false}
+use mathlib.Core.Bool.{Bool, true}
 use mathlib.Core.List.{List, [], _∷_, map}
 use Prim.Native.Nat.{ℕ}
 use lib.Dec.{leb}

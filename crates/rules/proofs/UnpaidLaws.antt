@@ -1,21 +1,21 @@
 -- U, and what it holds back: it grows by what is redeemed, a payment clears it, and an evening that lets anything go leaves it covered.
 -- (02, ask 2; arts. 49, 52, 53, 62)
 -- Assumes nothing.
-use mathlib.Core.Path.{_≡_, refl, sym, ap, _∙_}
+use mathlib.Core.Path.{_≡_, refl}
 use mathlib.Core.Bool.{Bool, true, false, cond, _&&_}
 use mathlib.Core.List.{List, [], _∷_}
 use mathlib.Core.Option.{Option, none, some}
 use Prim.Native.Nat.{ℕ, _*_, _+_, _≤_, _<_}
 use native.Mathlib.Omega.{arith}
 use borrow.Author.Tests.{leb-true}
-use lib.Dec.{T, leb, eqb}
+use lib.Dec.{leb}
 use lib.ListN.{getD}
 use Rattle.money.specs.Causes.{firstOf}
 use Rattle.money.specs.Days.{Calendar}
 use Rattle.money.specs.Units.{sheetFen}
 use Rattle.money.proofs.TwoTests.{both}
-use Rattle.rules.specs.Book.{Unpaid, Book, answer, freshBook}
-use Rattle.rules.specs.Unpaid.{unpaidSum, unpaidOf, clearedPaid, withCleared}
+use Rattle.rules.specs.Book.{Book, answer, freshBook}
+use Rattle.rules.specs.Unpaid.{unpaidSum, unpaidOf, withCleared}
 use Rattle.rules.specs.Trades.{Trade, outstanding, remaining}
 use Rattle.rules.specs.Vault.{effectiveOf, frozenOf, value, outstandingOf}
 use Rattle.rules.specs.Entry.{Event, Open, FundIn, FundOut, Size, Rate, Pledge, Freeze, Withdraw, Initial, Early, Pay, Close, Entry, Known}
@@ -29,7 +29,7 @@ use Rattle.rules.specs.Withdraw.{withdrawn}
 use Rattle.rules.specs.Initial.{initialBook}
 use Rattle.rules.specs.Early.{earlyBook}
 use Rattle.rules.specs.Pay.{fails, afterPay, payNumber}
-use Rattle.rules.specs.Close.{Evening, unpaidAtClose, allArrived, takenOut, claims, covered, mayGo, settleOne, settled, served, applications, evening, claimsAtClose, closedTable, closedBook, closeAnswer}
+use Rattle.rules.specs.Close.{Evening, unpaidAtClose, allArrived, takenOut, claimsOf, covers, mayGo, settleOne, settled, served, applications, evening, claimsAtClose, closedTable, closedBook, closeAnswer}
 use Rattle.rules.specs.Step.{outcome, causes, act, refuseOr, step, accepted}
 use Rattle.rules.specs.Redeemed.{amountRedeemed}
 use Rattle.rules.specs.Run.{Seen, see, run}
@@ -117,7 +117,7 @@ settled-covered served claims kind units e before = go (mayGo served claims kind
     go true m =
         let enough = leb (frozenOf (e .vault) kind + units) (effectiveOf (e .vault) kind) in
         let after = value (takenOut kind units (e .vault)) in
-        λ _. leb-true claims (sheetFen * after) (both (served && enough) (covered claims after) m .1)
+        λ _. leb-true claims (sheetFen * after) (both (served && enough) (covers after claims) m .1)
     go false m = before
 
 pub evening-covered : (book : Book) (claims : ℕ) → DoneCovered claims (evening book claims)
@@ -135,4 +135,4 @@ pub close-covered : (calendar : Calendar) (book : Book) (left table : List Trade
 unfolding closeAnswer closedBook closedTable claimsAtClose
 close-covered calendar book left table gone =
     rw (take-packed (book .trades) (remaining left) table, outstanding-remaining left)
-    (omega (arith, evening-covered book (claims (outstanding left) (unpaidSum (unpaidAtClose calendar book table))) gone))
+    (omega (arith, evening-covered book (claimsOf (outstanding left) (unpaidSum (unpaidAtClose calendar book table))) gone))

@@ -1,12 +1,11 @@
 -- Headroom, the short run, the status and the listing do not see U: two books that differ in U alone. (02, ask 2; art. 43)
 -- Assumes nothing.
 use mathlib.Core.Path.{_≡_, refl}
-use mathlib.Core.Bool.{Bool, true, false, not, _||_}
+use mathlib.Core.Bool.{Bool, true, false}
 use mathlib.Core.List.{List}
 use mathlib.Core.Option.{Option, none, some}
 use Prim.Native.Nat.{ℕ}
 use native.Mathlib.Omega.{arith}
-use lib.ListN.{length}
 use Rattle.money.specs.Causes.{firstOf}
 use Rattle.money.specs.Days.{Calendar}
 use Rattle.rules.specs.Book.{Unpaid, Vault, Book, Answer, answer, withUnpaid}

@@ -90,17 +90,17 @@ takenOut kind units vault = record {
 }
 
 -- "10,000 × O + U": what the pledge answers for, in fen (02, ask 2; art. 49)
-abbrev pub claims : (outstanding unpaid : ℕ) → ℕ
-claims outstanding unpaid = sheetFen * outstanding + unpaid
+abbrev pub claimsOf : (outstanding unpaid : ℕ) → ℕ
+claimsOf outstanding unpaid = sheetFen * outstanding + unpaid
 
--- "only if 10,000 × V afterwards is at least 10,000 × O + U"
-abbrev pub covered : (claims value : ℕ) → Bool
-covered claims value = leb claims (sheetFen * value)
+-- "only if 10,000 × V afterwards is at least 10,000 × O + U": a pledge of so many sheets covers the claims
+abbrev pub covers : (pledge claims : ℕ) → Bool
+covers pledge claims = leb claims (sheetFen * pledge)
 
 -- "done if the phase was Paid with no failed run, unfrozen units suffice", and V afterwards covers the claims
 unfoldable pub mayGo : (served : Bool) → (claims kind units : ℕ) → Vault → Bool
 mayGo served claims kind units vault =
-    served && leb (frozenOf vault kind + units) (effectiveOf vault kind) && covered claims (value (takenOut kind units vault))
+    served && leb (frozenOf vault kind + units) (effectiveOf vault kind) && covers (value (takenOut kind units vault)) claims
 
 -- "cash goes to own"
 abbrev pub doneOne : (kind units : ℕ) → Evening → Evening
@@ -138,7 +138,7 @@ evening book claims =
 
 -- the claims of an evening: O is that of the trades left as (b) begins, U that with this Close's maturities
 unfoldable pub claimsAtClose : Calendar → Book → (left table : List Trade) → ℕ
-claimsAtClose calendar book left table = claims (outstanding left) (unpaidSum (unpaidAtClose calendar book table))
+claimsAtClose calendar book left table = claimsOf (outstanding left) (unpaidSum (unpaidAtClose calendar book table))
 
 -- ---- (e) "trades with nothing left leave the table, order kept"
 

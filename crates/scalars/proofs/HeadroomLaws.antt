@@ -10,7 +10,7 @@ use lib.IntN.{pos, negsuc, subℕ}
 use lib.Signed.{ltZ}
 use Rattle.money.specs.Units.{sheetFen}
 use Rattle.rules.specs.Vault.{headroomOf}
-use Rattle.rules.specs.Close.{claims, covered}
+use Rattle.rules.specs.Close.{claimsOf, covers}
 use Rattle.rules.proofs.FoldLaws.{by-test}
 
 pub same-test : (a b c d : ℕ) → (a < b → c < d) → (b ≤ a → d ≤ c) → ltb a b ≡ ltb c d
@@ -39,17 +39,17 @@ module _ (size value outstanding : ℕ) where
 
 -- the claims, by the sheets that V has past O and the sheets that U takes
 module _ (value outstanding unpaid : ℕ) where
-  pub none-spare : value < outstanding → false ≡ covered (claims outstanding unpaid) value
-  none-spare h = sym (lt-leb (claims outstanding unpaid) (sheetFen * value) (omega arith))
+  pub none-spare : value < outstanding → false ≡ covers value (claimsOf outstanding unpaid)
+  none-spare h = sym (lt-leb (claimsOf outstanding unpaid) (sheetFen * value) (omega arith))
 
-  pub whole-sheets : outstanding ≤ value → unpaid % sheetFen ≡ 0 → leb (unpaid / sheetFen) (value - outstanding) ≡ covered (claims outstanding unpaid) value
+  pub whole-sheets : outstanding ≤ value → unpaid % sheetFen ≡ 0 → leb (unpaid / sheetFen) (value - outstanding) ≡ covers value (claimsOf outstanding unpaid)
   whole-sheets h even =
-      by-test (λ t. t ≡ covered (claims outstanding unpaid) value) (leb (unpaid / sheetFen) (value - outstanding))
-      (λ t. sym (le-leb (claims outstanding unpaid) (sheetFen * value) (omega (arith, leb-true (unpaid / sheetFen) (value - outstanding) t))))
-      (λ t. sym (lt-leb (claims outstanding unpaid) (sheetFen * value) (omega (arith, leb-false (unpaid / sheetFen) (value - outstanding) t))))
+      by-test (λ t. t ≡ covers value (claimsOf outstanding unpaid)) (leb (unpaid / sheetFen) (value - outstanding))
+      (λ t. sym (le-leb (claimsOf outstanding unpaid) (sheetFen * value) (omega (arith, leb-true (unpaid / sheetFen) (value - outstanding) t))))
+      (λ t. sym (lt-leb (claimsOf outstanding unpaid) (sheetFen * value) (omega (arith, leb-false (unpaid / sheetFen) (value - outstanding) t))))
 
-  pub part-of-a-sheet : outstanding ≤ value → (unpaid % sheetFen ≡ 0 → ⊥) → ltb (unpaid / sheetFen) (value - outstanding) ≡ covered (claims outstanding unpaid) value
+  pub part-of-a-sheet : outstanding ≤ value → (unpaid % sheetFen ≡ 0 → ⊥) → ltb (unpaid / sheetFen) (value - outstanding) ≡ covers value (claimsOf outstanding unpaid)
   part-of-a-sheet h odd =
-      by-test (λ t. t ≡ covered (claims outstanding unpaid) value) (ltb (unpaid / sheetFen) (value - outstanding))
-      (λ t. sym (le-leb (claims outstanding unpaid) (sheetFen * value) (omega (arith, ltb-true (unpaid / sheetFen) (value - outstanding) t))))
-      (λ t. sym (lt-leb (claims outstanding unpaid) (sheetFen * value) (omega (arith, odd, ltb-false (unpaid / sheetFen) (value - outstanding) t))))
+      by-test (λ t. t ≡ covers value (claimsOf outstanding unpaid)) (ltb (unpaid / sheetFen) (value - outstanding))
+      (λ t. sym (le-leb (claimsOf outstanding unpaid) (sheetFen * value) (omega (arith, ltb-true (unpaid / sheetFen) (value - outstanding) t))))
+      (λ t. sym (lt-leb (claimsOf outstanding unpaid) (sheetFen * value) (omega (arith, odd, ltb-false (unpaid / sheetFen) (value - outstanding) t))))

@@ -4,7 +4,7 @@ ghost use Prim.Native.Nat.{min};
 ghost use lib.IntN.{pos};
 ghost use lib.Signed.{ltZ};
 ghost use Rattle.rules.specs.Vault.{headroomOf};
-ghost use Rattle.rules.specs.Close.{claims, covered};
+ghost use Rattle.rules.specs.Close.{claimsOf, covers};
 ghost use Rattle.rules.specs.Cover.{coverRefused};
 use money::units::Fen;
 use money::units::SHEET_FEN;
@@ -42,7 +42,7 @@ pub fn above_headroom(size: Sheets, value: Sheets, outstanding: Sheets, count: S
 
 // Whether V covers the sheets outstanding and U, all in fen: by whole sheets, so that no product leaves 64 bits.
 pub fn covers(value: Sheets, outstanding: Sheets, unpaid: Fen) -> bool
-    ensures { λ r. ⌜ r ≡ covered (claims (outstanding .0) (unpaid .0)) (value .0) ⌝ }
+    ensures { λ r. ⌜ r ≡ covers (value .0) (claimsOf (outstanding .0) (unpaid .0)) ⌝ }
 {
     if value.0 < outstanding.0 {
         return false;

@@ -11,7 +11,7 @@ use lib.ListN.{length, getD}
 use Rattle.money.specs.Units.{fen}
 use Rattle.rules.specs.Folds.{inTurn}
 use Rattle.rules.specs.Vault.{securityAt, isCash, effectiveOf, value as valueOf}
-use Rattle.rules.specs.Close.{Evening, takenOut, claims, mayGo, settled, applications}
+use Rattle.rules.specs.Close.{Evening, takenOut, claimsOf, mayGo, settled, applications}
 use Rattle.rules.proofs.FitParts.{ApplicationFits, securities-fit, withdrawals-fit}
 use Rattle.core.specs.Types.{Security, Guarantee, Vault, Withdrawals}
 use Rattle.core.specs.Flat.{securitiesOf, vaultOf, eveningAt}
@@ -49,7 +49,7 @@ abbrev Inv-loop : tie.InvT-loop
 Inv-loop served outstanding unpaid kinds units count held₀ guarantee₀ own₀ value₀ done₀ dropped₀ i₀ held guarantee own value done dropped i =
     (i ≤ count)
     × (length held ≡ length held₀)
-    × (made own (vaultFrom held guarantee) done dropped ≡ inTurn i (turn served (claims (outstanding .0) (unpaid .0)) (asked kinds units count)) (made own₀ (vaultFrom held₀ guarantee₀) done₀ dropped₀))
+    × (made own (vaultFrom held guarantee) done dropped ≡ inTurn i (turn served (claimsOf (outstanding .0) (unpaid .0)) (asked kinds units count)) (made own₀ (vaultFrom held₀ guarantee₀) done₀ dropped₀))
     × (value ≡ valueOf (vaultFrom held guarantee))
 
 abbrev μ-loop : tie.MeasureT-loop
@@ -88,7 +88,7 @@ module _ (c : tie.In-loop Inv-loop μ-loop) where
   before = made (c .before .loop .own) vault (c .before .loop .done) (c .before .loop .dropped)
 
   abbrev claimed : ℕ
-  claimed = claims (s .args .outstanding .0) (s .args .unpaid .0)
+  claimed = claimsOf (s .args .outstanding .0) (s .args .unpaid .0)
 
   abbrev turns : ℕ → Evening → Evening
   turns = turn (s .args .served) claimed w
@@ -287,7 +287,7 @@ returns c =
     let e : c .before .loop .i ≡ s .args .count = omega arith in
     let first = eveningAt (s .args .begun) (securitiesOf (s .args .held .now)) in (
       c .before .loop .inv .2
-          ∙ ap (λ n. inTurn n (turn (s .args .served) (claims (s .args .outstanding .0) (s .args .unpaid .0)) (asked (s .args .kinds .now) (s .args .units .now) (s .args .count))) first) e,
+          ∙ ap (λ n. inTurn n (turn (s .args .served) (claimsOf (s .args .outstanding .0) (s .args .unpaid .0)) (asked (s .args .kinds .now) (s .args .units .now) (s .args .count))) first) e,
       c .before .loop .inv .3,
     )
 

@@ -39,8 +39,8 @@ falls-short-requires c κs =
     let s : tie.Start = search needs in
     cleared-fits _ (s .pre .0)
 
-unpaid-requires : tie.Need-unpaid-requires
-unpaid-requires c κs = search needs
+not-made-requires : tie.Need-not-made-requires
+not-made-requires c κs = search needs
 
 answered-requires-2 : tie.Need-answered-requires-2
 answered-requires-2 c κs = search needs
@@ -49,7 +49,7 @@ returns-2 : tie.Need-returns-2
 returns-2 c rows =
     let past1 : tie.Else1 = search needs in
     let q = c .before .before in
-    rw (c .answered2 .ensures, c .before .unpaid .ensures rows, none-applies past1 rows, sym (q .before .falls-short .ensures) ∙ q .if2 .taken)
+    rw (c .answered2 .ensures, c .before .not-made .ensures rows, none-applies past1 rows, sym (q .before .falls-short .ensures) ∙ q .if2 .taken)
 
 paid-requires : tie.Need-paid-requires
 paid-requires c κs =
@@ -73,7 +73,7 @@ pay-spec =
     answered-requires
     returns
     falls-short-requires
-    unpaid-requires
+    not-made-requires
     answered-requires-2
     returns-2
     paid-requires

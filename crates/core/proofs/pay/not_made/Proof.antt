@@ -1,7 +1,7 @@
 use borrow.Author.Needs.{needs}
 use Rattle.rules.specs.Pay.{afterPay}
-use Rattle.core.proofs.pay.unpaid.Statement.{statement}
-use Rattle.core.proofs.pay.unpaid.Tie as tie
+use Rattle.core.proofs.pay.not_made.Statement.{statement}
+use Rattle.core.proofs.pay.not_made.Tie as tie
 
 failed-more-requires : tie.Need-failed-more-requires
 failed-more-requires c κs = search needs
@@ -13,5 +13,5 @@ returns : tie.Need-returns
 unfolding afterPay
 returns c rows = rw (c .paid-standing .ensures, c .before .failed-more .ensures)
 
-pub unpaid-spec : {M : Type 1} → statement M
-unpaid-spec = tie.close (tie.spec failed-more-requires paid-standing-requires returns)
+pub not-made-spec : {M : Type 1} → statement M
+not-made-spec = tie.close (tie.spec failed-more-requires paid-standing-requires returns)
