@@ -2,11 +2,10 @@
 //! leave the same.
 
 use model::answer::Answer;
-use model::book::{Book, Trade};
-use model::cases::ledger::Ledger;
+use model::book::Trade;
+use model::cases::ledger::{Ledger, Step};
 use model::event::{Event, EVENT_BYTES};
 use model::journal::Line;
-use model::step;
 
 use crate::proved::book;
 use crate::proved::lent::{self, Rows};
@@ -64,16 +63,16 @@ pub fn both_run(ledger: &mut Ledger, events: &[[u8; EVENT_BYTES]]) -> Result<Vec
     for event in events {
         single.apply(&ledger.calendar, event);
     }
-    let lines = both_run_watched(ledger, events, |_, _| {});
+    let lines = both_run_watched(ledger, events, |_| {});
     single.assert_like(ledger);
     lines
 }
 
-/// A run on both sides; `watch` sees the model's book and table after every event.
+/// A run on both sides; `watch` sees every step of the model's run.
 pub fn both_run_watched(
     ledger: &mut Ledger,
     events: &[[u8; EVENT_BYTES]],
-    watch: impl FnMut(&Book, &[Trade]),
+    watch: impl FnMut(Step),
 ) -> Result<Vec<Line>, u8> {
     let mut lent = Lent::of(ledger);
     let got = lent::run(&ledger.calendar, &mut lent.rows, &mut lent.table, events.as_flattened());
@@ -97,16 +96,15 @@ fn assert_same_lines(got: &Result<Vec<Line>, u8>, wanted: &Result<Vec<Line>, u8>
 fn lines(
     ledger: &mut Ledger,
     events: &[[u8; EVENT_BYTES]],
-    mut watch: impl FnMut(&Book, &[Trade]),
+    mut watch: impl FnMut(Step),
 ) -> Result<Vec<Line>, u8> {
     if !ledger.is_fit() {
         return Err(1);
     }
-    let Ledger { calendar, book, table } = ledger;
     let mut lines = Vec::with_capacity(events.len());
-    step::run(calendar, book, table, events, |_, answer, book, table| {
-        lines.push(Line::after(answer, book, table));
-        watch(book, table);
+    ledger.run(events, |step| {
+        lines.push(Line::after(step.answer, step.after, step.table));
+        watch(step);
     });
     Ok(lines)
 }

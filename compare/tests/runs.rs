@@ -2,13 +2,12 @@
 //! answer, headroom, O, own, client and guarantee cash after every event.
 
 use compare::{judge, proved, BAD_LENGTHS, UNWRITTEN};
-use model::cases::ledger::Ledger;
+use model::cases::ledger::{Ledger, Step};
 use model::coverage::evenings::Evenings;
 use model::coverage::Coverage;
 use model::event::EVENT_BYTES;
 use model::generator::{corpus, generate_as, Profile};
 use model::journal::{parse, Journal, Line};
-use model::step;
 
 /// What was met.
 #[derive(Default)]
@@ -20,13 +19,10 @@ struct Met {
 /// What the model says of each event.
 fn expected(journal: &Journal, met: &mut Met) -> Vec<Line> {
     let mut lines = Vec::with_capacity(journal.events.len());
-    let Ledger { calendar, mut book, mut table } = Ledger::fresh(&journal.calendar);
-    let mut before = book.clone();
-    step::run(&calendar, &mut book, &mut table, journal.events, |event, answer, book, table| {
+    Ledger::fresh(&journal.calendar).run(journal.events, |Step { event, answer, before, after, table }| {
         met.coverage.record(event, answer.number);
-        met.evenings.record(&before, book, table);
-        before.clone_from(book);
-        lines.push(Line::after(answer, book, table));
+        met.evenings.record(before, after, table);
+        lines.push(Line::after(answer, after, table));
     });
     lines
 }

@@ -5,8 +5,7 @@ use std::collections::HashSet;
 use std::fmt;
 use std::hash::{DefaultHasher, Hash, Hasher};
 
-use model::book::{Book, Trade};
-use model::cases::ledger::Ledger;
+use model::cases::ledger::{Ledger, Step};
 use model::coverage::evenings::Evenings;
 use model::coverage::{allowed, Coverage};
 use model::generator::generate;
@@ -97,11 +96,9 @@ impl Journals {
         let length = random.pick(&[70, JOURNAL_EVENTS]);
         for events in journal.events.chunks(length) {
             fill_spare_slots(&mut ledger);
-            let mut before = ledger.book.clone();
-            let watch = |book: &Book, table: &[Trade]| {
-                self.fullest_table = self.fullest_table.max(book.trades);
-                self.evenings.record(&before, book, table);
-                before.clone_from(book);
+            let watch = |step: Step| {
+                self.fullest_table = self.fullest_table.max(step.after.trades);
+                self.evenings.record(step.before, step.after, step.table);
             };
             both_run_watched(&mut ledger, events, watch).expect("the book is fit");
         }

@@ -41,10 +41,12 @@ const EVENINGS: [u64; 19 * 5] = [
     CLOSE, 0, 0, 0, 0,
 ];
 
-// Headroom tells what went. On day 2, 60 sheets stand and 40 are unpaid: 80 units go, 8 go and leave V at 100, equal, and 1 is dropped. On
+// From day 2 on; headroom tells what went. The redemption frees it on the spot. That evening 60 sheets stand and 40 are unpaid: 80 units go, 8 go and leave V at 100, equal, and 1 is dropped. On
 // day 3 that one goes, for the clients are paid. On day 4 none stands: 44 units would leave V at 60 and are dropped, 43 leave it at 61.
 #[rattlefmt::skip]
-const EVENINGS_LINES: [u64; 14 * 7] = [
+const EVENINGS_LINES: [u64; 16 * 7] = [
+    0, 0, 80, 100, 5_000_000, 3_000_000, 0,
+    0, 0, 120, 60, 5_000_000, 3_000_000, 0,
     0, 0, 120, 60, 5_000_000, 3_000_000, 0,
     0, 0, 120, 60, 5_000_000, 3_000_000, 0,
     0, 0, 120, 60, 5_000_000, 3_000_000, 0,

@@ -6,9 +6,8 @@ use mathlib.Core.List.{List, map}
 use mathlib.Core.Option.{Option, none, some}
 use Prim.Native.Nat.{ℕ}
 use native.Mathlib.Omega.{arith}
-use borrow.Author.Tests.{leb-true, leb-false, le-ltb, lt-ltb}
 use lib.Dec.{ltb}
-use lib.IntN.{ℤ, natAbs}
+use lib.IntN.{natAbs}
 use lib.ListN.{length, length-map, take, drop}
 use lib.Seq.{take-at, drop-at}
 use Rattle.money.specs.declared.units.Sheets.{Sheets}
@@ -33,25 +32,12 @@ use Rattle.core.specs.declared.evening.EveningScalars.{EveningScalars}
 use Rattle.core.specs.Redemption.{Redeemed, maturityOf}
 use Rattle.core.specs.Flat.{Rows, rowsOf, tradesTo, tradesOf, bookOf, eveningAt, appliedAt, closedBy, tableBy, Kept}
 use Rattle.core.proofs.Column.{first-holds, second-holds, neither-holds}
+use Rattle.core.proofs.NetLaws.{over-net, within-net}
 use Rattle.core.proofs.FitFacts.{fit-in-use}
 use Rattle.core.proofs.FlatLaws.{length-trades, take-trades}
 use Rattle.core.proofs.EveningLaws.{Kept as KeptEvening}
 
 -- ---- the causes, by the code's tests in their order
-
-fails : (b : Bool) → not b ≡ true → b ≡ false
-fails true e = sym e
-fails false e = refl
-
-pub holds : (b : Bool) → not b ≡ false → b ≡ true
-holds true e = refl
-holds false e = sym e
-
-outside : (net : ℤ) → not (netFit net) ≡ true → ltb netLimit (natAbs net) ≡ true
-outside net e = lt-ltb netLimit (natAbs net) (leb-false (natAbs net) netLimit (fails (netFit net) e))
-
-inside : (net : ℤ) → not (netFit net) ≡ false → ltb netLimit (natAbs net) ≡ false
-inside net e = le-ltb netLimit (natAbs net) (leb-true (natAbs net) netLimit (holds (netFit net) e))
 
 module _ (calendar : Calendar) (book : Book) (table : List Trade) where
   pub not-now : not (mayClose (book .standing)) ≡ true → firstOf (closeCauses calendar book table) ≡ some 4
@@ -69,24 +55,24 @@ module _ (calendar : Calendar) (book : Book) (table : List Trade) where
   unpaid-over = passes (maturedAmount calendar book table) (book .sums .unpaid)
 
   module _ (may : not (mayClose (book .standing)) ≡ false) where
-    pub today-outside : not (netFit (netWithMatured calendar book table)) ≡ true → firstOf (closeCauses calendar book table) ≡ some 14
+    pub today-outside : netFit (netWithMatured calendar book table) ≡ false → firstOf (closeCauses calendar book table) ≡ some 14
     unfolding closeCauses
-    today-outside e = skip _ _ may (hit _ _ (first-holds unpaid-over (first-holds cleared-over (outside (netWithMatured calendar book table) e))))
+    today-outside e = skip _ _ may (hit _ _ (first-holds unpaid-over (first-holds cleared-over (over-net (netWithMatured calendar book table) e))))
 
-    pub cleared-outside : not (netFit (clearedAtClose calendar book table)) ≡ true → firstOf (closeCauses calendar book table) ≡ some 14
+    pub cleared-outside : netFit (clearedAtClose calendar book table) ≡ false → firstOf (closeCauses calendar book table) ≡ some 14
     unfolding closeCauses
-    cleared-outside e = skip _ _ may (hit _ _ (first-holds unpaid-over (second-holds today-over (outside (clearedAtClose calendar book table) e))))
+    cleared-outside e = skip _ _ may (hit _ _ (first-holds unpaid-over (second-holds today-over (over-net (clearedAtClose calendar book table) e))))
 
     pub unpaid-past : unpaid-over ≡ true → firstOf (closeCauses calendar book table) ≡ some 14
     unfolding closeCauses
     unpaid-past e = skip _ _ may (hit _ _ (second-holds (today-over || cleared-over) e))
 
-    pub may-be-closed : not (netFit (netWithMatured calendar book table)) ≡ false → not (netFit (clearedAtClose calendar book table)) ≡ false
+    pub may-be-closed : netFit (netWithMatured calendar book table) ≡ true → netFit (clearedAtClose calendar book table) ≡ true
         → unpaid-over ≡ false → firstOf (closeCauses calendar book table) ≡ none
     unfolding closeCauses
     may-be-closed today cleared unpaid =
         skip _ _ may
-        (skip _ _ (neither-holds (neither-holds (inside (netWithMatured calendar book table) today) (inside (clearedAtClose calendar book table) cleared)) unpaid) clear)
+        (skip _ _ (neither-holds (neither-holds (within-net (netWithMatured calendar book table) today) (within-net (clearedAtClose calendar book table) cleared)) unpaid) clear)
 
 -- ---- (a) what is planned over the flat table is what matures
 

@@ -20,6 +20,7 @@ use Rattle.rules.specs.Vault.{securityAt, isCash, effectiveOf, frozenOf, value}
 use Rattle.rules.specs.Close.{Evening, fewer, fewerCash, takenOut, covers, mayGo, doneOne, settleOne, settled}
 use Rattle.money.proofs.TwoTests.{both}
 use Rattle.rules.proofs.FoldLaws.{by-test, in-turn-keeps, at-set}
+use Rattle.rules.proofs.EveningFit.{gone}
 use Rattle.rules.proofs.FitParts.{SecurityFits, SecuritiesFit, fit-securities}
 use Rattle.core.specs.Types.{Security, Guarantee, Vault, Withdrawals}
 use Rattle.core.specs.Figures.{valueBound}
@@ -79,11 +80,7 @@ module _ (served : Bool) (claims kind units : ℕ) (vault : Vault) where
 
   -- what goes was unfrozen
   pub unfrozen : mayGo served claims kind units vault ≡ true → frozenOf vault kind + units ≤ effectiveOf vault kind
-  unfolding mayGo
-  unfrozen e =
-      let enough = leb (frozenOf vault kind + units) (effectiveOf vault kind) in
-      let b = both (served && enough) (covers (value (takenOut kind units vault)) claims) e .0 in
-      leb-true (frozenOf vault kind + units) (effectiveOf vault kind) (both served enough b .1)
+  unfrozen e = gone served claims kind units vault e .unfrozen
 
 -- ---- one kind looked at, and written back with units less
 

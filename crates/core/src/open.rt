@@ -113,7 +113,7 @@ fn fallback_sum(calendar: &[u32], scalars: Scalars, table: &[u64], after: Standi
     plan.amount
 }
 
-// On turning terminated the table is emptied into the cleared net and U's cleared part, unless either would leave its limit.
+// On turning terminated the table is emptied into the cleared net and U's cleared part, unless the net or U would leave its limit.
 fn terminated(calendar: &[u32], scalars: Scalars, table: &mut [u64], after: Standing) -> Done
     requires { ⌜ Ending (now calendar) scalars (tradesOf (now table)) after ⌝ }
     ensures { λ r.

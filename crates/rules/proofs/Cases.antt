@@ -34,8 +34,8 @@ initial count contract price fallback due =
     Known (Initial (record { contract = record { 0 = contract }; sheets = sheets count; price = ticks price; fallback = ticks fallback; due = due }))
 
 -- up to the second Open: cover of 180 sheets, no trade yet
-abbrev pub covers : List Entry
-covers =
+abbrev pub cover180 : List Entry
+cover180 =
     Known (Size (sheets 1000))
     ∷ Known (FundIn Own (fen 5000000))
     ∷ Known (FundIn Client (fen 3000000))
@@ -54,7 +54,7 @@ abbrev pub _then_ : List Entry → List Entry → List Entry
 infixr 20 _then_
 abbrev pub journal : List Entry
 journal =
-    covers
+    cover180
     then (initial 100 7 3650 1000 4 ∷ Known Pay ∷ Known Close ∷ Known Open ∷ [])
     then (initial 90 8 3650 1000 6 ∷ Known Pay ∷ Known Close ∷ [])
 
@@ -152,7 +152,7 @@ daysCounted =
 
 -- a trade begun on day 3, paid on day 6
 abbrev fromDay3 : List Entry
-fromDay3 = covers then (Known Pay ∷ Known Close ∷ Known Open ∷ initial 100 9 3650 1000 6 ∷ Known Pay ∷ Known Close ∷ Known Open ∷ Known Pay ∷ [])
+fromDay3 = cover180 then (Known Pay ∷ Known Close ∷ Known Open ∷ initial 100 9 3650 1000 6 ∷ Known Pay ∷ Known Close ∷ Known Open ∷ Known Pay ∷ [])
 
 -- every day trades
 abbrev pub daily : Calendar
@@ -161,7 +161,7 @@ daily = 255 ∷ []
 -- the clients hold nothing, so their payment of the initial amount fails
 abbrev pub failedOnce : List Entry
 failedOnce =
-    covers
+    cover180
     then (Known (FundOut Client (fen 3000000)) ∷ initial 100 7 3650 1000 6 ∷ Known Pay ∷ Known Close ∷ Known Open ∷ Known Pay ∷ Known Close ∷ [])
 
 abbrev pub failedTwice : List Entry
@@ -178,8 +178,8 @@ cases =
     ∷ (M5 is pos (value (after week twoKinds .vault)) ∷ [] gives pos 8 ∷ [])
     ∷ (M6 is pos (kindWorth 32 19999 0 0 .sheets .0) ∷ [] gives pos 1 ∷ [])
     -- "headroom 180, initial 180 done", with headroom afterwards; "190: 12"
-    ∷ (M7 is headroomAfter week covers ∷ numberTo week covers (initial 180 7 3650 1000 4) ∷ headroomAfter week (covers then (initial 180 7 3650 1000 4 ∷ [])) ∷ [] gives pos 180 ∷ pos 0 ∷ pos 0 ∷ [])
-    ∷ (M8 is headroomAfter week covers ∷ numberTo week covers (initial 190 7 3650 1000 4) ∷ [] gives pos 180 ∷ pos 12 ∷ [])
+    ∷ (M7 is headroomAfter week cover180 ∷ numberTo week cover180 (initial 180 7 3650 1000 4) ∷ headroomAfter week (cover180 then (initial 180 7 3650 1000 4 ∷ [])) ∷ [] gives pos 180 ∷ pos 0 ∷ pos 0 ∷ [])
+    ∷ (M8 is headroomAfter week cover180 ∷ numberTo week cover180 (initial 190 7 3650 1000 4) ∷ [] gives pos 180 ∷ pos 12 ∷ [])
     -- "contract 7 above matures at the Close of day 6 over 7 - 3 = 4 days": the day, the days, the sheets, the net that is cleared
     ∷ (M9 is pos (today (after week untilDay6)) ∷ pos daysCounted ∷ pos (answerTo week untilDay6 (Known Close) .matured .0) ∷ after week closedDay6 .nets .cleared .0 ∷ [] gives pos 6 ∷ pos 4 ∷ pos 100 ∷ pos 1000400 ∷ [])
     -- "failed runs 1 and 2 open suspended and terminated"

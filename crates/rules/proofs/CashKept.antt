@@ -22,6 +22,7 @@ use Rattle.rules.specs.Freeze.{cashFrozen, frozen}
 use Rattle.rules.specs.Pay.{payerHolds, moved}
 use Rattle.rules.specs.Close.{Evening, fewerCash, takenOut, mayGo, settleOne, settled, applications, allArrived, claimsAtClose, evening, closedBook}
 use Rattle.rules.specs.Demand3.{WholeOrNothing}
+use Rattle.rules.proofs.EveningFit.{gone}
 use Rattle.rules.proofs.Signed.{same, sum-parts, diff-parts}
 use Rattle.money.proofs.TwoTests.{both}
 
@@ -96,17 +97,10 @@ module _ (cash : Cash) where
 abbrev movable : Evening → ℕ
 movable evening = evening .own .0 + evening .vault .guarantee .effective .0 + evening .vault .guarantee .arriving .0
 
--- what goes is effective
-enough-to-go : (served : Bool) (claims kind units : ℕ) (vault : Vault) → mayGo served claims kind units vault ≡ true → units ≤ effectiveOf vault kind
-unfolding mayGo
-enough-to-go served claims kind units vault h =
-    let suffices : leb (frozenOf vault kind + units) (effectiveOf vault kind) ≡ true = both served _ (both (served && leb (frozenOf vault kind + units) (effectiveOf vault kind)) _ h .0) .1 in
-    omega (arith, leb-true (frozenOf vault kind + units) (effectiveOf vault kind) suffices)
-
 settled-keeps-cash : (served : Bool) (claims kind units : ℕ) (evening : Evening) → movable (settled served claims kind units evening) ≡ movable evening
 unfolding takenOut
 settled-keeps-cash served claims kind units evening =
-    go (mayGo served claims kind units (evening .vault)) (enough-to-go served claims kind units (evening .vault))
+    go (mayGo served claims kind units (evening .vault)) (λ goes. omega (arith, gone served claims kind units (evening .vault) goes .unfrozen))
   where
     by-kind : (own other : ℕ) (guarantee : Guarantee) (cash : Bool) → units ≤ cond cash (guarantee .effective .0) other
         → cond cash (own + units) own + cond cash (fewerCash units guarantee) guarantee .effective .0 + cond cash (fewerCash units guarantee) guarantee .arriving .0 ≡ own + guarantee .effective .0 + guarantee .arriving .0

@@ -2,13 +2,13 @@
 -- Assumes nothing.
 use mathlib.Core.Path.{_≡_, refl}
 use mathlib.Core.Bool.{Bool, true, false, cond, _&&_}
-use Prim.Native.Nat.{ℕ, _+_, _≤_}
+use Prim.Native.Nat.{ℕ, _+_, _*_, _≤_}
 use native.Mathlib.Omega.{arith}
 use borrow.Author.Tests.{leb-true}
 use lib.Dec.{leb}
 use lib.ListN.{getD, List·getD-map}
 use Rattle.money.specs.declared.units.Fen.{Fen}
-use Rattle.money.specs.Units.{fen}
+use Rattle.money.specs.Units.{fen, sheetFen}
 use Rattle.rules.specs.Book.{Security, Vault, Book, noSecurity}
 use Rattle.rules.specs.Vault.{securityAt, isCash, effectiveOf, frozenOf, value}
 use Rattle.rules.specs.Close.{Evening, securityArrived, allArrived, fewer, fewerCash, takenOut, covers, mayGo, settleOne, settled, served, applications, evening}
@@ -51,16 +51,28 @@ taken-fits client own vault kind units done dropped s c h = record {
       (λ b. let enough = rw b at h in record { sum = omega (arith, c .sum); free = omega arith }) (λ _. c);
 }
 
-settled-fits : (client : Fen) (served : Bool) (claims kind units : ℕ) (e : Evening) → EveningFits client e → EveningFits client (settled served claims kind units e)
+-- what goes was unfrozen, and leaves the claims covered
+pub record Gone (claims kind units : ℕ) (vault : Vault) : Type 0 where
+  pub unfrozen : frozenOf vault kind + units ≤ effectiveOf vault kind
+  pub covered : claims ≤ sheetFen * value (takenOut kind units vault)
+
+pub gone : (served : Bool) (claims kind units : ℕ) (vault : Vault) → mayGo served claims kind units vault ≡ true → Gone claims kind units vault
 unfolding mayGo
+gone served claims kind units vault goes =
+    let enough = leb (frozenOf vault kind + units) (effectiveOf vault kind) in
+    let after = value (takenOut kind units vault) in
+    let tests = both (served && enough) (covers after claims) goes in
+    record {
+      unfrozen = leb-true (frozenOf vault kind + units) (effectiveOf vault kind) (both served enough (tests .0) .1);
+      covered = leb-true claims (sheetFen * after) (tests .1);
+    }
+
+settled-fits : (client : Fen) (served : Bool) (claims kind units : ℕ) (e : Evening) → EveningFits client e → EveningFits client (settled served claims kind units e)
 settled-fits client served claims kind units e f = go (mayGo served claims kind units (e .vault)) refl
   where
     go : (goes : Bool) → mayGo served claims kind units (e .vault) ≡ goes → EveningFits client (settleOne goes kind units e)
     go true m =
-        let enough = leb (frozenOf (e .vault) kind + units) (effectiveOf (e .vault) kind) in
-        let b = both (served && enough) (covers (value (takenOut kind units (e .vault))) claims) m .0 in
-        taken-fits client (e .own) (e .vault) kind units (e .done + 1) (e .dropped) (f .securities) (f .cash)
-        (leb-true (frozenOf (e .vault) kind + units) (effectiveOf (e .vault) kind) (both served enough b .1))
+        taken-fits client (e .own) (e .vault) kind units (e .done + 1) (e .dropped) (f .securities) (f .cash) (gone served claims kind units (e .vault) m .unfrozen)
     go false m = record { securities = f .securities; cash = f .cash }
 
 pub evening-fits : (book : Book) (claims : ℕ) → SecuritiesFit (book .vault) → CashFits (book .cash) (book .vault .guarantee) → EveningFits (book .cash .client) (evening book claims)

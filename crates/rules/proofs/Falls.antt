@@ -19,7 +19,7 @@ use Rattle.rules.specs.Demand3.{isPay, told, toldOf, PaymentRight, AllBe
 use Rattle.money.proofs.TwoTests.{both}
 use Rattle.rules.proofs.Opened.{everyRule}
 use Rattle.rules.proofs.Demand3Proof.{demand3}
-use Rattle.rules.proofs.Cases.{_then_, noTrades, daily, initial, covers, failedTwice}
+use Rattle.rules.proofs.Cases.{_then_, noTrades, daily, initial, cover180, failedTwice}
 
 -- ---- a ledger of any kind: what it remembers beside the book and the table, and what it leaves of an entry
 
@@ -58,7 +58,7 @@ begunLessRedeemed list =
 -- 100 and 50 sheets are begun on day 1, 90 more are refused; they are paid on day 2, and the 100 mature
 abbrev firstBatch : List Entry
 firstBatch =
-    covers
+    cover180
     then (initial 100 7 3650 1000 2 ∷ initial 90 8 3650 1000 6 ∷ initial 50 9 3650 1000 6 ∷ [])
     then (Known Pay ∷ Known Close ∷ Known Open ∷ [])
     then (Known Pay ∷ Known Close ∷ Known Open ∷ [])

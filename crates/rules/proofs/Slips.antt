@@ -16,7 +16,7 @@ use Rattle.rules.specs.Close.{shortMore}
 use Rattle.rules.specs.Run.{Seen}
 use Rattle.rules.specs.Demand3.{seenFrom}
 use Rattle.rules.proofs.Opened.{everyRule}
-use Rattle.rules.proofs.Cases.{_then_, noTrades, daily, initial, covers, failedOnce, statusNumber}
+use Rattle.rules.proofs.Cases.{_then_, noTrades, daily, initial, cover180, failedOnce, statusNumber}
 
 -- ---- the status at Open, over every old status and both runs (arts. 69, 70)
 
@@ -68,7 +68,7 @@ abbrev early : (contract : ℕ) → Entry
 early contract = Known (Early (record { 0 = contract }) (sheets 10) (ticks 1825))
 
 -- frozen units do not count; kind 32 has no rate to set, kind 33 is no kind; a refused Close carries 0 for all; what does not decode is 2
-pub units-and-kinds : rowsAfter daily covers (Known (Freeze 0 50) ∷ Known (Rate 32 9000) ∷ Known (Rate 31 9000) ∷ Known (Pledge 33 1) ∷ Known Close ∷ Undecodable ∷ []) ≡
+pub units-and-kinds : rowsAfter daily cover180 (Known (Freeze 0 50) ∷ Known (Rate 32 9000) ∷ Known (Rate 31 9000) ∷ Known (Pledge 33 1) ∷ Known Close ∷ Undecodable ∷ []) ≡
     (0 ∷ 0 ∷ 0 ∷ 135 ∷ 5000000 ∷ [])
     ∷ (3 ∷ 0 ∷ 0 ∷ 135 ∷ 5000000 ∷ [])
     ∷ (0 ∷ 0 ∷ 0 ∷ 135 ∷ 5000000 ∷ [])
@@ -87,7 +87,7 @@ abbrev dueIn : ℕ → Entry
 dueIn days = initial 10 7 3650 1000 (1 + days)
 
 -- 15 sheets are no multiple of 10, 10 are done; due 366 days ahead does not fit, nor does today, 365 does
-pub sheets-and-terms : rowsAfter year covers (initial 15 7 3650 1000 4 ∷ initial 10 8 3650 1000 4 ∷ dueIn 366 ∷ dueIn 0 ∷ dueIn 365 ∷ []) ≡
+pub sheets-and-terms : rowsAfter year cover180 (initial 15 7 3650 1000 4 ∷ initial 10 8 3650 1000 4 ∷ dueIn 366 ∷ dueIn 0 ∷ dueIn 365 ∷ []) ≡
     (7 ∷ 0 ∷ 0 ∷ 180 ∷ 5000000 ∷ [])
     ∷ (0 ∷ 0 ∷ 0 ∷ 170 ∷ 5000000 ∷ [])
     ∷ (9 ∷ 0 ∷ 0 ∷ 170 ∷ 5000000 ∷ [])
@@ -141,17 +141,17 @@ unfolding rowsBy
 withdrawals = refl
 
 -- an application on a day whose payment failed
-abbrev appliedUnpaid : List Entry
-appliedUnpaid =
+abbrev appliedNotPaid : List Entry
+appliedNotPaid =
     withCash
     then (Known (FundOut Client (fen 3000000)) ∷ initial 100 7 3650 1000 6 ∷ Known Pay ∷ Known Close ∷ Known Open ∷ Known (Withdraw 0 50) ∷ Known Pay ∷ [])
 
 -- on such a day every application is dropped
-pub unpaid : rowsAfter daily appliedUnpaid (Known Close ∷ []) ≡
+pub not-paid : rowsAfter daily appliedNotPaid (Known Close ∷ []) ≡
     (0 ∷ 0 ∷ 1 ∷ 81 ∷ 4990000 ∷ [])
     ∷ []
 unfolding rowsBy
-unpaid = refl
+not-paid = refl
 
 -- ---- "Byte 0 code": a code is read back from the event that it gives, and what is no code gives none
 

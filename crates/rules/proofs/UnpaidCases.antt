@@ -9,12 +9,12 @@ use Rattle.money.specs.Units.{fen, sheets, ticks}
 use Rattle.money.specs.Days.{Calendar}
 use Rattle.rules.specs.Book.{Book, withUnpaid}
 use Rattle.rules.specs.Vault.{value, outstandingOf}
-use Rattle.rules.specs.Entry.{Open, Withdraw, Early, Pay, Close, Entry, Known}
+use Rattle.rules.specs.Entry.{Client, Open, FundOut, Withdraw, Early, Pay, Close, Entry, Known}
 use Rattle.rules.specs.Close.{takenOut}
 use Rattle.rules.specs.Step.{step}
 use Rattle.rules.specs.Run.{Seen, lastBook, lastTable}
 use Rattle.rules.proofs.Opened.{everyRule}
-use Rattle.rules.proofs.Cases.{_then_, daily, initial, covers, failedOnce, failedTwice, after, tableAfter}
+use Rattle.rules.proofs.Cases.{_then_, daily, initial, cover180, failedTwice, after, tableAfter}
 use Rattle.rules.proofs.Slips.{rowsBy}
 
 -- the answer's number, applications done and dropped, and U: its part of today, its cleared part
@@ -32,7 +32,7 @@ early count price = Known (Early (record { 0 = 7 }) (sheets count) (ticks price)
 
 -- V is 180; contract 7 runs with 100 sheets since yesterday; today 40 of them are redeemed at some price
 abbrev redeemed40 : (price : ℕ) → List Entry
-redeemed40 price = covers then (initial 100 7 3650 1000 4 ∷ Known Pay ∷ Known Close ∷ Known Open ∷ early 40 price ∷ [])
+redeemed40 price = cover180 then (initial 100 7 3650 1000 4 ∷ Known Pay ∷ Known Close ∷ Known Open ∷ early 40 price ∷ [])
 
 -- units of kind 0 applied for, then the day's end
 abbrev evening : (units : ℕ) → List Entry
@@ -105,15 +105,23 @@ pub net-below-zero : rowsBy rowOf daily (redeemed40 0) (initial 80 8 3650 1000 5
 unfolding rowsBy
 net-below-zero = refl
 
+-- the clients hold nothing, so their payment of the initial amount fails; of it 10 sheets were redeemed on its first day
+abbrev owedFor10 : List Entry
+owedFor10 =
+    cover180
+    then (Known (FundOut Client (fen 3000000)) ∷ initial 100 7 3650 1000 6 ∷ early 10 0 ∷ Known Pay ∷ Known Close ∷ Known Open ∷ [])
+
 -- a payment that fails keeps both parts; the second failure terminates, and contract 7 joins the cleared part at its fallback price,
--- 90 sheets over 3 days; there it stays, for Pay is 5
-pub failed-and-terminated : rowsBy rowOf daily failedOnce (Known Open ∷ early 10 0 ∷ Known Pay ∷ Known Close ∷ Known Open ∷ Known Pay ∷ []) ≡
-    (0 ∷ 0 ∷ 0 ∷ 0 ∷ 0 ∷ [])
-    ∷ (0 ∷ 0 ∷ 0 ∷ 100000 ∷ 0 ∷ [])
-    ∷ (99 ∷ 0 ∷ 0 ∷ 100000 ∷ 0 ∷ [])
-    ∷ (0 ∷ 0 ∷ 0 ∷ 0 ∷ 100000 ∷ [])
-    ∷ (0 ∷ 0 ∷ 0 ∷ 0 ∷ 1000074 ∷ [])
-    ∷ (5 ∷ 0 ∷ 0 ∷ 0 ∷ 1000074 ∷ [])
+-- 80 sheets over 3 days; there it stays, for Pay is 5
+pub failed-and-terminated : rowsBy rowOf daily owedFor10 (early 10 0 ∷ Known Pay ∷ Known Close ∷ Known Open ∷ Known Pay ∷ Known Close ∷ Known Open ∷ Known Pay ∷ []) ≡
+    (0 ∷ 0 ∷ 0 ∷ 100000 ∷ 100000 ∷ [])
+    ∷ (99 ∷ 0 ∷ 0 ∷ 100000 ∷ 100000 ∷ [])
+    ∷ (0 ∷ 0 ∷ 0 ∷ 0 ∷ 200000 ∷ [])
+    ∷ (0 ∷ 0 ∷ 0 ∷ 0 ∷ 200000 ∷ [])
+    ∷ (99 ∷ 0 ∷ 0 ∷ 0 ∷ 200000 ∷ [])
+    ∷ (0 ∷ 0 ∷ 0 ∷ 0 ∷ 200000 ∷ [])
+    ∷ (0 ∷ 0 ∷ 0 ∷ 0 ∷ 1000066 ∷ [])
+    ∷ (5 ∷ 0 ∷ 0 ∷ 0 ∷ 1000066 ∷ [])
     ∷ []
 unfolding rowsBy
 failed-and-terminated = refl
@@ -152,7 +160,10 @@ pub no-day-at-limit : map (numberAt fiveDays failedTwice (Known Open) 0) (399999
 unfolding everyRule lastBook lastTable
 no-day-at-limit = refl
 
--- U at its limit is fit, and past it is 1, whichever part passes it
-pub unfit-past-limit : map (λ (today : ℕ). numberAt daily (redeemed40 0) (Known Pay) today 2000000000000000000) (2000000000000000000 ∷ 2000000000000000001 ∷ 0 ∷ []) ≡ (0 ∷ 1 ∷ 0 ∷ [])
+-- U at its limit is fit, and past it is 1, by either part alone and by both together
+abbrev payOwing : (today cleared : ℕ) → ℕ
+payOwing = numberAt daily (redeemed40 0) (Known Pay)
+
+pub unfit-past-limit : (payOwing 2000000000000000000 2000000000000000000 ∷ payOwing 2000000000000000001 2000000000000000000 ∷ payOwing 4000000000000000001 0 ∷ payOwing 0 4000000000000000001 ∷ []) ≡ (0 ∷ 1 ∷ 1 ∷ 1 ∷ [])
 unfolding everyRule lastBook lastTable
 unfit-past-limit = refl

@@ -1,4 +1,4 @@
--- "12 Close, in Paid, or in Trading if terminated": its parts (a) to (f). (arts. 52, 53, 60, 61, 69)
+-- "12 Close, in Paid, or in Trading if terminated": its parts (a) to (f). (arts. 49, 52, 53, 60, 61, 69)
 -- Assumes nothing.
 use Prim.Native.Nat.{ℕ, _+_, _-_, _*_}
 use mathlib.Core.Bool.{Bool, true, false, cond, not, _&&_, _||_}
@@ -13,8 +13,8 @@ use Rattle.money.specs.Causes.{Cause, _⇒_}
 use Rattle.money.specs.Days.{Calendar}
 use Rattle.rules.specs.Folds.{inTurn}
 use Rattle.rules.specs.Limits.{netLimit}
-use Rattle.rules.specs.Book.{Security, Guarantee, Vault, Closed, ShortRun, NotShort, ShortOnce, ShortTwice, ShortThrice, Standing, Withdrawals, Unpaid, Book, Answer, isPaid, isTrading, isTerminated, hasFailed, noApplications}
-use Rattle.rules.specs.Unpaid.{unpaidSum, withToday, joined, passes}
+use Rattle.rules.specs.Book.{Security, Guarantee, Vault, Closed, ShortRun, NotShort, ShortOnce, ShortTwice, ShortThrice, Standing, Withdrawals, Unpaid, Book, Answer, isPaid, isTrading, isTerminated, hasFailed, withUnpaid, noApplications}
+use Rattle.rules.specs.Unpaid.{unpaidSum, todayPlus, joined, passes}
 pub use Rattle.rules.specs.Days.{today}
 use Rattle.rules.specs.Days.{paymentDay}
 use Rattle.rules.specs.Trades.{Trade, inUse, total, outstanding, maturing, maturityAmount, matured, remaining, packed}
@@ -45,7 +45,7 @@ clearedAtClose calendar book table = book .nets .cleared .0 +ℤ netWithMatured 
 
 -- U with this Close's maturities: "Close adds the second to the first before it looks at applications" (02, ask 2)
 abbrev pub unpaidAtClose : Calendar → Book → List Trade → Unpaid
-unpaidAtClose calendar book table = joined (withToday (maturedAmount calendar book table) (book .sums .unpaid))
+unpaidAtClose calendar book table = joined (todayPlus (maturedAmount calendar book table) (book .sums .unpaid))
 
 -- "For Close, 14 looks at today's net as (b) begins and at the cleared net after it", and at U
 unfoldable pub closeCauses : Calendar → Book → List Trade → List Cause
@@ -167,16 +167,17 @@ closedStanding short standing = record { day = standing .day; phase = Closed; st
 unfoldable pub closedBook : Calendar → Book → (left table : List Trade) → Book
 closedBook calendar book left table =
     let end = evening book (claimsAtClose calendar book left table) in
-    record {
+    withUnpaid (unpaidAtClose calendar book table)
+    (record {
       nets = record { today = signedFen (pos 0); cleared = signedFen (clearedAtClose calendar book table) };
-      sums = record { unpaid = unpaidAtClose calendar book table };
+      sums = book .sums;
       cash = record { own = end .own; client = book .cash .client };
       vault = end .vault;
       size = book .size;
       standing = closedStanding (shortAtClose (isShortClose book left (end .vault)) (book .standing .short)) (book .standing);
       withdrawals = noApplications;
       trades = length (remaining left);
-    }
+    })
 
 -- "The answer carries sheets matured, applications done and dropped"
 unfoldable pub closeAnswer : Calendar → Book → (left table : List Trade) → Answer

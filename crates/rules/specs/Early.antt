@@ -13,7 +13,7 @@ use Rattle.money.specs.Causes.{Cause, _⇒_}
 use Rattle.money.specs.Days.{Calendar}
 use Rattle.rules.specs.Limits.{netLimit}
 use Rattle.rules.specs.Book.{Unpaid, Book, isTrading, isTerminated, withNets, withUnpaid}
-use Rattle.rules.specs.Unpaid.{withToday, passes}
+use Rattle.rules.specs.Unpaid.{todayPlus, passes}
 use Rattle.rules.specs.Days.{dayNumber, paymentDay}
 use Rattle.rules.specs.Trades.{Contract, Trade, inUse, onTable, tradeOf, takeOff, redeemed, over}
 
@@ -31,7 +31,7 @@ netWithEarly calendar book table contract count price = book .nets .today .0 +�
 
 -- U with that amount in its part of today (02, ask 2)
 abbrev pub unpaidWithEarly : Calendar → Book → List Trade → Contract → Sheets → Ticks → Unpaid
-unpaidWithEarly calendar book table contract count price = withToday (earlyAmount calendar book table contract count price) (book .sums .unpaid)
+unpaidWithEarly calendar book table contract count price = todayPlus (earlyAmount calendar book table contract count price) (book .sums .unpaid)
 
 -- "today at or past due", of a trade that is on the table
 abbrev pub pastDue : Book → List Trade → Contract → Bool

@@ -10,7 +10,7 @@ use Rattle.money.specs.Causes.{Cause, _⇒_}
 use Rattle.money.specs.Days.{Calendar}
 use Rattle.rules.specs.Limits.{netLimit}
 use Rattle.rules.specs.Book.{Day, Trading, Status, Normal, Suspended, Terminated, FailedRun, NotFailed, FailedOnce, FailedTwice, ShortRun, NotShort, ShortOnce, ShortTwice, ShortThrice, Standing, Unpaid, Book, isClosed, isTerminated, hasFailed, isShort, withNets, withUnpaid, withStanding}
-use Rattle.rules.specs.Unpaid.{withCleared, passes}
+use Rattle.rules.specs.Unpaid.{clearedPlus, passes}
 use Rattle.rules.specs.Days.{following, toDay, paymentDay, followed}
 use Rattle.rules.specs.Trades.{Trade, inUse, total, fallbackAmount, emptied, over}
 
@@ -51,7 +51,7 @@ netWithFallbacks calendar book table = book .nets .cleared .0 +ℤ pos (fallback
 
 -- "termination adds to the first" part of U (02, ask 2)
 abbrev pub unpaidWithFallbacks : Calendar → Book → List Trade → Unpaid
-unpaidWithFallbacks calendar book table = withCleared (fallbackSum calendar book table) (book .sums .unpaid)
+unpaidWithFallbacks calendar book table = clearedPlus (fallbackSum calendar book table) (book .sums .unpaid)
 
 -- a termination that would pass the limit of the cleared net, or that of U
 abbrev pub fallbacksPass : Calendar → Book → List Trade → Bool

@@ -8,7 +8,7 @@ use lib.IntN.{ℤ, pos, negsuc, natAbs}
 use Rattle.money.specs.Units.{fen, signedFen}
 use Rattle.money.specs.Causes.{Cause, _⇒_}
 use Rattle.rules.specs.Book.{Cash, Paid, FailedRun, NotFailed, FailedOnce, FailedTwice, Standing, Book, isTrading, isTerminated, withNets, withUnpaid, withCash, withStanding}
-use Rattle.rules.specs.Unpaid.{clearedPaid}
+use Rattle.rules.specs.Unpaid.{paid}
 
 -- what the payer of a net holds
 abbrev pub payerHolds : ℤ → Cash → ℕ
@@ -46,7 +46,7 @@ afterPay true book = withStanding (paidStanding (failedMore (book .standing .fai
 afterPay false book =
     withStanding (paidStanding NotFailed (book .standing))
     (withNets (record { today = book .nets .today; cleared = signedFen (pos 0) })
-    (withUnpaid (clearedPaid (book .sums .unpaid)) (withCash (moved (book .nets .cleared .0) (book .cash)) book)))
+    (withUnpaid (paid (book .sums .unpaid)) (withCash (moved (book .nets .cleared .0) (book .cash)) book)))
 
 abbrev pub payNumber : (failing : Bool) → ℕ
 payNumber true = 99

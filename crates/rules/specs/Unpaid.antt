@@ -16,20 +16,20 @@ abbrev pub unpaidOf : Book → ℕ
 unpaidOf book = unpaidSum (book .sums .unpaid)
 
 -- what is redeemed early or at maturity joins the part of today
-abbrev pub withToday : (amount : ℕ) → Unpaid → Unpaid
-withToday amount unpaid = record { today = fen (unpaid .today .0 + amount); cleared = unpaid .cleared }
+abbrev pub todayPlus : (amount : ℕ) → Unpaid → Unpaid
+todayPlus amount unpaid = record { today = fen (unpaid .today .0 + amount); cleared = unpaid .cleared }
 
 -- "termination adds to the first"
-abbrev pub withCleared : (amount : ℕ) → Unpaid → Unpaid
-withCleared amount unpaid = record { today = unpaid .today; cleared = fen (unpaid .cleared .0 + amount) }
+abbrev pub clearedPlus : (amount : ℕ) → Unpaid → Unpaid
+clearedPlus amount unpaid = record { today = unpaid .today; cleared = fen (unpaid .cleared .0 + amount) }
 
 -- "Close adds the second to the first"
 abbrev pub joined : Unpaid → Unpaid
 joined unpaid = record { today = fen 0; cleared = fen (unpaidSum unpaid) }
 
 -- "Pay made sets the cleared part to 0 and keeps the part of today."
-abbrev pub clearedPaid : Unpaid → Unpaid
-clearedPaid unpaid = record { today = unpaid .today; cleared = fen 0 }
+abbrev pub paid : Unpaid → Unpaid
+paid unpaid = record { today = unpaid .today; cleared = fen 0 }
 
 -- "U has the limit of a net: an event that would pass it is 14"
 abbrev pub passes : (amount : ℕ) → Unpaid → Bool

@@ -1,6 +1,6 @@
 // U, the gross redemption amounts not yet paid: its limit, how it grows, and what a payment leaves of it.
 ghost use mathlib.Core.Path.{_≡_};
-ghost use Rattle.rules.specs.Unpaid.{passes, withToday, withCleared, joined, clearedPaid};
+ghost use Rattle.rules.specs.Unpaid.{passes, todayPlus, clearedPlus, joined, paid};
 ghost use Rattle.scalars.specs.Scalars.{unlessPast};
 use money::units::Fen;
 use rules::book::Unpaid;
@@ -25,7 +25,7 @@ pub fn passes(unpaid: Unpaid, amount: Fen) -> bool
 
 // An early redemption joins the part of today. Here and below, U is as it was where it would pass its limit.
 pub fn today_plus(unpaid: Unpaid, amount: Fen) -> Unpaid
-    ensures { λ r. ⌜ r ≡ unlessPast (amount .0) unpaid (withToday (amount .0) unpaid) ⌝ }
+    ensures { λ r. ⌜ r ≡ unlessPast (amount .0) unpaid (todayPlus (amount .0) unpaid) ⌝ }
 {
     if passes(unpaid, amount) {
         return unpaid;
@@ -40,7 +40,7 @@ pub fn today_plus(unpaid: Unpaid, amount: Fen) -> Unpaid
 
 // A redemption on termination joins the cleared part.
 pub fn cleared_plus(unpaid: Unpaid, amount: Fen) -> Unpaid
-    ensures { λ r. ⌜ r ≡ unlessPast (amount .0) unpaid (withCleared (amount .0) unpaid) ⌝ }
+    ensures { λ r. ⌜ r ≡ unlessPast (amount .0) unpaid (clearedPlus (amount .0) unpaid) ⌝ }
 {
     if passes(unpaid, amount) {
         return unpaid;
@@ -55,7 +55,7 @@ pub fn cleared_plus(unpaid: Unpaid, amount: Fen) -> Unpaid
 
 // At Close what matures joins the part of today, and that the cleared part.
 pub fn joined_with(unpaid: Unpaid, amount: Fen) -> Unpaid
-    ensures { λ r. ⌜ r ≡ unlessPast (amount .0) unpaid (joined (withToday (amount .0) unpaid)) ⌝ }
+    ensures { λ r. ⌜ r ≡ unlessPast (amount .0) unpaid (joined (todayPlus (amount .0) unpaid)) ⌝ }
 {
     if passes(unpaid, amount) {
         return unpaid;
@@ -70,7 +70,7 @@ pub fn joined_with(unpaid: Unpaid, amount: Fen) -> Unpaid
 
 // A payment that is made clears the cleared part; what was redeemed today is paid tomorrow.
 pub fn paid(unpaid: Unpaid) -> Unpaid
-    ensures { λ r. ⌜ r ≡ clearedPaid unpaid ⌝ }
+    ensures { λ r. ⌜ r ≡ paid unpaid ⌝ }
 {
     let kept = unpaid.today;
     Unpaid {

@@ -16,6 +16,15 @@ pub struct Ledger {
     pub table: Vec<Trade>,
 }
 
+/// One event of a run, with the book before it and the book and table after it.
+pub struct Step<'a> {
+    pub event: &'a [u8; EVENT_BYTES],
+    pub answer: Answer,
+    pub before: &'a Book,
+    pub after: &'a Book,
+    pub table: &'a [Trade],
+}
+
 impl Ledger {
     pub fn fresh(calendar: &[u32]) -> Ledger {
         Ledger::with_slots(calendar, JOURNAL_CAPACITY)
@@ -44,6 +53,17 @@ impl Ledger {
 
     pub fn does_bytes(&mut self, bytes: &[u8; EVENT_BYTES]) -> Answer {
         step::apply(&self.calendar, &mut self.book, &mut self.table, bytes)
+    }
+
+    /// All the events in turn; `each` also sees the book before, which `step::run`
+    /// does not keep, for speed.
+    pub fn run(&mut self, events: &[[u8; EVENT_BYTES]], mut each: impl FnMut(Step)) {
+        let Ledger { calendar, book, table } = self;
+        let mut before = book.clone();
+        step::run(calendar, book, table, events, |event, answer, after, table| {
+            each(Step { event, answer, before: &before, after, table });
+            before.clone_from(after);
+        });
     }
 
     /// Pay and Close, then the next Open; gives the answer of the Close.

@@ -4,7 +4,7 @@ use std::collections::{BTreeMap, HashSet};
 
 use model::answer::Answer;
 use model::book::{Phase, Status};
-use model::cases::ledger::Ledger;
+use model::cases::ledger::{Ledger, Step};
 use model::coverage::evenings::Evenings;
 use model::coverage::{allowed, Coverage, OUT_OF_REACH};
 use model::event::Event;
@@ -18,13 +18,11 @@ fn two_thousand_journals_meet_every_allowed_pair() {
     for seed in 0..2_000 {
         let bytes = generator::generate(seed);
         let Ok(journal) = journal::parse(&bytes) else { continue };
-        let Ledger { calendar, mut book, mut table } = Ledger::fresh(&journal.calendar);
-        let mut before = book.clone();
-        step::run(&calendar, &mut book, &mut table, journal.events, |event, answer, book, table| {
+        let mut ledger = Ledger::fresh(&journal.calendar);
+        ledger.run(journal.events, |Step { event, answer, before, after, table }| {
             coverage.record(event, answer.number);
-            evenings.record(&before, book, table);
-            done += if book.unpaid() > 0 { u64::from(answer.done) } else { 0 };
-            before.clone_from(book);
+            evenings.record(before, after, table);
+            done += if after.unpaid() > 0 { u64::from(answer.done) } else { 0 };
         });
     }
     assert_eq!(coverage.missing(), []);

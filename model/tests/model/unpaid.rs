@@ -5,7 +5,7 @@ use model::answer::Answer;
 use model::book::{Book, Status};
 use model::cases::ledger::{trade, Ledger};
 use model::event::{Account, Event};
-use model::{generator, journal, step};
+use model::{generator, journal};
 
 fn early(contract: u64, sheets: u64) -> Event {
     Event::Early { contract, sheets, price: 3_650 }
@@ -47,8 +47,8 @@ fn a_maturity_waits_in_the_cleared_part() {
     assert_eq!(after(&mut ledger, &[Event::Open, Event::Pay]), (0, 0, 0));
 }
 
-/// 99 keeps both parts; the 60 sheets left are redeemed over five days at 1,000
-/// ticks, 82.19 fen.
+/// 99 keeps both parts; the 40 sheets left are redeemed over five days at 1,000
+/// ticks, 54.79 fen.
 #[test]
 fn unpaid_until_the_firm_is_terminated() {
     let mut ledger = Ledger::second_day(&[u32::MAX]);
@@ -59,20 +59,21 @@ fn unpaid_until_the_firm_is_terminated() {
     ledger.next_day();
     let own = ledger.book.own;
     after(&mut ledger, &[Event::FundOut { account: Account::Own, fen: own }]);
-    assert_eq!(after(&mut ledger, &[Event::Pay]), (99, 0, 300_060));
-    assert_eq!(after(&mut ledger, &[Event::Close, Event::Open, Event::Pay]), (99, 0, 300_060));
-    assert_eq!(after(&mut ledger, &[Event::Close]), (0, 0, 300_060));
-    assert_eq!(after(&mut ledger, &[Event::Open]), (0, 0, 300_060 + 600_082));
+    assert_eq!(after(&mut ledger, &[early(7, 20), Event::Pay]), (99, 200_060, 300_060));
+    assert_eq!(after(&mut ledger, &[Event::Close, Event::Open, Event::Pay]), (99, 0, 500_120));
+    assert_eq!(after(&mut ledger, &[Event::Close]), (0, 0, 500_120));
+    assert_eq!(after(&mut ledger, &[Event::Open]), (0, 0, 500_120 + 400_055));
     assert_eq!((ledger.book.status, ledger.book.outstanding(&ledger.table)), (Status::Terminated, 0));
-    assert_eq!(after(&mut ledger, &[Event::Close, Event::Open, Event::Close]), (0, 0, 900_142));
+    assert_eq!(after(&mut ledger, &[Event::Close, Event::Open, Event::Close]), (0, 0, 900_175));
 }
 
-/// A failed payment keeps the part of today as well.
+/// Also where the net is below 0, and it is the client's cash that falls short.
 #[test]
 fn a_failed_payment_keeps_both_parts() {
     let mut ledger = Ledger::second_day(&[u32::MAX]);
     after(&mut ledger, &[trade(7, 100, 20), early(7, 10)]);
     ledger.next_day();
+    assert_eq!(ledger.book.cleared_net, -900_000);
     after(&mut ledger, &[Event::FundOut { account: Account::Client, fen: 3_000_000 }]);
     assert_eq!(after(&mut ledger, &[early(7, 20), Event::Pay]), (99, 200_020, 100_000));
     assert_eq!(after(&mut ledger, &[Event::Close]), (0, 0, 300_020));
@@ -133,13 +134,10 @@ fn unpaid_grows_by_what_is_redeemed() {
     for seed in 0..1_000 {
         let bytes = generator::generate(seed);
         let Ok(journal) = journal::parse(&bytes) else { continue };
-        let Ledger { calendar, mut book, mut table } = Ledger::fresh(&journal.calendar);
-        let mut before = book.clone();
-        step::run(&calendar, &mut book, &mut table, journal.events, |bytes, answer, book, _| {
-            if let Ok(event) = Event::decode(bytes) {
-                check_growth(event, answer.number, &before, book);
+        Ledger::fresh(&journal.calendar).run(journal.events, |step| {
+            if let Ok(event) = Event::decode(step.event) {
+                check_growth(event, step.answer.number, step.before, step.after);
             }
-            before.clone_from(book);
         });
     }
 }

@@ -8,7 +8,7 @@ use lib.IntN.{ℤ, pos, natAbs, _+ℤ_}
 use Rattle.money.specs.declared.units.Fen.{Fen}
 use Rattle.money.specs.Units.{fen, sheets, signedFen}
 use Rattle.rules.specs.Limits.{netLimit}
-use Rattle.rules.specs.Unpaid.{withToday, joined, passes}
+use Rattle.rules.specs.Unpaid.{todayPlus, joined, passes}
 use Rattle.rules.specs.Fit.{netFit}
 use Rattle.rules.specs.Close.{mayClose, maturedTrades, maturedSheets, maturedAmount, netWithMatured, clearedAtClose}
 use Rattle.rules.proofs.FitParts.{fit-parts, fit-withdrawals, fit-securities, fits-cash}
@@ -19,7 +19,8 @@ use Rattle.core.specs.Flat.{Rows, tradesOf, rowsOf, bookOf, Redeemable}
 use Rattle.core.proofs.FitFacts.{fit-keeps, fit-redeemable}
 use Rattle.core.proofs.RedemptionLaws.{maturity-bound}
 use Rattle.core.proofs.Column.{asked, asked-not, denied, denied-not}
-use Rattle.core.proofs.CloseLaws.{holds, close-refused, not-now, today-outside, cleared-outside, unpaid-past, may-be-closed, sheets-planned, amount-planned}
+use Rattle.core.proofs.Fitting.{refuted, upheld}
+use Rattle.core.proofs.CloseLaws.{close-refused, not-now, today-outside, cleared-outside, unpaid-past, may-be-closed, sheets-planned, amount-planned}
 use Rattle.core.proofs.close.close.Statement.{statement}
 use Rattle.core.proofs.close.close.Tie as tie
 
@@ -184,7 +185,7 @@ returns-2 c =
     let past1 : tie.Else1 = search needs in
     let s = from-today at-today-fit in
     close-refused (s .args .calendar .now) (s .args .scalars) (rows s) (left-of s) (trades s) 14 _
-    (today-outside (s .args .calendar .now) (book s) (trades s) (may-go-on past1) (denied (today-asked at-today-fit) (c .before .if2 .taken)))
+    (today-outside (s .args .calendar .now) (book s) (trades s) (may-go-on past1) (refuted (today-asked at-today-fit) (c .before .if2 .taken)))
     (c .answered2 .ensures)
 
 joined-requires : tie.Need-joined-requires
@@ -192,7 +193,7 @@ joined-requires c κs =
     let at-today-plus : tie.After-today-plus = search needs in
     let s = from-today (c .before) in
     let nets = fit-parts (s .args .calendar .now) (book s) (trades s) (s .pre .fits) .nets in
-    (sym (c .before .today-fit .ensures) ∙ holds _ (c .if2 .left), rw (with-matured at-today-plus) (le-leb (natAbs (s .args .scalars .nets .cleared .0)) netLimit (nets .cleared)))
+    (upheld (c .before .today-fit .ensures) (c .if2 .left), rw (with-matured at-today-plus) (le-leb (natAbs (s .args .scalars .nets .cleared .0)) netLimit (nets .cleared)))
 
 cleared-fit-requires : tie.Need-cleared-fit-requires
 cleared-fit-requires c κs = search needs
@@ -209,7 +210,7 @@ returns-3 c =
     let past1 : tie.Else1 = search needs in
     let s = from-cleared at-cleared-fit in
     close-refused (s .args .calendar .now) (s .args .scalars) (rows s) (left-of s) (trades s) 14 _
-    (cleared-outside (s .args .calendar .now) (book s) (trades s) (may-go-on past1) (denied (cleared-asked at-cleared-fit) (c .before .if3 .taken)))
+    (cleared-outside (s .args .calendar .now) (book s) (trades s) (may-go-on past1) (refuted (cleared-asked at-cleared-fit) (c .before .if3 .taken)))
     (c .answered3 .ensures)
 
 passes-requires : tie.Need-passes-requires
@@ -272,9 +273,9 @@ returns-5 c =
     let s = from-cleared asked-cleared in
     let unpaid = s .args .scalars .sums .unpaid in
     let within = asked-not (unpaid-asked asked-unpaid) (left .if4 .left) in
-    rw (may-be-closed (s .args .calendar .now) (book s) (trades s) (may-go-on (past-first asked-today)) (denied-not (today-asked asked-today) (past-second asked-cleared .if2 .left)) (denied-not (cleared-asked asked-cleared) (past-third asked-unpaid .if3 .left)) within) (
+    rw (may-be-closed (s .args .calendar .now) (book s) (trades s) (may-go-on (past-first asked-today)) (upheld (today-asked asked-today) (past-second asked-cleared .if2 .left)) (upheld (cleared-asked asked-cleared) (past-third asked-unpaid .if3 .left)) within) (
       closed .closed .ensures .0 (s .args .calendar .now) (sheets-matured (planned asked-today)) (all-joined (joining asked-cleared))
-          (grown .joined-with .ensures ∙ ap (λ (amount : Fen). unlessPast (amount .0) unpaid (joined (withToday (amount .0) unpaid))) (amount-matured (planned asked-today)) ∙ not-past unpaid _ _ within),
+          (grown .joined-with .ensures ∙ ap (λ (amount : Fen). unlessPast (amount .0) unpaid (joined (todayPlus (amount .0) unpaid))) (amount-matured (planned asked-today)) ∙ not-past unpaid _ _ within),
       closed .closed .ensures .1,
     )
 

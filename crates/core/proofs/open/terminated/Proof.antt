@@ -5,7 +5,7 @@ use denote.Ref.{now}
 use lib.IntN.{pos, _+ℤ_}
 use Rattle.money.specs.declared.units.Fen.{Fen}
 use Rattle.money.specs.Units.{signedFen}
-use Rattle.rules.specs.Unpaid.{passes, withCleared}
+use Rattle.rules.specs.Unpaid.{passes, clearedPlus}
 use Rattle.rules.specs.Fit.{netFit}
 use Rattle.rules.specs.Open.{fallbackSum, netWithFallbacks, openedBook, openedTable}
 use Rattle.rules.proofs.FitParts.{fit-parts}
@@ -144,7 +144,7 @@ returns-3 c rows =
     let nets = s .args .scalars .nets in
     let unpaid = s .args .scalars .sums .unpaid in
     let cleared = added .cleared-plus .ensures ∙ ap (λ (amount : Fen). record { today = nets .today; cleared = signedFen (nets .cleared .0 +ℤ pos (amount .0)) }) (sum .fallback-sum .ensures .0 rows) in
-    let owed = grown .cleared-plus2 .ensures ∙ ap (λ (amount : Fen). unlessPast (amount .0) unpaid (withCleared (amount .0) unpaid)) (sum .fallback-sum .ensures .0 rows) ∙ not-past unpaid _ _ within in
+    let owed = grown .cleared-plus2 .ensures ∙ ap (λ (amount : Fen). unlessPast (amount .0) unpaid (clearedPlus (amount .0) unpaid)) (sum .fallback-sum .ensures .0 rows) ∙ not-past unpaid _ _ within in
     let owing = set .with-unpaid .ensures ∙ ap (λ (unpaid : Unpaid). withUnpaid unpaid (s .args .scalars)) owed in (
       carried-out _ _ rows _ _ e (c .answered3 .ensures) (terminated-book calendar (s .args .scalars) (set .with-unpaid .result) rows (tradesOf table) (added .cleared-plus .result) (s .args .after) ended (s .pre .opening .opened) cleared owing),
       r .redeem-due .ensures ∙ rw (e, ended, fit-in-use calendar (book s) table (s .pre .opening .book .fits), all-due table (s .args .scalars .trades)),
