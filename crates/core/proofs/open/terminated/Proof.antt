@@ -34,6 +34,9 @@ from-sum c = search needs
 abbrev summed : tie.After-cleared-fit → tie.After-fallback-sum
 summed c = search needs
 
+abbrev adding : tie.After-cleared-fit → tie.After-cleared-plus
+adding c = search needs
+
 abbrev tested : tie.After-passes → tie.After-cleared-fit
 tested c = search needs
 
@@ -44,7 +47,7 @@ past-net c = search needs
 net-tested : (c : tie.After-cleared-fit) (rows : Rows) → (let s = from-sum (summed c) in netFit (netWithFallbacks (now (s .args .calendar)) (with-rows s rows) (tradesOf (now (s .args .table)))) ≡ c .cleared-fit .result)
 net-tested c rows =
     let s = from-sum (summed c) in
-    let added : tie.After-cleared-plus = search needs in
+    let added = adding c in
     sym
     (c .cleared-fit .ensures
     ∙ ap (λ (nets : Nets). netFit (nets .cleared .0)) (added .cleared-plus .ensures)
@@ -132,7 +135,7 @@ returns-3 c rows =
     let r = redeemed set in
     let room = past-unpaid r in
     let q = asked room in
-    let added : tie.After-cleared-plus = tested q .before in
+    let added = adding (tested q) in
     let sum = summed (tested q) in
     let s = from-sum sum in
     let calendar = now (s .args .calendar) in
