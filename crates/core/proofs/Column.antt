@@ -75,4 +75,10 @@ failing-denied e = ap not e
 pub holding-denied : {x : Bool} → x ≡ true → not x ≡ false
 holding-denied e = ap not e
 
-pub ruleset column = (applies, passes, ends, le-ltb, lt-ltb, le-leb, lt-leb, eq-eqb, ne-eqb, asked, asked-not, denied, denied-not, asked-below, asked-not-below, asked-above, asked-not-above, both-hold, first-fails, second-fails, first-holds, second-holds, neither-holds, failing-denied, holding-denied)
+-- the tests of a column: as the code asks them, and as a call answered them
+pub ruleset asking = (le-ltb, lt-ltb, le-leb, lt-leb, eq-eqb, ne-eqb, asked, asked-not, denied, denied-not, asked-below, asked-not-below, asked-above, asked-not-above)
+
+-- tests joined and denied
+pub ruleset joining = (both-hold, first-fails, second-fails, first-holds, second-holds, neither-holds, failing-denied, holding-denied)
+
+pub ruleset column = (applies, passes, ends, asking, joining)

@@ -2,14 +2,13 @@
 -- each application keeps.
 -- Assumes nothing.
 use mathlib.Core.Path.{_≡_, refl, sym, ap, _∙_}
-use mathlib.Core.Bool.{Bool, true, false, cond, _&&_}
+use mathlib.Core.Bool.{Bool, true, false, cond}
 use mathlib.Core.List.{List, [], _∷_, map}
 use Prim.Native.Nat.{ℕ, zero, suc, _+_, _-_, _≤_, _<_}
 use native.Mathlib.Decide.{ℕ-discrete}
 use native.Mathlib.Numerals.{add-one}
 use native.Mathlib.Omega.{arith}
-use borrow.Author.Tests.{le-leb, lt-leb, eq-eqb, ne-eqb, leb-true}
-use lib.Dec.{leb}
+use borrow.Author.Tests.{le-leb, lt-leb, eq-eqb, ne-eqb}
 use lib.ListN.{length, getD, set, List·getD-eq-default}
 use Rattle.money.specs.Units.{fen}
 use Rattle.money.specs.Limits.{cashLimit}
@@ -18,7 +17,6 @@ use Rattle.rules.specs.Folds.{inTurn}
 use Rattle.rules.specs.Book.{noSecurity}
 use Rattle.rules.specs.Vault.{securityAt, isCash, effectiveOf, frozenOf, value}
 use Rattle.rules.specs.Close.{Evening, fewer, fewerCash, takenOut, covers, mayGo, doneOne, settleOne, settled}
-use Rattle.money.proofs.TwoTests.{both}
 use Rattle.rules.proofs.FoldLaws.{by-test, in-turn-keeps, at-set}
 use Rattle.rules.proofs.EveningFit.{gone}
 use Rattle.rules.proofs.FitParts.{SecurityFits, SecuritiesFit, fit-securities}

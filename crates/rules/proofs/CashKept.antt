@@ -3,28 +3,26 @@
 use mathlib.Core.Path.{_≡_, refl, _∙_}
 use mathlib.Core.Bool.{Bool, true, false, cond, _&&_}
 use mathlib.Core.List.{List}
-use Prim.Native.Nat.{ℕ, zero, suc, _+_, _-_, _≤_}
+use Prim.Native.Nat.{ℕ, suc, _+_, _-_, _≤_}
 use native.Mathlib.Omega.{arith}
-use borrow.Author.Tests.{ltb-true, ltb-false, leb-true}
-use lib.Dec.{ltb, leb}
+use borrow.Author.Tests.{ltb-true, ltb-false}
+use lib.Dec.{ltb}
 use lib.IntN.{ℤ, pos, negsuc, natAbs, _-ℤ_}
 use Rattle.money.specs.declared.units.Fen.{Fen}
 use Rattle.money.specs.Days.{Calendar}
-use Rattle.rules.specs.Folds.{inTurn}
-use Rattle.rules.specs.Book.{Cash, Guarantee, Vault, Book}
+use Rattle.rules.specs.Book.{Cash, Guarantee, Book}
 use Rattle.rules.specs.Trades.{Trade}
-use Rattle.rules.specs.Vault.{isCash, effectiveOf, frozenOf, securityAt}
+use Rattle.rules.specs.Vault.{isCash, effectiveOf, securityAt}
 use Rattle.rules.specs.Fit.{allCash}
 use Rattle.rules.specs.Entry.{Account, Own, Client}
 use Rattle.rules.specs.Funds.{holds, fundedIn, fundedOut}
 use Rattle.rules.specs.Pledge.{cashArrived, pledged}
 use Rattle.rules.specs.Freeze.{cashFrozen, frozen}
 use Rattle.rules.specs.Pay.{payerHolds, moved}
-use Rattle.rules.specs.Close.{Evening, fewerCash, takenOut, mayGo, settleOne, settled, applications, allArrived, claimsAtClose, evening, closedBook}
+use Rattle.rules.specs.Close.{Evening, fewerCash, takenOut, mayGo, settleOne, settled, served, allArrived, claimsAtClose, evening, closedBook}
 use Rattle.rules.specs.Demand3.{WholeOrNothing}
-use Rattle.rules.proofs.EveningFit.{gone}
+use Rattle.rules.proofs.EveningFit.{gone, over-evening}
 use Rattle.rules.proofs.Signed.{same, sum-parts, diff-parts}
-use Rattle.money.proofs.TwoTests.{both}
 
 -- own, client and guarantee cash of a book
 abbrev pub cashOf : Book → ℕ
@@ -111,14 +109,11 @@ settled-keeps-cash served claims kind units evening =
     go true h = by-kind (evening .own .0) (securityAt (evening .vault) kind .effective) (evening .vault .guarantee) (isCash kind) (h refl)
     go false h = refl
 
-inTurn-keeps : {A : Type 0} (measure : A → ℕ) (f : ℕ → A → A) → ((i : ℕ) (a : A) → measure (f i a) ≡ measure a) → (n : ℕ) (a : A) → measure (inTurn n f a) ≡ measure a
-unfolding inTurn
-inTurn-keeps measure f keeps zero a = refl
-inTurn-keeps measure f keeps (suc n) a = keeps n (inTurn n f a) ∙ inTurn-keeps measure f keeps n a
-
 evening-keeps-cash : (book : Book) (claims : ℕ) → movable (evening book claims) ≡ book .cash .own .0 + book .vault .guarantee .effective .0 + book .vault .guarantee .arriving .0
-unfolding evening applications allArrived
-evening-keeps-cash book claims = inTurn-keeps movable _ (λ i a. settled-keeps-cash _ _ _ _ a) _ _ ∙ omega arith
+unfolding allArrived
+evening-keeps-cash book claims =
+    over-evening book claims (λ e. movable e ≡ book .cash .own .0 + book .vault .guarantee .effective .0 + book .vault .guarantee .arriving .0)
+    (λ kind units e kept. settled-keeps-cash (served (book .standing)) claims kind units e ∙ kept) (omega arith)
 
 pub close-keeps-cash : (calendar : Calendar) (book : Book) (left table : List Trade) → cashOf (closedBook calendar book left table) ≡ cashOf book
 unfolding closedBook

@@ -75,11 +75,15 @@ settled-fits client served claims kind units e f = go (mayGo served claims kind 
         taken-fits client (e .own) (e .vault) kind units (e .done + 1) (e .dropped) (f .securities) (f .cash) (gone served claims kind units (e .vault) m .unfrozen)
     go false m = record { securities = f .securities; cash = f .cash }
 
-pub evening-fits : (book : Book) (claims : ℕ) → SecuritiesFit (book .vault) → CashFits (book .cash) (book .vault .guarantee) → EveningFits (book .cash .client) (evening book claims)
+-- what each application keeps, the evening keeps
+pub over-evening : (book : Book) (claims : ℕ) (P : Evening → Type 0) → ((kind units : ℕ) (e : Evening) → P e → P (settled (served (book .standing)) claims kind units e))
+    → P (record { own = book .cash .own; vault = allArrived (book .vault); done = 0; dropped = 0 }) → P (evening book claims)
 unfolding evening applications
+over-evening book claims P keeps first =
+    in-turn-keeps P (book .withdrawals .count) (λ i. settled (served (book .standing)) claims (getD (book .withdrawals .kinds) i 0) (getD (book .withdrawals .units) i 0)) _
+    (λ i e p. keeps (getD (book .withdrawals .kinds) i 0) (getD (book .withdrawals .units) i 0) e p) first
+
+pub evening-fits : (book : Book) (claims : ℕ) → SecuritiesFit (book .vault) → CashFits (book .cash) (book .vault .guarantee) → EveningFits (book .cash .client) (evening book claims)
 evening-fits book claims s c =
-    in-turn-keeps (EveningFits (book .cash .client)) (book .withdrawals .count)
-    (λ i. settled (served (book .standing)) claims (getD (book .withdrawals .kinds) i 0) (getD (book .withdrawals .units) i 0))
-    (record { own = book .cash .own; vault = allArrived (book .vault); done = 0; dropped = 0 })
-    (λ i e f. settled-fits (book .cash .client) (served (book .standing)) claims (getD (book .withdrawals .kinds) i 0) (getD (book .withdrawals .units) i 0) e f)
+    over-evening book claims (EveningFits (book .cash .client)) (λ kind units e f. settled-fits (book .cash .client) (served (book .standing)) claims kind units e f)
     (all-arrived-fit (book .cash .client) (book .cash .own) (book .vault) 0 0 s c)

@@ -8,7 +8,6 @@ use mathlib.Core.Option.{Option, none, some}
 use Prim.Native.Nat.{ℕ, _*_, _+_, _≤_, _<_}
 use native.Mathlib.Omega.{arith}
 use lib.Dec.{eqb}
-use lib.ListN.{getD}
 use Rattle.money.specs.Causes.{firstOf}
 use Rattle.money.specs.Days.{Calendar}
 use Rattle.money.specs.Units.{sheetFen}
@@ -27,15 +26,14 @@ use Rattle.rules.specs.Withdraw.{withdrawn}
 use Rattle.rules.specs.Initial.{initialBook}
 use Rattle.rules.specs.Early.{earlyBook}
 use Rattle.rules.specs.Pay.{fails, afterPay, payNumber}
-use Rattle.rules.specs.Close.{Evening, maturedTrades, unpaidAtClose, allArrived, claimsOf, mayGo, settleOne, settled, served, applications, evening, claimsAtClose, closedTable, closedBook, closeAnswer}
+use Rattle.rules.specs.Close.{Evening, maturedTrades, unpaidAtClose, claimsOf, mayGo, settleOne, settled, served, evening, claimsAtClose, closedTable, closedBook, closeAnswer}
 use Rattle.rules.specs.Redeemed.{amountRedeemed}
 use Rattle.rules.specs.Step.{Outcome, outcome, causes, act, refuseOr, step, accepted}
 use Rattle.rules.specs.Run.{see, run}
 use Rattle.rules.specs.Demand3.{All, isPay, number, seenFrom}
-use Rattle.rules.proofs.FoldLaws.{in-turn-keeps}
 use Rattle.rules.proofs.TradeLaws.{take-packed, outstanding-remaining}
 use Rattle.rules.proofs.Answers.{turned-down, accepted-only-where-none-applies}
-use Rattle.rules.proofs.EveningFit.{gone}
+use Rattle.rules.proofs.EveningFit.{gone, over-evening}
 
 -- ---- what is redeemed joins U: of every accepted event but a payment that was made
 
@@ -134,13 +132,8 @@ settled-covered served claims kind units e before = go (mayGo served claims kind
     go false m = before
 
 pub evening-covered : (book : Book) (claims : ℕ) → DoneCovered claims (evening book claims)
-unfolding evening applications
 evening-covered book claims =
-    in-turn-keeps (DoneCovered claims) (book .withdrawals .count)
-    (λ i. settled (served (book .standing)) claims (getD (book .withdrawals .kinds) i 0) (getD (book .withdrawals .units) i 0))
-    (record { own = book .cash .own; vault = allArrived (book .vault); done = 0; dropped = 0 })
-    (λ i e before. settled-covered (served (book .standing)) claims (getD (book .withdrawals .kinds) i 0) (getD (book .withdrawals .units) i 0) e before)
-    (λ none. absurd (omega arith))
+    over-evening book claims (DoneCovered claims) (λ kind units e before. settled-covered (served (book .standing)) claims kind units e before) (λ none-went. absurd (omega arith))
 
 -- the pledge answers for the O and the U of what a call leaves
 abbrev Covered : Outcome → Type 0

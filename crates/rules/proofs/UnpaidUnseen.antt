@@ -4,25 +4,22 @@ use mathlib.Core.Path.{_≡_, refl, sym, _∙_}
 use mathlib.Core.Bool.{Bool, true, false, cond}
 use mathlib.Core.List.{List, [], _∷_}
 use mathlib.Core.Option.{Option, none, some}
-use Prim.Native.Nat.{ℕ, zero, suc, _+_, _-_, _*_, _/_, _≤_, _<_, min}
+use Prim.Native.Nat.{ℕ, zero, suc, _-_, _*_, _≤_, _<_, min}
 use native.Mathlib.Omega.{arith}
 use borrow.Author.Tests.{le-ltb}
-use lib.Dec.{ltb}
-use lib.IntN.{pos, negsuc}
 use lib.ListN.{getD, set}
-use lib.Signed.{ltZ}
 use Rattle.money.specs.Units.{sheetFen}
 use Rattle.money.specs.Causes.{firstOf}
 use Rattle.money.specs.Days.{Calendar}
 use Rattle.money.specs.Collateral.{rateOf, kindValue}
 use Rattle.money.proofs.Bounds.{product}
 use Rattle.rules.specs.Folds.{sumBelow}
-use Rattle.rules.specs.Book.{Unpaid, Security, Guarantee, Vault, Book, Answer, answer, noSecurity, withUnpaid}
+use Rattle.rules.specs.Book.{Unpaid, Security, Vault, Book, Answer, answer, noSecurity, withUnpaid}
 use Rattle.rules.specs.Trades.{Trade, inUse, outstanding}
 use Rattle.rules.specs.Vault.{securityAt, isCash, effectiveOf, frozenOf, value, headroom}
 use Rattle.rules.specs.Fit.{fit}
 use Rattle.rules.specs.Entry.{Event, Open, FundIn, FundOut, Size, Rate, Pledge, Freeze, Withdraw, Initial, Early, Pay, Close, Known}
-use Rattle.rules.specs.Open.{turnsTerminated, openedBook, openedTable}
+use Rattle.rules.specs.Open.{openedBook, openedTable}
 use Rattle.rules.specs.Funds.{fundInCauses, fundedIn, fundOutCauses, fundedOut}
 use Rattle.rules.specs.Size.{sizeCauses, sized}
 use Rattle.rules.specs.Rate.{rateCauses, rated}
@@ -32,13 +29,14 @@ use Rattle.rules.specs.Withdraw.{withdrawCauses, withdrawn}
 use Rattle.rules.specs.Initial.{initialCauses, initialBook, initialTable}
 use Rattle.rules.specs.Early.{earlyBook, earlyTable}
 use Rattle.rules.specs.Pay.{fails, payCauses, afterPay, payNumber}
-use Rattle.rules.specs.Close.{Evening, today, maturedTrades, allArrived, fewer, fewerCash, takenOut, mayGo, settleOne, settled, served, applications, evening, claimsAtClose, isShortClose, closedBook}
+use Rattle.rules.specs.Close.{Evening, today, maturedTrades, allArrived, fewer, fewerCash, takenOut, mayGo, settleOne, settled, served, evening, claimsAtClose, isShortClose, closedBook}
 use Rattle.rules.specs.Step.{outcome, eventCauses, causes, act, unfit, refuseOr, step, accepted}
 use Rattle.rules.specs.Listing.{lineOf}
-use Rattle.rules.proofs.FoldLaws.{by-test, in-turn-keeps}
+use Rattle.rules.proofs.FoldLaws.{by-test}
 use Rattle.rules.proofs.TableFit.{matured-lessens, fewer-outstanding}
 use Rattle.rules.proofs.FitParts.{fit-parts}
 use Rattle.rules.proofs.Answers.{accepted-only-where-none-applies}
+use Rattle.rules.proofs.EveningFit.{over-evening}
 use Rattle.rules.proofs.UnpaidLaws.{evening-covered}
 
 -- ---- V falls where units go
@@ -56,15 +54,15 @@ kind-falls kind less effective frozen rate h =
     omega (arith, product (less - frozen) (rateOf kind rate) free same)
 
 -- a security with fewer effective units, or as it was
-record Fewer (after before : Security) : Type 0 where
+record FewerUnits (after before : Security) : Type 0 where
   effective : after .effective ≤ before .effective
   frozen : after .frozen ≡ before .frozen
   rate : after .rate ≡ before .rate
 
-as-it-was : (security : Security) → Fewer security security
+as-it-was : (security : Security) → FewerUnits security security
 as-it-was security = record { effective = omega arith; frozen = refl; rate = refl }
 
-set-fewer : (securities : List Security) (i j : ℕ) (security : Security) → Fewer security (getD securities i noSecurity) → Fewer (getD (set securities i security) j noSecurity) (getD securities j noSecurity)
+set-fewer : (securities : List Security) (i j : ℕ) (security : Security) → FewerUnits security (getD securities i noSecurity) → FewerUnits (getD (set securities i security) j noSecurity) (getD securities j noSecurity)
 set-fewer [] i j security h = as-it-was noSecurity
 set-fewer (x ∷ securities) zero zero security h = h
 set-fewer (x ∷ securities) zero (suc j) security h = as-it-was (getD securities j noSecurity)
@@ -72,10 +70,10 @@ set-fewer (x ∷ securities) (suc i) zero security h = as-it-was x
 set-fewer (x ∷ securities) (suc i) (suc j) security h = set-fewer securities i j security h
 
 module _ (kind units : ℕ) (vault : Vault) where
-  security-fewer : (j : ℕ) → Fewer (securityAt (takenOut kind units vault) j) (securityAt vault j)
+  security-fewer : (j : ℕ) → FewerUnits (securityAt (takenOut kind units vault) j) (securityAt vault j)
   unfolding takenOut
   security-fewer j =
-      by-test (λ cash. Fewer (getD (cond cash (vault .securities) (set (vault .securities) kind (fewer units (securityAt vault kind)))) j noSecurity) (securityAt vault j)) (isCash kind)
+      by-test (λ cash. FewerUnits (getD (cond cash (vault .securities) (set (vault .securities) kind (fewer units (securityAt vault kind)))) j noSecurity) (securityAt vault j)) (isCash kind)
       (λ _. as-it-was (securityAt vault j))
       (λ _. set-fewer (vault .securities) kind j (fewer units (securityAt vault kind)) (record { effective = omega arith; frozen = refl; rate = refl }))
 
@@ -106,15 +104,8 @@ module _ (book : Book) (claims : ℕ) where
   abbrev arrived : Vault
   arrived = allArrived (book .vault)
 
-  over-evening : (P : Evening → Type 0) → ((kind units : ℕ) (e : Evening) → P e → P (settled (served (book .standing)) claims kind units e))
-      → P (record { own = book .cash .own; vault = arrived; done = 0; dropped = 0 }) → P (evening book claims)
-  unfolding evening applications
-  over-evening P keeps first =
-      in-turn-keeps P (book .withdrawals .count) (λ i. settled (served (book .standing)) claims (getD (book .withdrawals .kinds) i 0) (getD (book .withdrawals .units) i 0)) _
-      (λ i e p. keeps (getD (book .withdrawals .kinds) i 0) (getD (book .withdrawals .units) i 0) e p) first
-
   evening-falls : value (evening book claims .vault) ≤ value arrived
-  evening-falls = over-evening (λ e. value (e .vault) ≤ value arrived) falls (omega arith)
+  evening-falls = over-evening book claims (λ e. value (e .vault) ≤ value arrived) falls (omega arith)
     where
       falls : (kind units : ℕ) (e : Evening) → value (e .vault) ≤ value arrived → value (settled (served (book .standing)) claims kind units e .vault) ≤ value arrived
       falls kind units e h =
@@ -122,7 +113,7 @@ module _ (book : Book) (claims : ℕ) where
           (λ _. omega (arith, value-falls kind units (e .vault))) (λ _. h)
 
   evening-idle : evening book claims .done ≡ 0 → evening book claims .vault ≡ arrived
-  evening-idle = over-evening (λ e. e .done ≡ 0 → e .vault ≡ arrived) idle (λ _. refl)
+  evening-idle = over-evening book claims (λ e. e .done ≡ 0 → e .vault ≡ arrived) idle (λ _. refl)
     where
       idle : (kind units : ℕ) (e : Evening) → (e .done ≡ 0 → e .vault ≡ arrived) → settled (served (book .standing)) claims kind units e .done ≡ 0 → settled (served (book .standing)) claims kind units e .vault ≡ arrived
       idle kind units e h =

@@ -1,6 +1,9 @@
+use Prim.Native.Nat.{_+_, _≤_}
 use mathlib.Core.Path.{sym, _∙_}
 use native.Mathlib.Omega.{arith}
 use borrow.Author.Needs.{needs}
+use Rattle.rules.specs.Limits.{netLimit}
+use Rattle.rules.specs.Unpaid.{unpaidSum}
 use Rattle.scalars.proofs.UnpaidLaws.{within}
 use Rattle.scalars.proofs.unpaid.joined_with.Statement.{statement}
 use Rattle.scalars.proofs.unpaid.joined_with.Tie as tie
@@ -13,19 +16,25 @@ returns c =
     let asked : tie.After-passes = search needs in
     rw (sym (asked .passes .ensures) ∙ c .if1 .taken)
 
+-- what both sums rest on
+module _ (c : tie.Else1) where
+  abbrev start : tie.Start
+  start = search needs
+
+  all-within : unpaidSum (start .args .unpaid) + start .args .amount .0 ≤ netLimit
+  all-within =
+      let asked : tie.After-passes = search needs in
+      within (start .args .unpaid) (start .args .amount .0) (sym (asked .passes .ensures) ∙ c .if1 .left)
+
 add-today : tie.Need-add-today
 add-today c =
-    let s : tie.Start = search needs in
-    let asked : tie.After-passes = search needs in
     let room : tie.Else1 = search needs in
-    omega (arith, within (s .args .unpaid) (s .args .amount .0) (sym (asked .passes .ensures) ∙ room .if1 .left))
+    omega (arith, all-within room)
 
 add-cleared : tie.Need-add-cleared
 add-cleared c =
-    let s : tie.Start = search needs in
-    let asked : tie.After-passes = search needs in
     let room : tie.Else1 = search needs in
-    omega (arith, within (s .args .unpaid) (s .args .amount .0) (sym (asked .passes .ensures) ∙ room .if1 .left))
+    omega (arith, all-within room)
 
 returns-2 : tie.Need-returns-2
 returns-2 c =
