@@ -6,16 +6,17 @@ pub mod evenings;
 pub mod ledger;
 pub mod longest;
 pub mod nets;
+pub mod standings;
 pub mod unfit;
 pub mod unpaid;
 
 use crate::event::Event;
 use ledger::Ledger;
 
-/// An event on a book: the numbers in question that it leaves, or its
+/// An event on a book: what is in question of the book that it leaves, or its
 /// refusal's number.
-pub struct Case<Numbers> {
+pub struct Case<Left> {
     pub ledger: Ledger,
     pub event: Event,
-    pub outcome: Result<Numbers, u32>,
+    pub outcome: Result<Left, u32>,
 }

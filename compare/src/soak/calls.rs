@@ -8,7 +8,7 @@ use model::cases::drawn::{drawn, replace_a_number};
 use model::cases::evenings::{at_the_edge, evening};
 use model::cases::ledger::Ledger;
 use model::cases::unfit::{busy_ledger, can_be_changed, every_event, STILL_FIT, UNFIT};
-use model::cases::{nets, unpaid, Case};
+use model::cases::{nets, standings, unpaid, Case};
 use model::coverage::evenings::Evenings;
 use model::coverage::{allowed_on_any_book, Coverage};
 use model::event::{Event, EVENT_BYTES};
@@ -109,9 +109,10 @@ impl Calls {
 fn call(random: &mut Random) -> (Ledger, Vec<[u8; EVENT_BYTES]>) {
     match random.below(20) {
         0 => (evening(random), vec![Event::Close.encode()]),
-        1 => match random.below(3) {
+        1 => match random.below(4) {
             0 => one_of(random, nets::all()),
             1 => one_of(random, unpaid::all()),
+            2 => one_of(random, standings::all()),
             _ => one_of(random, at_the_edge()),
         },
         2 => {

@@ -6,6 +6,7 @@
 mod lengths;
 mod limits;
 mod malformed;
+mod standings;
 mod unfit;
 
 use compare::sides::{both, both_run, fill_spare_slots};

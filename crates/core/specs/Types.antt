@@ -10,8 +10,6 @@ pub use Rattle.rules.specs.declared.book.Day.{Day}
 pub use Rattle.rules.specs.declared.book.Day.the-variants.{Never, On}
 pub use Rattle.rules.specs.declared.book.Phase.{Phase}
 pub use Rattle.rules.specs.declared.book.Phase.the-variants.{Closed, Trading, Paid}
-pub use Rattle.rules.specs.declared.book.Status.the-variants.{Normal, Suspended, Terminated}
-pub use Rattle.rules.specs.declared.book.FailedRun.the-variants.{NotFailed, FailedOnce, FailedTwice}
 pub use Rattle.rules.specs.declared.book.Standing.{Standing}
 pub use Rattle.rules.specs.declared.book.Withdrawals.{Withdrawals}
 pub use Rattle.rules.specs.declared.book.Book.{Book}

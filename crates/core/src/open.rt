@@ -5,72 +5,23 @@ ghost use lib.ListN.{length};
 ghost use Rattle.money.specs.Limits.{calendarLimit};
 ghost use Rattle.money.specs.Causes.{firstOf};
 ghost use Rattle.money.specs.Units.{fen};
-ghost use Rattle.rules.specs.Open.{statusAtOpen, turnsTerminated, openedStanding, fallbackSum, openCauses, openedBook, openedTable};
-ghost use Rattle.core.specs.Types.{Normal, NotFailed, FailedOnce};
+ghost use Rattle.rules.specs.Status.{statusAtOpen};
+ghost use Rattle.rules.specs.Open.{turnsTerminated, openedStanding, fallbackSum, openCauses, openedBook, openedTable};
 ghost use Rattle.core.specs.Flat.{Rows, bookOf, Fits, Opening, Ending, appliedAt, tradesOf, appliedBy, tableBy};
 ghost use Rattle.core.specs.Redemption.{amountBound};
 use crate::days;
 use crate::nets;
 use crate::redemption;
 use money::units::Fen;
-use rules::book::FailedRun;
 use rules::book::Phase;
-use rules::book::ShortRun;
 use rules::book::Standing;
-use rules::book::Status;
 use scalars::done;
 use scalars::done::Done;
 use scalars::standing;
 use scalars::state;
 use scalars::state::Scalars;
+use scalars::status;
 use scalars::unpaid;
-
-// Art. 69: short of collateral, initial trades are not taken from the next day on, and are again once headroom is not below
-// zero; still short two days later, the permission ends.
-fn status_by_short(short: ShortRun) -> Status
-    ensures { λ r. ⌜ r ≡ statusAtOpen Normal NotFailed short ⌝ }
-{
-    match short {
-        ShortRun::NotShort => Status::Normal,
-        ShortRun::ShortOnce => Status::Suspended,
-        ShortRun::ShortTwice => Status::Suspended,
-        ShortRun::ShortThrice => Status::Terminated,
-    }
-}
-
-// Art. 70: a payment failed, initial trades are not taken, whatever else holds them up.
-fn status_after_failure(short: ShortRun) -> Status
-    ensures { λ r. ⌜ r ≡ statusAtOpen Normal FailedOnce short ⌝ }
-{
-    match short {
-        ShortRun::NotShort => Status::Suspended,
-        ShortRun::ShortOnce => Status::Suspended,
-        ShortRun::ShortTwice => Status::Suspended,
-        ShortRun::ShortThrice => Status::Terminated,
-    }
-}
-
-// Art. 70: a payment failed two days in a row ends the permission.
-fn status_by_runs(failed: FailedRun, short: ShortRun) -> Status
-    ensures { λ r. ⌜ r ≡ statusAtOpen Normal failed short ⌝ }
-{
-    match failed {
-        FailedRun::NotFailed => status_by_short(short),
-        FailedRun::FailedOnce => status_after_failure(short),
-        FailedRun::FailedTwice => Status::Terminated,
-    }
-}
-
-// A permission that has ended stays so.
-fn status_at_open(status: Status, failed: FailedRun, short: ShortRun) -> Status
-    ensures { λ r. ⌜ r ≡ statusAtOpen status failed short ⌝ }
-{
-    match status {
-        Status::Normal => status_by_runs(failed, short),
-        Status::Suspended => status_by_runs(failed, short),
-        Status::Terminated => Status::Terminated,
-    }
-}
 
 fn opened_standing(calendar: &[u32], standing: Standing) -> Standing
     requires { ⌜ length (now calendar) ≤ calendarLimit ⌝ }
@@ -83,7 +34,7 @@ fn opened_standing(calendar: &[u32], standing: Standing) -> Standing
     Standing {
         day: days::next_day(calendar, day),
         phase: Phase::Trading,
-        status: status_at_open(status, failed, short),
+        status: status::status_at_open(status, failed, short),
         failed,
         short,
     }

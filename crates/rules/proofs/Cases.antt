@@ -124,7 +124,7 @@ answerTo calendar entries entry = step calendar (after calendar entries) (tableA
 abbrev numberTo : Calendar → List Entry → Entry → ℤ
 numberTo calendar entries entry = pos (answerTo calendar entries entry .number)
 
-abbrev pub statusNumber : Status → ℕ
+abbrev statusNumber : Status → ℕ
 statusNumber Normal = 0
 statusNumber Suspended = 1
 statusNumber Terminated = 2

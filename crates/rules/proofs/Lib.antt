@@ -6,6 +6,8 @@ pub mod TradeLaws
 pub mod Signed
 -- the number given is the smallest that applies
 pub mod Answers
+-- the status is the one given before
+pub mod StatusAsBefore
 -- a fit book stays fit
 pub mod FitParts
 pub mod TableFit

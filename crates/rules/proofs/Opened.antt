@@ -10,7 +10,8 @@ use Rattle.rules.specs.Days.{following, paymentDay, followed}
 use Rattle.rules.specs.Trades.{total, outstanding, onTable, tradeOf, differ, takeOff, remaining}
 use Rattle.rules.specs.Vault.{value, headroom}
 use Rattle.rules.specs.Fit.{capacityFit, securitiesFit, cashFit, allTrades, sizeFit, netsFit, sumsFit, withdrawalsFit, fit}
-use Rattle.rules.specs.Open.{openCauses, openedBook, openedTable, statusAtOpen, turnsTerminated}
+use Rattle.rules.specs.Status.{statusAtOpen}
+use Rattle.rules.specs.Open.{openCauses, openedBook, openedTable, turnsTerminated}
 use Rattle.rules.specs.Funds.{fundInCauses, fundedIn, fundOutCauses, fundedOut}
 use Rattle.rules.specs.Size.{sizeCauses, sized}
 use Rattle.rules.specs.Rate.{rateCauses, rated}

@@ -1,4 +1,4 @@
--- What the other laws would let slip, shown case by case: the slips of document 01, the runs and the status, withdrawals and the numbers around them.
+-- What the other laws would let slip, shown case by case: the slips of document 01, the runs, withdrawals and the numbers around them.
 -- Assumes nothing.
 use mathlib.Core.Path.{_≡_, refl}
 use mathlib.Core.List.{List, [], _∷_, map}
@@ -7,42 +7,20 @@ use lib.IntN.{natAbs}
 use lib.ListN.{replicate, drop, length}
 use Rattle.money.specs.Units.{fen, sheets, ticks}
 use Rattle.money.specs.Days.{Calendar}
-use Rattle.rules.specs.Book.{Status, Normal, Suspended, Terminated, FailedRun, NotFailed, FailedOnce, FailedTwice, ShortRun, NotShort, ShortOnce, ShortTwice, ShortThrice}
+use Rattle.rules.specs.Book.{FailedOnce, FailedTwice, ShortOnce, ShortTwice, ShortThrice}
 use Rattle.rules.specs.Vault.{headroom}
 use Rattle.rules.specs.Entry.{Own, Client, Open, FundIn, FundOut, Size, Rate, Pledge, Freeze, Withdraw, Early, Pay, Close, Entry, Known, Undecodable, Fields, unless, entryOf, codeOf}
-use Rattle.rules.specs.Open.{statusAtOpen}
 use Rattle.rules.specs.Pay.{failedMore}
 use Rattle.rules.specs.Close.{shortMore}
 use Rattle.rules.specs.Run.{Seen}
 use Rattle.rules.specs.Demand3.{seenFrom}
+use Rattle.rules.proofs.StatusAsBefore.{failedRuns, shortRuns}
 use Rattle.rules.proofs.Opened.{everyRule}
-use Rattle.rules.proofs.Cases.{_then_, noTrades, daily, initial, cover180, failedOnce, statusNumber}
+use Rattle.rules.proofs.Cases.{_then_, noTrades, daily, initial, cover180, failedOnce}
 
--- ---- the status at Open, over every old status and both runs (arts. 69, 70)
+-- ---- the runs: "at most to 2", "at most to 3"
 
-abbrev statuses : List Status
-statuses = Normal ∷ Suspended ∷ Terminated ∷ []
-
-abbrev allFailed : List FailedRun
-allFailed = NotFailed ∷ FailedOnce ∷ FailedTwice ∷ []
-
-abbrev allShort : List ShortRun
-allShort = NotShort ∷ ShortOnce ∷ ShortTwice ∷ ShortThrice ∷ []
-
-abbrev opensAs : Status → FailedRun → List ℕ
-opensAs status failed = map (λ (short : ShortRun). statusNumber (statusAtOpen status failed short)) allShort
-
--- by old status, then failed run; a row is the short runs 0 to 3; 0 normal, 1 suspended, 2 terminated
-pub status-of-all-36 : map (λ (status : Status). map (opensAs status) allFailed) statuses ≡
-    (((0 ∷ 1 ∷ 1 ∷ 2 ∷ []) ∷ (1 ∷ 1 ∷ 1 ∷ 2 ∷ []) ∷ (2 ∷ 2 ∷ 2 ∷ 2 ∷ []) ∷ [])
-    ∷ ((0 ∷ 1 ∷ 1 ∷ 2 ∷ []) ∷ (1 ∷ 1 ∷ 1 ∷ 2 ∷ []) ∷ (2 ∷ 2 ∷ 2 ∷ 2 ∷ []) ∷ [])
-    ∷ ((2 ∷ 2 ∷ 2 ∷ 2 ∷ []) ∷ (2 ∷ 2 ∷ 2 ∷ 2 ∷ []) ∷ (2 ∷ 2 ∷ 2 ∷ 2 ∷ []) ∷ [])
-    ∷ [])
-unfolding statusAtOpen
-status-of-all-36 = refl
-
--- "at most to 2", "at most to 3"
-pub runs-grow-to-their-ends : (map failedMore allFailed ≡ FailedOnce ∷ FailedTwice ∷ FailedTwice ∷ []) × (map shortMore allShort ≡ ShortOnce ∷ ShortTwice ∷ ShortThrice ∷ ShortThrice ∷ [])
+pub runs-grow-to-their-ends : (map failedMore failedRuns ≡ FailedOnce ∷ FailedTwice ∷ FailedTwice ∷ []) × (map shortMore shortRuns ≡ ShortOnce ∷ ShortTwice ∷ ShortThrice ∷ ShortThrice ∷ [])
 runs-grow-to-their-ends = (refl, refl)
 
 -- ---- journals, told by rows: the answer's number, applications done and dropped, the size of headroom, own cash

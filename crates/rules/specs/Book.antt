@@ -61,12 +61,6 @@ hasFailed NotFailed = false
 hasFailed FailedOnce = true
 hasFailed FailedTwice = true
 
-abbrev pub isShort : ShortRun → Bool
-isShort NotShort = false
-isShort ShortOnce = true
-isShort ShortTwice = true
-isShort ShortThrice = true
-
 -- ---- the book with a part set anew
 
 abbrev pub withNets : Nets → Book → Book

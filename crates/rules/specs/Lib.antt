@@ -8,6 +8,7 @@ pub mod Trades
 pub mod Vault
 pub mod Fit
 pub mod Entry
+pub mod Status
 pub mod Open
 pub mod Funds
 pub mod Size

@@ -1,7 +1,7 @@
 -- "1 Open, in Closed: goes to the next trading day, at first the earliest." (arts. 69, 70, 72)
 -- Assumes nothing.
 use Prim.Native.Nat.{ℕ}
-use mathlib.Core.Bool.{Bool, true, false, cond, not, _&&_, _||_}
+use mathlib.Core.Bool.{Bool, cond, not, _&&_, _||_}
 use mathlib.Core.List.{List, [], _∷_, map}
 use lib.Dec.{ltb}
 use lib.IntN.{ℤ, pos, natAbs, _+ℤ_}
@@ -9,28 +9,13 @@ use Rattle.money.specs.Units.{signedFen}
 use Rattle.money.specs.Causes.{Cause, _⇒_}
 use Rattle.money.specs.Days.{Calendar}
 use Rattle.rules.specs.Limits.{netLimit}
-use Rattle.rules.specs.Book.{Day, Trading, Status, Normal, Suspended, Terminated, FailedRun, NotFailed, FailedOnce, FailedTwice, ShortRun, NotShort, ShortOnce, ShortTwice, ShortThrice, Standing, Unpaid, Book, isClosed, isTerminated, hasFailed, isShort, withNets, withUnpaid, withStanding}
+use Rattle.rules.specs.Book.{Day, Trading, Status, Standing, Unpaid, Book, isClosed, isTerminated, withNets, withUnpaid, withStanding}
+use Rattle.rules.specs.Status.{statusAtOpen}
 use Rattle.rules.specs.Unpaid.{clearedPlus, passes}
 use Rattle.rules.specs.Days.{following, toDay, paymentDay, followed}
 use Rattle.rules.specs.Trades.{Trade, inUse, total, fallbackAmount, emptied, over}
 
-abbrev pub failedTwice : FailedRun → Bool
-failedTwice NotFailed = false
-failedTwice FailedOnce = false
-failedTwice FailedTwice = true
-
-abbrev pub shortThrice : ShortRun → Bool
-shortThrice NotShort = false
-shortThrice ShortOnce = false
-shortThrice ShortTwice = false
-shortThrice ShortThrice = true
-
--- "Terminated if already so, or 2 failed payments, or 3 short closes; else suspended if either run is above 0; else normal (arts. 69, 70)."
-unfoldable pub statusAtOpen : Status → FailedRun → ShortRun → Status
-statusAtOpen status failed short =
-    cond (isTerminated status || failedTwice failed || shortThrice short) Terminated
-    (cond (hasFailed failed || isShort short) Suspended Normal)
-
+-- the status of the day to be opened (arts. 69, 70)
 abbrev pub nextStatus : Standing → Status
 nextStatus standing = statusAtOpen (standing .status) (standing .failed) (standing .short)
 

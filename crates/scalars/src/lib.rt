@@ -4,7 +4,8 @@
 pub mod done;
 pub mod state;
 
-// Headroom and the claims on the pledge, U, and where the firm stands.
+// Headroom and the claims on the pledge, U, where the firm stands, and the status of the day that opens.
 pub mod headroom;
 pub mod standing;
+pub mod status;
 pub mod unpaid;

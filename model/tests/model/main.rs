@@ -11,5 +11,6 @@ mod journals;
 mod limits;
 mod money;
 mod pencil;
+mod standings;
 mod unpaid;
 mod worked_example;

@@ -1,8 +1,8 @@
 use mathlib.Core.Path.{refl}
 use borrow.Author.Needs.{needs}
-use Rattle.rules.specs.Open.{statusAtOpen}
-use Rattle.core.proofs.open.status_at_open.Statement.{statement}
-use Rattle.core.proofs.open.status_at_open.Tie as tie
+use Rattle.rules.specs.Status.{statusAtOpen}
+use Rattle.scalars.proofs.status.status_at_open.Statement.{statement}
+use Rattle.scalars.proofs.status.status_at_open.Tie as tie
 
 enum-told : tie.Need-enum-told
 enum-told c = search needs
@@ -20,11 +20,12 @@ enum-told-3 : tie.Need-enum-told-3
 enum-told-3 c = search needs
 
 returns : tie.Need-returns
-returns c = rw (c .before .enum-told .given .1) (c .status-by-runs .ensures)
+unfolding statusAtOpen
+returns c = let normal : tie.After-enum-told = search needs in rw (normal .enum-told .given .1) (c .status-by-runs .ensures)
 
 returns-2 : tie.Need-returns-2
 unfolding statusAtOpen
-returns-2 c = rw (c .before .enum-told2 .given .1) (c .status-by-runs2 .ensures)
+returns-2 c = let suspended : tie.After-enum-told2 = search needs in rw (suspended .enum-told2 .given .1) (c .status-by-runs2 .ensures)
 
 returns-3 : tie.Need-returns-3
 unfolding statusAtOpen
