@@ -32,7 +32,7 @@ statusBefore status failed short =
     cond (isTerminated status || failedTwice failed || shortThrice short) Terminated
     (cond (hasFailed failed || isShort short) Suspended Normal)
 
--- ---- the 36 cases: old status, run of failed payments, run of short closes
+-- ---- the 36 cases, by old status, then run of failed payments, then run of short closes
 
 abbrev statuses : List Status
 statuses = Normal ∷ Suspended ∷ Terminated ∷ []

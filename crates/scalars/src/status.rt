@@ -6,7 +6,7 @@ use rules::book::FailedRun;
 use rules::book::ShortRun;
 use rules::book::Status;
 
-// While the permission lasts: by the payments that failed in a row before this day, and the closes in a row at which the pledge was short, headroom below zero.
+// While the permission lasts: by the run of failed payments before this day, and the run of closes at which the pledge was short (headroom below zero).
 fn status_by_runs(failed: FailedRun, short: ShortRun) -> Status
     ensures { λ r. ⌜ r ≡ statusByRuns failed short ⌝ }
 {
@@ -14,7 +14,7 @@ fn status_by_runs(failed: FailedRun, short: ShortRun) -> Status
         FailedRun::NotFailed => match short {
             // 69, second sentence: "Once the firm's headroom is not below zero, the exchange may accept its initial trades again."
             // 70, second clause: "where the firm completes the payment on T+2, its initial trades are accepted again on T+3"
-            // or the pledge was never short and no payment failed, and neither speaks
+            // or neither speaks, since nothing was short and nothing failed
             ShortRun::NotShort => Status::Normal,
             // 69, first sentence: "Where … the pledge is short, the exchange may suspend acceptance of the firm's initial trades from the next trading day on …"
             ShortRun::ShortOnce => Status::Suspended,
