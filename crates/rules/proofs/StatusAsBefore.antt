@@ -1,9 +1,9 @@
 -- The status read off the articles is the one that document 01's sentence gives, in all 36 cases: computed over the list of them, and carried to each.
 -- (02, ask 3) Assumes nothing.
-use mathlib.Core.Path.{_≡_, refl, ap}
+use mathlib.Core.Path.{_≡_, refl, sym, ap, _∙_}
 use mathlib.Core.Bool.{Bool, true, false, cond, _||_}
-use mathlib.Core.List.{List, [], _∷_, map}
-use lib.ListN.{getD}
+use mathlib.Core.List.{List, [], _∷_, map, head-eq-of-cons-eq, tail-eq-of-cons-eq}
+use mathlib.Core.List.{List·Memᴰ as Listed, List·Memᴰ·head as here, List·Memᴰ·tail as later}
 use Rattle.rules.specs.Book.{Status, Normal, Suspended, Terminated, FailedRun, NotFailed, FailedOnce, FailedTwice, ShortRun, NotShort, ShortOnce, ShortTwice, ShortThrice, isTerminated, hasFailed}
 use Rattle.rules.specs.Status.{statusAtOpen}
 
@@ -64,25 +64,29 @@ status-as-before = refl
 
 -- ---- none is missing from the lists, so it holds of each
 
-module _ {A : Type 0} where
-  at-status : (f g : Status → A) → map f statuses ≡ map g statuses → (status : Status) → f status ≡ g status
-  at-status f g same Normal = ap (λ given. getD given 0 (f Normal)) same
-  at-status f g same Suspended = ap (λ given. getD given 1 (f Normal)) same
-  at-status f g same Terminated = ap (λ given. getD given 2 (f Normal)) same
+status-listed : (status : Status) → Listed status statuses
+status-listed Normal = here refl
+status-listed Suspended = later (here refl)
+status-listed Terminated = later (later (here refl))
 
-  at-failed : (f g : FailedRun → A) → map f failedRuns ≡ map g failedRuns → (failed : FailedRun) → f failed ≡ g failed
-  at-failed f g same NotFailed = ap (λ given. getD given 0 (f NotFailed)) same
-  at-failed f g same FailedOnce = ap (λ given. getD given 1 (f NotFailed)) same
-  at-failed f g same FailedTwice = ap (λ given. getD given 2 (f NotFailed)) same
+failed-listed : (failed : FailedRun) → Listed failed failedRuns
+failed-listed NotFailed = here refl
+failed-listed FailedOnce = later (here refl)
+failed-listed FailedTwice = later (later (here refl))
 
-  at-short : (f g : ShortRun → A) → map f shortRuns ≡ map g shortRuns → (short : ShortRun) → f short ≡ g short
-  at-short f g same NotShort = ap (λ given. getD given 0 (f NotShort)) same
-  at-short f g same ShortOnce = ap (λ given. getD given 1 (f NotShort)) same
-  at-short f g same ShortTwice = ap (λ given. getD given 2 (f NotShort)) same
-  at-short f g same ShortThrice = ap (λ given. getD given 3 (f NotShort)) same
+short-listed : (short : ShortRun) → Listed short shortRuns
+short-listed NotShort = here refl
+short-listed ShortOnce = later (here refl)
+short-listed ShortTwice = later (later (here refl))
+short-listed ShortThrice = later (later (later (here refl)))
+
+-- what is the same over a list is the same of each that is listed
+same-of : {A B : Type 0} (f g : A → B) {a : A} {all : List A} → Listed a all → map f all ≡ map g all → f a ≡ g a
+same-of f g (here e) same = ap f e ∙ head-eq-of-cons-eq same ∙ sym (ap g e)
+same-of f g (later listed) same = same-of f g listed (tail-eq-of-cons-eq same)
 
 pub each-as-before : (status : Status) (failed : FailedRun) (short : ShortRun) → statusAtOpen status failed short ≡ statusBefore status failed short
 each-as-before status failed short =
-    let of-status = at-status (overRuns statusAtOpen) (overRuns statusBefore) status-as-before status in
-    let of-failed = at-failed (overShort statusAtOpen status) (overShort statusBefore status) of-status failed in
-    at-short (statusAtOpen status failed) (statusBefore status failed) of-failed short
+    let of-status = same-of (overRuns statusAtOpen) (overRuns statusBefore) (status-listed status) status-as-before in
+    let of-failed = same-of (overShort statusAtOpen status) (overShort statusBefore status) (failed-listed failed) of-status in
+    same-of (statusAtOpen status failed) (statusBefore status failed) (short-listed short) of-failed
