@@ -16,7 +16,7 @@ use Rattle.rules.specs.Entry.{Event, Entry, Known}
 use Rattle.rules.specs.Step.{act}
 use Rattle.rules.specs.Run.{Seen}
 use Rattle.rules.specs.Tally.{Tally, dayAfter, paidOn, saysTerminated, tell}
-use Rattle.rules.specs.Demand3.{told, isInitial, isPay, InitialCovered, PaymentRight, movedAt}
+use Rattle.rules.specs.Demand3.{told, isInitial, isPay, isClose, InitialCovered, StartsCovered, PaymentRight, movedAt}
 use Rattle.rules.proofs.FoldLaws.{neither}
 use Rattle.rules.proofs.CashKept.{cashOf}
 
@@ -53,24 +53,27 @@ pub record Agrees (v : View) (t : Tally) : Type 0 where
 
 -- what an entry leaves: the relation, and the claims about that entry
 pub record Right (calendar : Calendar) (t : Tally) (seen : Seen) : Type 0 where
-  pub agrees : Agrees (view (seen .left .book) (seen .left .table)) (tell calendar t (told (seen .left) seen))
+  pub agrees : Agrees (view (seen .left .book) (seen .left .table)) (tell calendar t (told calendar seen seen))
   pub initial : InitialCovered seen
+  pub starts : StartsCovered (told calendar seen seen) seen
   pub payment : PaymentRight t seen
-  pub moves : t .paid +ℤ movedAt seen ≡ tell calendar t (told (seen .left) seen) .paid
+  pub moves : t .paid +ℤ movedAt seen ≡ tell calendar t (told calendar seen seen) .paid
 
 -- an entry that demand 3 claims nothing about by itself
 abbrev pub plain : Entry → Bool
-plain entry = not (isInitial entry || isPay entry)
+plain entry = not (isInitial entry || isPay entry || isClose entry)
 
-pub right : (calendar : Calendar) (t : Tally) (seen : Seen) → plain (seen .entry) ≡ true → t .paid ≡ tell calendar t (told (seen .left) seen) .paid
-    → Agrees (view (seen .left .book) (seen .left .table)) (tell calendar t (told (seen .left) seen)) → Right calendar t seen
+pub right : (calendar : Calendar) (t : Tally) (seen : Seen) → plain (seen .entry) ≡ true → t .paid ≡ tell calendar t (told calendar seen seen) .paid
+    → Agrees (view (seen .left .book) (seen .left .table)) (tell calendar t (told calendar seen seen)) → Right calendar t seen
 right calendar t seen nothing paid agrees =
-    let off = neither (isInitial (seen .entry)) (isPay (seen .entry)) (not-true _ nothing) in
+    let off = neither (isInitial (seen .entry) || isPay (seen .entry)) (isClose (seen .entry)) (not-true _ nothing) in
+    let others = neither (isInitial (seen .entry)) (isPay (seen .entry)) (off .0) in
     record {
       agrees = agrees;
-      initial = λ h a. absurd (rw (off .0) at h);
-      payment = λ h a. absurd (rw (off .1) at h);
-      moves = rw (off .1) (+ℤ-idr (t .paid)) ∙ paid;
+      initial = λ h a. absurd (rw (others .0) at h);
+      starts = λ h a. absurd (rw (off .1) at h);
+      payment = λ h a. absurd (rw (others .1) at h);
+      moves = rw (others .1) (+ℤ-idr (t .paid)) ∙ paid;
     }
 
 abbrev pub acted : Calendar → Book → List Trade → Event → Seen

@@ -1,19 +1,20 @@
--- The answer's number: the smallest cause that applies, and 0 or 99 exactly where none does. (01, Turned-down events)
+-- The answer's number: the first cause that applies in the order of refusals, and 0 or 99 exactly where none does. (01, Turned-down events; 02, ask 4)
 -- Assumes nothing.
 use mathlib.Core.Path.{_≡_, refl, sym, ap, _∙_}
 use mathlib.Core.Bool.{Bool, true, false, false≢true, cond, not, _||_}
-use mathlib.Core.List.{List, [], _∷_}
+use mathlib.Core.List.{List, [], _∷_, map}
 use mathlib.Core.Option.{Option, none, some}
-use Prim.Native.Nat.{ℕ}
+use Prim.Native.Nat.{ℕ, _<_}
 use native.Mathlib.Omega.{arith}
-use borrow.Author.Tests.{not-true, eqb-false}
-use lib.Dec.{eqb}
-use Rattle.money.specs.Causes.{Cause, firstOf, numberOf}
+use borrow.Author.Tests.{not-true, eqb-false, ltb-true}
+use lib.Dec.{ltb, eqb}
+use lib.ListN.{length}
+use Rattle.money.specs.Causes.{Cause, _⇒_, firstOf, numberOf}
 use Rattle.money.specs.Days.{Calendar}
 use Rattle.money.proofs.Smallest.{rising, Least, least-cause}
 use Rattle.rules.specs.Book.{Book}
 use Rattle.rules.specs.Trades.{Trade}
-use Rattle.rules.specs.Entry.{Event, Open, FundIn, FundOut, Size, Rate, Pledge, Freeze, Withdraw, Initial, Early, Pay, Close, Entry, Known, Undecodable}
+use Rattle.rules.specs.Entry.{Event, Open, FundIn, FundOut, Size, Rate, Pledge, Freeze, Withdraw, Initial, Early, Pay, Close, Post, Entry, Known, Undecodable}
 use Rattle.rules.specs.Open.{openCauses}
 use Rattle.rules.specs.Funds.{fundInCauses, fundOutCauses}
 use Rattle.rules.specs.Size.{sizeCauses}
@@ -24,11 +25,14 @@ use Rattle.rules.specs.Withdraw.{withdrawCauses}
 use Rattle.rules.specs.Initial.{initialCauses}
 use Rattle.rules.specs.Early.{earlyCauses}
 use Rattle.rules.specs.Pay.{payCauses, payNumber, fails}
+use Rattle.rules.specs.Post.{postCauses}
 use Rattle.rules.specs.Close.{closeCauses, closeAnswer}
+use Rattle.rules.specs.Order.{order, place, placed, displaced}
 use Rattle.rules.specs.Step.{eventCauses, entryCauses, causes, act, actOn, refuseOr, step, accepted, unfit}
 use Rattle.rules.proofs.FoldLaws.{neither}
+use Rattle.rules.proofs.OrderLaws.{first-placed, bySize, least-by-size, Applies, given-applies}
 
--- ---- what is computed of the numbers of an event's causes: they rise, and none is 0, 1 or 99
+-- ---- what is computed of the numbers of an event's causes: they stand in order, by size but for the displaced, and none is 0, 1 or 99
 
 -- each number of some causes passes a test
 abbrev pub numbers : (ℕ → Bool) → List Cause → Bool
@@ -60,42 +64,72 @@ none-at-0 p cs n fails all e z = go (firstOf cs) refl (sym e ∙ z)
 abbrev pub unused : ℕ → Bool
 unused k = eqb k 1 || accepted k
 
--- both tests at once, so that the events are gone through once
-pub event-numbers : (calendar : Calendar) (book : Book) (table : List Trade) (event : Event) → (rising 1 (eventCauses calendar book table event) ≡ true) × (numbers (λ k. not (unused k)) (eventCauses calendar book table event) ≡ true)
-unfolding eventCauses openCauses fundInCauses fundOutCauses sizeCauses rateCauses pledgeCauses freezeCauses withdrawCauses initialCauses earlyCauses payCauses closeCauses
-event-numbers calendar book table Open = (refl, refl)
-event-numbers calendar book table (FundIn account amount) = (refl, refl)
-event-numbers calendar book table (FundOut account amount) = (refl, refl)
-event-numbers calendar book table (Size size) = (refl, refl)
-event-numbers calendar book table (Rate kind rate) = (refl, refl)
-event-numbers calendar book table (Pledge kind units) = (refl, refl)
-event-numbers calendar book table (Freeze kind units) = (refl, refl)
-event-numbers calendar book table (Withdraw kind units) = (refl, refl)
-event-numbers calendar book table (Initial terms) = (refl, refl)
-event-numbers calendar book table (Early contract count price) = (refl, refl)
-event-numbers calendar book table Pay = (refl, refl)
-event-numbers calendar book table Close = (refl, refl)
+-- a number that the order has
+abbrev pub inOrder : ℕ → Bool
+inOrder k = ltb (place k) (length order)
 
--- ---- the smallest number that applies is given
+-- all tests at once, so that the events are gone through once; of the causes that stand behind 1
+pub record Computed (cs : List Cause) : Type 0 where
+  pub ordered : rising 0 (map placed cs) ≡ true
+  pub sized : bySize ((true ⇒ 1) ∷ cs) ≡ true
+  pub listed : numbers inOrder cs ≡ true
+  pub known : numbers (λ k. not (unused k)) cs ≡ true
 
-causes-rise : (calendar : Calendar) (book : Book) (table : List Trade) (entry : Entry) → rising 0 (causes calendar book table entry) ≡ true
+pub event-numbers : (calendar : Calendar) (book : Book) (table : List Trade) (event : Event) → Computed (eventCauses calendar book table event)
+unfolding eventCauses openCauses fundInCauses fundOutCauses sizeCauses rateCauses pledgeCauses freezeCauses withdrawCauses initialCauses earlyCauses payCauses closeCauses postCauses
+event-numbers calendar book table Open = record { ordered = refl; sized = refl; listed = refl; known = refl }
+event-numbers calendar book table (FundIn account amount) = record { ordered = refl; sized = refl; listed = refl; known = refl }
+event-numbers calendar book table (FundOut account amount) = record { ordered = refl; sized = refl; listed = refl; known = refl }
+event-numbers calendar book table (Size size) = record { ordered = refl; sized = refl; listed = refl; known = refl }
+event-numbers calendar book table (Rate kind rate) = record { ordered = refl; sized = refl; listed = refl; known = refl }
+event-numbers calendar book table (Pledge kind units) = record { ordered = refl; sized = refl; listed = refl; known = refl }
+event-numbers calendar book table (Freeze kind units) = record { ordered = refl; sized = refl; listed = refl; known = refl }
+event-numbers calendar book table (Withdraw kind units) = record { ordered = refl; sized = refl; listed = refl; known = refl }
+event-numbers calendar book table (Initial terms) = record { ordered = refl; sized = refl; listed = refl; known = refl }
+event-numbers calendar book table (Early contract count price) = record { ordered = refl; sized = refl; listed = refl; known = refl }
+event-numbers calendar book table Pay = record { ordered = refl; sized = refl; listed = refl; known = refl }
+event-numbers calendar book table Close = record { ordered = refl; sized = refl; listed = refl; known = refl }
+event-numbers calendar book table (Post product posting) = record { ordered = refl; sized = refl; listed = refl; known = refl }
+
+entry-numbers : (calendar : Calendar) (book : Book) (table : List Trade) (entry : Entry) → Computed (entryCauses calendar book table entry)
+entry-numbers calendar book table (Known event) = event-numbers calendar book table event
+entry-numbers calendar book table Undecodable = record { ordered = refl; sized = refl; listed = refl; known = refl }
+
+-- ---- the first number in order is given: nothing that applies stands before it
+
+pub first-in-order : (calendar : Calendar) (book : Book) (table : List Trade) (entry : Entry) (k : ℕ) → firstOf (causes calendar book table entry) ≡ some k
+    → Least (place k) (map placed (causes calendar book table entry))
 unfolding causes
-causes-rise calendar book table (Known event) = event-numbers calendar book table event .0
-causes-rise calendar book table Undecodable = refl
+first-in-order calendar book table entry k e =
+    let cs = causes calendar book table entry in
+    least-cause 0 (place k) (map placed cs) (entry-numbers calendar book table entry .ordered) (first-placed cs k e)
 
-pub smallest-cause : (calendar : Calendar) (book : Book) (table : List Trade) (entry : Entry) (k : ℕ) → firstOf (causes calendar book table entry) ≡ some k → Least k (causes calendar book table entry)
-smallest-cause calendar book table entry k e = least-cause 0 k (causes calendar book table entry) (causes-rise calendar book table entry) e
+-- it has a place there
+pub given-in-order : (calendar : Calendar) (book : Book) (table : List Trade) (entry : Entry) (k : ℕ) → firstOf (causes calendar book table entry) ≡ some k
+    → place k < length order
+unfolding causes
+given-in-order calendar book table entry k e =
+    ltb-true (place k) (length order) (number-passes inOrder (causes calendar book table entry) k (entry-numbers calendar book table entry .listed) e)
+
+-- it is the smallest, unless it is displaced
+pub smallest-cause : (calendar : Calendar) (book : Book) (table : List Trade) (entry : Entry) (k : ℕ) → firstOf (causes calendar book table entry) ≡ some k → displaced k ≡ false
+    → Least k (causes calendar book table entry)
+unfolding causes
+smallest-cause calendar book table entry k e stands =
+    least-by-size k (causes calendar book table entry) (entry-numbers calendar book table entry .sized) stands e
+
+-- and a cause of that number applies
+pub stated-cause : (calendar : Calendar) (book : Book) (table : List Trade) (entry : Entry) (k : ℕ) → firstOf (causes calendar book table entry) ≡ some k
+    → Applies k (causes calendar book table entry)
+stated-cause calendar book table entry k e = given-applies (causes calendar book table entry) k e
 
 -- ---- accepted exactly where no cause applies
 
 -- an entry's own causes give neither 1 nor an accepted number
 own-number : (calendar : Calendar) (book : Book) (table : List Trade) (entry : Entry) (k : ℕ) → firstOf (entryCauses calendar book table entry) ≡ some k → (eqb k 1 ≡ false) × (accepted k ≡ false)
 own-number calendar book table entry k e =
-    neither (eqb k 1) (accepted k) (not-true (unused k) (number-passes (λ k. not (unused k)) (entryCauses calendar book table entry) k (computed entry) e))
-  where
-    computed : (entry : Entry) → numbers (λ k. not (unused k)) (entryCauses calendar book table entry) ≡ true
-    computed (Known event) = event-numbers calendar book table event .1
-    computed Undecodable = refl
+    let others = number-passes (λ k. not (unused k)) (entryCauses calendar book table entry) k (entry-numbers calendar book table entry .known) e in
+    neither (eqb k 1) (accepted k) (not-true (unused k) others)
 
 -- so a refused entry is never taken for an accepted one
 pub turned-down : (calendar : Calendar) (book : Book) (table : List Trade) (entry : Entry) (n : ℕ) → firstOf (causes calendar book table entry) ≡ some n → accepted n ≡ false
@@ -124,6 +158,7 @@ acted-accepted calendar book table (Known Pay) = paid (fails book)
     paid true = refl
     paid false = refl
 acted-accepted calendar book table (Known Close) = refl
+acted-accepted calendar book table (Known (Post product posting)) = refl
 acted-accepted calendar book table Undecodable = refl
 
 pub accepted-where-none-applies : (calendar : Calendar) (book : Book) (table : List Trade) (entry : Entry) → firstOf (causes calendar book table entry) ≡ none → accepted (step calendar book table entry .answer .number) ≡ true

@@ -36,8 +36,13 @@ module _ (bytes : List ℕ) where
       → numberAt from (suc (suc (suc (suc width)))) bytes ≡ numberAt from 4 bytes + 4294967296 * numberAt (from + 4) width bytes
   four-and-rest from width inside = omega (arith, first-four from width inside, first-four from 0 inside, no-bytes (from + 4))
 
-  -- what stands after the first two bytes
-  pub past-two : (width : ℕ) → 2 ≤ length bytes → getD bytes 0 0 < 256 → getD bytes 1 0 < 256
-      → numberAt 0 (suc (suc width)) bytes / 65536 ≡ numberAt 2 width bytes
-  past-two width inside first second =
-      omega (arith, first-byte 0 1 (suc width) refl (omega arith), first-byte 1 2 width refl (omega arith))
+  -- what stands after the first three bytes
+  pub past-three : (width : ℕ) → 3 ≤ length bytes → getD bytes 0 0 < 256 → getD bytes 1 0 < 256 → getD bytes 2 0 < 256
+      → numberAt 0 (suc (suc (suc width))) bytes / 16777216 ≡ numberAt 3 width bytes
+  past-three width inside first second third =
+      omega (
+        arith,
+        first-byte 0 1 (suc (suc width)) refl (omega arith),
+        first-byte 1 2 (suc width) refl (omega arith),
+        first-byte 2 3 width refl (omega arith),
+      )

@@ -31,7 +31,7 @@ noTrades = replicate 8 noTrade
 
 abbrev pub initial : (count contract price fallback due : ℕ) → Entry
 initial count contract price fallback due =
-    Known (Initial (record { contract = record { 0 = contract }; sheets = sheets count; price = ticks price; fallback = ticks fallback; due = due }))
+    Known (Initial (record { contract = record { 0 = contract }; sheets = sheets count; price = ticks price; fallback = ticks fallback; due = due; product = 0 }))
 
 -- up to the second Open: cover of 180 sheets, no trade yet
 abbrev pub cover180 : List Entry

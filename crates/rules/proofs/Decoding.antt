@@ -45,7 +45,7 @@ account-number account event unused =
     (λ e. unless-number (event Own) unused)
     (λ e. client-number (event Client) unused (eqb account 1))
 
--- ---- the twelve codes, and none of them
+-- ---- the thirteen codes, and none of them
 
 abbrev Not : (code k : ℕ) → Type 0
 Not code k = code ≡ k → ⊥
@@ -54,17 +54,17 @@ past : {code : ℕ} (k : ℕ) → k ≤ code → Not code k → k + 1 ≤ code
 past k low n = omega arith
 
 no-code : (code : ℕ) → Not code 1 → Not code 2 → Not code 3 → Not code 4 → Not code 5 → Not code 6
-    → Not code 7 → Not code 8 → Not code 9 → Not code 10 → Not code 11 → Not code 12 → among 1 12 code ≡ false
-no-code code n1 n2 n3 n4 n5 n6 n7 n8 n9 n10 n11 n12 =
-    by-test (λ x. (x && leb code 12) ≡ false) (leb 1 code)
-    (λ low. lt-leb code 12 (at-least-13 low))
+    → Not code 7 → Not code 8 → Not code 9 → Not code 10 → Not code 11 → Not code 12 → Not code 13 → among 1 13 code ≡ false
+no-code code n1 n2 n3 n4 n5 n6 n7 n8 n9 n10 n11 n12 n13 =
+    by-test (λ x. (x && leb code 13) ≡ false) (leb 1 code)
+    (λ low. lt-leb code 13 (at-least-14 low))
     (λ e. refl)
   where
     at-least-7 : leb 1 code ≡ true → 7 ≤ code
     at-least-7 low = past 6 (past 5 (past 4 (past 3 (past 2 (past 1 (leb-true 1 code low) n1) n2) n3) n4) n5) n6
 
-    at-least-13 : leb 1 code ≡ true → 13 ≤ code
-    at-least-13 low = past 12 (past 11 (past 10 (past 9 (past 8 (past 7 (at-least-7 low) n7) n8) n9) n10) n11) n12
+    at-least-14 : leb 1 code ≡ true → 14 ≤ code
+    at-least-14 low = past 13 (past 12 (past 11 (past 10 (past 9 (past 8 (past 7 (at-least-7 low) n7) n8) n9) n10) n11) n12) n13
 
 module _ (f : Fields) where
   Right : Type 0
@@ -75,12 +75,12 @@ module _ (f : Fields) where
   by k is isnt = by-test (λ x. Right) (eqb (f .code) k) (λ e. is (eqb-true (f .code) k e)) (λ e. isnt (eqb-false (f .code) k e))
 
   none : Not (f .code) 1 → Not (f .code) 2 → Not (f .code) 3 → Not (f .code) 4 → Not (f .code) 5 → Not (f .code) 6
-      → Not (f .code) 7 → Not (f .code) 8 → Not (f .code) 9 → Not (f .code) 10 → Not (f .code) 11 → Not (f .code) 12 → Right
+      → Not (f .code) 7 → Not (f .code) 8 → Not (f .code) 9 → Not (f .code) 10 → Not (f .code) 11 → Not (f .code) 12 → Not (f .code) 13 → Right
   unfolding Right entryOf fieldCauses firstOf
-  none n1 n2 n3 n4 n5 n6 n7 n8 n9 n10 n11 n12 =
+  none n1 n2 n3 n4 n5 n6 n7 n8 n9 n10 n11 n12 n13 =
       rw (ne-eqb (f .code) 1 n1, ne-eqb (f .code) 2 n2, ne-eqb (f .code) 3 n3, ne-eqb (f .code) 4 n4, ne-eqb (f .code) 5 n5, ne-eqb (f .code) 6 n6)
-      (rw (ne-eqb (f .code) 7 n7, ne-eqb (f .code) 8 n8, ne-eqb (f .code) 9 n9, ne-eqb (f .code) 10 n10, ne-eqb (f .code) 11 n11, ne-eqb (f .code) 12 n12)
-      (rw (no-code (f .code) n1 n2 n3 n4 n5 n6 n7 n8 n9 n10 n11 n12) refl))
+      (rw (ne-eqb (f .code) 7 n7, ne-eqb (f .code) 8 n8, ne-eqb (f .code) 9 n9, ne-eqb (f .code) 10 n10, ne-eqb (f .code) 11 n11, ne-eqb (f .code) 12 n12, ne-eqb (f .code) 13 n13)
+      (rw (no-code (f .code) n1 n2 n3 n4 n5 n6 n7 n8 n9 n10 n11 n12 n13) refl))
 
   pub fields-number : entryNumber (entryOf f) ≡ numberOf (firstOf (fieldCauses f))
   unfolding Right entryOf fieldCauses firstOf
@@ -97,7 +97,8 @@ module _ (f : Fields) where
       by 10 (λ e. rw e (unless-number _ _)) (λ n10.
       by 11 (λ e. rw e (unless-number _ _)) (λ n11.
       by 12 (λ e. rw e (unless-number _ _)) (λ n12.
-      none n1 n2 n3 n4 n5 n6 n7 n8 n9 n10 n11 n12))))))))))))
+      by 13 (λ e. rw e (unless-number _ _)) (λ n13.
+      none n1 n2 n3 n4 n5 n6 n7 n8 n9 n10 n11 n12 n13)))))))))))))
 
 whole-number : (bytes : List ℕ) (whole : Bool)
     → entryNumber (cond whole (entryOf (fieldsOf bytes)) Undecodable) ≡ numberOf (cond (not whole) (some 2) (firstOf (fieldCauses (fieldsOf bytes))))

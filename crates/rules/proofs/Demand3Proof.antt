@@ -11,16 +11,16 @@ use Rattle.money.specs.Causes.{firstOf}
 use Rattle.money.specs.Days.{Calendar}
 use Rattle.rules.specs.Book.{Book, freshBook}
 use Rattle.rules.specs.Trades.{Trade, total, outstanding, remaining}
-use Rattle.rules.specs.Entry.{Open, FundIn, FundOut, Size, Rate, Pledge, Freeze, Withdraw, Initial, Early, Pay, Close, Entry, Known, Undecodable}
+use Rattle.rules.specs.Entry.{Open, FundIn, FundOut, Size, Rate, Pledge, Freeze, Withdraw, Initial, Early, Pay, Close, Post, Entry, Known, Undecodable}
 use Rattle.rules.specs.Step.{causes, actOn, refuseOr, step, accepted}
 use Rattle.rules.specs.Run.{Seen, see, run, Follows, lastBook, lastTable}
 use Rattle.rules.specs.Tally.{Tally, blank, tell, tallyOf}
-use Rattle.rules.specs.Demand3.{told, toldOf, isPay, InitialCovered, PaymentRight, All, AllBeside, movedAt, moneyMoved, seenFrom, tallyBeside, Demand3}
+use Rattle.rules.specs.Demand3.{told, toldOf, isPay, InitialCovered, StartsCovered, PaymentRight, All, AllTold, AllBeside, movedAt, moneyMoved, seenFrom, tallyBeside, Demand3}
 use Rattle.rules.proofs.Signed.{same, diff-parts}
 use Rattle.rules.proofs.Answers.{turned-down}
 use Rattle.rules.proofs.Accepted.{Clear, all-clear}
 use Rattle.rules.proofs.Agree.{view, Agrees, Right}
-use Rattle.rules.proofs.EventsAgree.{at-open, at-fundIn, at-fundOut, at-size, at-rate, at-pledge, at-freeze, at-withdraw, at-initial, at-early, at-pay, at-close}
+use Rattle.rules.proofs.EventsAgree.{at-open, at-fundIn, at-fundOut, at-size, at-rate, at-pledge, at-freeze, at-withdraw, at-initial, at-early, at-pay, at-close, at-post}
 
 -- ---- one entry
 
@@ -37,6 +37,7 @@ module _ (calendar : Calendar) (book : Book) (table : List Trade) (t : Tally) (i
   refused-right entry (suc n) h = record {
     agrees = i;
     initial = λ p a. absurd (rw h at a);
+    starts = λ p a. absurd (rw h at a);
     payment = λ p a. absurd (rw h at a);
     moves = rw (no-if-second-fails (isPay entry) (accepted (suc n)) (pos (book .cash .own .0) -ℤ pos (book .cash .own .0)) (pos 0) h) (+ℤ-idr (t .paid));
   }
@@ -54,7 +55,8 @@ module _ (calendar : Calendar) (book : Book) (table : List Trade) (t : Tally) (i
   accepted-right (Known (Initial terms)) clear = at-initial calendar book table t i terms clear
   accepted-right (Known (Early contract count price)) clear = at-early calendar book table t i contract count price clear
   accepted-right (Known Pay) clear = at-pay calendar book table t i
-  accepted-right (Known Close) clear = at-close calendar book table t i
+  accepted-right (Known Close) clear = at-close calendar book table t i clear
+  accepted-right (Known (Post product posting)) clear = at-post calendar book table t i product posting
   accepted-right Undecodable clear = let applies : true ≡ false = clear 2 in let z : _≡_ {A = ℕ} 0 1 = cc in absurd (omega arith)
 
   step-right : (entry : Entry) → Right calendar t (see calendar book table entry)
@@ -71,16 +73,17 @@ record AllRight (calendar : Calendar) (book : Book) (table : List Trade) (t : Ta
   follows : Follows book table list
   agrees : Agrees (view (lastBook book list) (lastTable table list)) (tallyOf calendar t (toldOf calendar book table list))
   initials : All InitialCovered list
+  starts : AllTold calendar StartsCovered book table list
   payments : AllBeside calendar PaymentRight book table t list
   moves : t .paid +ℤ moneyMoved list ≡ tallyOf calendar t (toldOf calendar book table list) .paid
 
 all-right : (calendar : Calendar) (entries : List Entry) (book : Book) (table : List Trade) (t : Tally) → Agrees (view book table) t
     → AllRight calendar book table t (run calendar book table entries)
 unfolding run lastBook lastTable toldOf tallyOf moneyMoved
-all-right calendar [] book table t i = record { follows = tt; agrees = i; initials = tt; payments = tt; moves = +ℤ-idr (t .paid) }
+all-right calendar [] book table t i = record { follows = tt; agrees = i; initials = tt; starts = tt; payments = tt; moves = +ℤ-idr (t .paid) }
 all-right calendar (entry ∷ entries) book table t i =
     let seen : Seen = see calendar book table entry in
-    let next : Tally = tell calendar t (told (seen .left) seen) in
+    let next : Tally = tell calendar t (told calendar seen seen) in
     let more : List Seen = run calendar (seen .left .book) (seen .left .table) entries in
     let r : Right calendar t seen = step-right calendar book table t i entry in
     let k : AllRight calendar (seen .left .book) (seen .left .table) next more = all-right calendar entries (seen .left .book) (seen .left .table) next (r .agrees) in
@@ -88,6 +91,7 @@ all-right calendar (entry ∷ entries) book table t i =
       follows = (refl, refl, k .follows);
       agrees = k .agrees;
       initials = (r .initial, k .initials);
+      starts = (r .starts, k .starts);
       payments = (r .payment, k .payments);
       moves = sym (+ℤ-assoc (t .paid) (movedAt seen) (moneyMoved more)) ∙ ap (λ sum. sum +ℤ moneyMoved more) (r .moves) ∙ k .moves;
     }
@@ -107,6 +111,7 @@ demand3 calendar table entries =
       cash-is-funds = k .agrees .cash;
       outstanding-is-begun-less-redeemed = same _ _ (omega (arith, k .agrees .sheets, diff-parts (pos (t .begun)) (pos (t .redeemed))));
       initials-covered = k .initials;
+      starts-covered = k .starts;
       payments-whole-or-nothing = k .payments;
       money-moved-is-paid = sym (+ℤ-idl (moneyMoved (seenFrom calendar table entries))) ∙ k .moves;
     }

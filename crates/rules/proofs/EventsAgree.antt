@@ -15,11 +15,11 @@ use Rattle.money.specs.declared.units.Sheets.{Sheets}
 use Rattle.money.specs.declared.units.Ticks.{Ticks}
 use Rattle.money.specs.Days.{Calendar, dayOr0}
 use Rattle.money.specs.Money.{principal}
-use Rattle.rules.specs.Book.{Book, answer, isTerminated}
+use Rattle.rules.specs.Book.{Posting, Book, answer, isTerminated}
 use Rattle.rules.specs.Days.{following, toDay, dayNumber, paymentDay}
 use Rattle.rules.specs.Trades.{Contract, Terms, Trade, inUse, total, outstanding, onTable, tradeOf, takeOff, emptied, matured, maturityAmount, fallbackAmount, remaining, packed, over}
 use Rattle.rules.specs.Vault.{value, headroom}
-use Rattle.rules.specs.Entry.{Account, Open, FundIn, FundOut, Size, Rate, Pledge, Freeze, Withdraw, Initial, Early, Pay, Close, Known}
+use Rattle.rules.specs.Entry.{Account, Open, FundIn, FundOut, Size, Rate, Pledge, Freeze, Withdraw, Initial, Early, Pay, Close, Post, Known}
 use Rattle.rules.specs.Open.{nextStatus, turnsTerminated, netWithFallbacks, openedBook, openedTable}
 use Rattle.rules.specs.Funds.{fundedIn, fundedOut, fundOutCauses}
 use Rattle.rules.specs.Size.{sized}
@@ -30,12 +30,16 @@ use Rattle.rules.specs.Withdraw.{withdrawn}
 use Rattle.rules.specs.Initial.{begun, initialCauses, initialBook, initialTable}
 use Rattle.rules.specs.Early.{earlyCauses, earlyBook, earlyTable}
 use Rattle.rules.specs.Pay.{fails, afterPay, payNumber}
-use Rattle.rules.specs.Close.{maturedTrades, maturedAmount, closedBook, closedTable, closeAnswer}
+use Rattle.rules.specs.Post.{posted}
+use Rattle.rules.specs.NextTerm.{leftFrom, startedFrom}
+use Rattle.rules.specs.Close.{maturedTrades, maturedAmount, leftTrades, startedTerms, startedPrincipal, closedBook, closedTable, closeAnswer}
 use Rattle.rules.specs.Step.{eventCauses, causes, act, outcome}
 use Rattle.rules.specs.Tally.{Tally, dayAfter, paidOn, withFunds, opened, saysTerminated, counted, tell}
 use Rattle.rules.proofs.Signed.{same, sub-parts, diff-parts, not-lt-parts, sub-at-least-0, swap-last}
 use Rattle.rules.proofs.TradeLaws.{take-begun, outstanding-append, outstanding-one, take-over, length-takeOff, outstanding-takeOff, take-packed, remaining-remaining, outstanding-remaining, outstanding-matured, remaining-emptied, outstanding-emptied}
-use Rattle.rules.proofs.TallyRows.{withoutEmpty-append, taken-of-contract, sheets-of-contract, amount-of-contract, taken-due, sheets-due, amount-due, taken-whole, sheets-whole, amount-whole}
+use Rattle.rules.proofs.TallyRows.{withoutEmpty-append, taken-of-contract, sheets-of-contract, amount-of-contract, sheets-due, amount-due, taken-whole, sheets-whole, amount-whole}
+use Rattle.rules.proofs.TallyStarts.{sheets-started, principal-started, rows-after-starts}
+use Rattle.rules.proofs.NextTermLaws.{outstanding-left, each-covered}
 use Rattle.money.proofs.TwoTests.{both}
 use Rattle.rules.proofs.Accepted.{Clear, within-table, contracts-differ}
 use Rattle.rules.proofs.CashKept.{cashOf, funds-in-add, funds-out-take, pledge-keeps-cash, freeze-keeps-cash, payment-whole, payment-nothing, payment-keeps-cash, payment-moves-net, close-keeps-cash}
@@ -115,6 +119,7 @@ module _ (calendar : Calendar) (book : Book) (table : List Trade) (t : Tally) (i
           ended = λ h. absurd (rw (clear 5) at h);
         };
         initial = λ _ _. rw rows (sub-at-least-0 room (outstanding (trades ++ (new ∷ []))) (omega (arith, more, not-lt-parts (headroom book table) (pos (terms .sheets .0)) (clear 12), sub-parts room (outstanding trades))));
+        starts = λ h a. absurd h;
         payment = λ h a. absurd h;
         moves = +ℤ-idr (t .paid);
       }
@@ -151,6 +156,7 @@ module _ (calendar : Calendar) (book : Book) (table : List Trade) (t : Tally) (i
       go true e = record {
         agrees = i;
         initial = λ h a. absurd h;
+        starts = λ h a. absurd h;
         payment = λ h a. rw net-due (payment-nothing (book .cash) (book .nets .cleared .0) e);
         moves = rw (+ℤ-invr (pos (book .cash .own .0))) (+ℤ-idr (t .paid));
       }
@@ -165,28 +171,43 @@ module _ (calendar : Calendar) (book : Book) (table : List Trade) (t : Tally) (i
           ended = i .ended;
         };
         initial = λ h a. absurd h;
+        starts = λ h a. absurd h;
         payment = λ h a. rw net-due (payment-whole (book .cash) (book .nets .cleared .0) e);
         moves = rw (payment-moves-net (book .cash) (book .nets .cleared .0) e) (+ℤ-comm (t .paid) (book .nets .cleared .0) ∙ sym (i .cleared));
       }
 
-  pub at-close : Right calendar t (acted calendar book table Close)
-  unfolding act counted tell closedBook closedTable closeAnswer maturedTrades maturedAmount
-  at-close =
+  pub at-close : Clear (causes calendar book table (Known Close)) → Right calendar t (acted calendar book table Close)
+  unfolding act counted tell causes closedBook closedTable closeAnswer maturedTrades maturedAmount leftTrades startedTerms startedPrincipal
+  at-close clear =
       let d : ℕ = dayNumber (book .standing .day) in
       let payment : ℕ = paymentDay calendar (book .standing .day) in
       let today : dayOr0 (t .day) ≡ d = rw (i .day) (sym (dayNumber-is-dayOr0 (t .day))) in
-      let left : List Trade = remaining (map (matured d) trades) in
-      let rows : take (length left) (packed (book .trades) left table) ≡ left = take-packed (book .trades) left table in
-      right calendar t _ refl refl
-      (record {
-        day = i .day;
-        rows = rw (i .rows, today, rows) (taken-due d trades ∙ sym (remaining-remaining (map (matured d) trades)));
-        cash = ap pos (close-keeps-cash calendar book (maturedTrades book table) table) ∙ i .cash;
-        sheets = rw (i .rows, today, rows) (omega (arith, outstanding-remaining (map (matured d) trades), outstanding-matured d trades, sheets-due d trades, i .sheets));
-        running = refl;
-        cleared = rw (i .rows, today, payment-day, amount-due d payment trades, ← (i .running), i .cleared) (swap-last (book .nets .cleared .0) (t .paid) (book .nets .today .0 +ℤ pos (total (maturityAmount d payment) trades)));
-        ended = λ h. rw rows (remaining-remaining (map (matured d) trades) ∙ sym (taken-due d trades) ∙ rw (i .ended h));
-      })
+      let apart = contracts-differ calendar book table (clear 1) in
+      let o : ℕ = outstanding (map (matured d) trades) in
+      let left : List Trade = leftFrom calendar book o trades in
+      let started : List Trade = startedFrom calendar book o trades in
+      let rows : take (length (remaining left)) (packed (book .trades) (remaining left) table) ≡ remaining left = take-packed (book .trades) (remaining left) table in
+      let renews = rows-after-starts calendar book o trades apart in
+      let net = (book .nets .today .0 +ℤ pos (total (maturityAmount d payment) trades)) -ℤ pos (total (λ term. principal (term .sheets) .0) started) in
+      record {
+        agrees = record {
+          day = i .day;
+          rows = rw (i .rows, today, rows) (renews ∙ sym (remaining-remaining left));
+          cash = ap pos (close-keeps-cash calendar book left table) ∙ i .cash;
+          sheets = rw (i .rows, today, rows) (omega (arith, outstanding-remaining left, outstanding-left calendar book o trades, outstanding-matured d trades, sheets-due d trades, sheets-started started, i .sheets));
+          running = refl;
+          cleared = rw (i .rows, today, payment-day, amount-due d payment trades, principal-started started, ← (i .running), i .cleared) (swap-last (book .nets .cleared .0) (t .paid) net);
+          ended = λ h. rw rows (remaining-remaining left ∙ sym renews ∙ rw (i .ended h));
+        };
+        initial = λ h a. absurd h;
+        starts = λ h a. each-covered calendar book o trades;
+        payment = λ h a. absurd h;
+        moves = +ℤ-idr (t .paid);
+      }
+
+  pub at-post : (product : ℕ) (posting : Posting) → Right calendar t (acted calendar book table (Post product posting))
+  unfolding act counted tell posted
+  at-post product posting = right calendar t _ refl refl i
 
   -- an Open moves both days alike
   next-day : toDay (following calendar (book .standing .day)) ≡ toDay (dayAfter calendar (t .day))

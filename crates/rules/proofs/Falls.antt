@@ -9,17 +9,18 @@ use native.Mathlib.Omega.{arith}
 use borrow.Author.Tests.{not-true}
 use lib.Dec.{eqb}
 use lib.IntN.{ℤ, pos, negsuc, natAbs, _-ℤ_}
-use Rattle.rules.specs.Book.{FailedRun, NotFailed, FailedOnce, FailedTwice, Book, freshBook, answer, withCash, withStanding}
+use Rattle.rules.specs.Book.{FailedRun, NotFailed, FailedOnce, FailedTwice, Book, freshBook, answer, withCash, withStanding, withPostings}
 use Rattle.rules.specs.Trades.{Trade}
 use Rattle.rules.specs.Entry.{Open, Pay, Close, Entry, Known}
 use Rattle.rules.specs.Step.{Outcome, outcome, step}
 use Rattle.rules.specs.Run.{Seen, see, run, Follows, lastBook, lastTable}
 use Rattle.rules.specs.Tally.{Tally, blank, counted, tell, tallyOf}
-use Rattle.rules.specs.Demand3.{isPay, told, toldOf, PaymentRight, AllBeside, moneyMoved, seenFrom, tallyBeside, outstandingAfter, Demand3}
+use Rattle.rules.specs.Demand3.{isOpen, isPay, told, toldOf, PaymentRight, AllBeside, moneyMoved, seenFrom, tallyBeside, outstandingAfter, Demand3}
 use Rattle.money.proofs.TwoTests.{both}
 use Rattle.rules.proofs.Opened.{everyRule}
 use Rattle.rules.proofs.Demand3Proof.{demand3}
 use Rattle.rules.proofs.Cases.{_then_, noTrades, daily, initial, cover180, failedTwice}
+use Rattle.rules.proofs.NextTermCases.{begun100}
 
 -- ---- a ledger of any kind: what it remembers beside the book and the table, and what it leaves of an entry
 
@@ -124,8 +125,8 @@ LastBeside : Book → List Trade → Tally → List Seen → Type 0
 LastBeside book table t [] = Unit {0}
 LastBeside book table t (seen ∷ []) = PaymentRight t seen
 LastBeside book table t (seen ∷ next ∷ more) =
-    let ruled = step daily book table (seen .entry) in
-    LastBeside (ruled .book) (ruled .table) (tell daily t (told ruled seen)) (next ∷ more)
+    let ruled = see daily book table (seen .entry) in
+    LastBeside (ruled .left .book) (ruled .left .table) (tell daily t (told daily ruled seen)) (next ∷ more)
 
 the-last-too : (book : Book) (table : List Trade) (t : Tally) (list : List Seen) → AllBeside daily PaymentRight book table t list
     → LastBeside book table t list
@@ -219,4 +220,31 @@ left-and-redeemed = (refl, refl)
 pub never-terminating-falls : Demand3 daily noTrades (seenOn neverTerminates thirdOpening) → ⊥
 never-terminating-falls claim =
     let same : pos 100 ≡ pos 0 = sym (ap pos (left-and-redeemed .0)) ∙ claim .outstanding-is-begun-less-redeemed ∙ left-and-redeemed .1 in
+    omega (arith, ap natAbs same)
+
+-- ---- the started terms are the rules' own too: one that keeps what was posted over an Open (02, ask 4)
+
+abbrev pub keepsPostings : Ledger
+keepsPostings = record {
+  Memory = Unit {0};
+  first = tt;
+  leaves = λ none book table entry.
+      let left = step daily book table entry in
+      outcome (left .answer) (withPostings (cond (isOpen entry) (book .postings) (left .book .postings)) (left .book)) (left .table);
+  recalls = λ none book table entry. tt;
+}
+
+-- the product was posted on the day before alone
+abbrev dueUnposted : List Entry
+dueUnposted = begun100 then (Known Pay ∷ Known Close ∷ [])
+
+-- a next term stands, which by the rules did not start
+pub started-and-not-told : (outstandingAfter noTrades (seenOn keepsPostings dueUnposted) ≡ 100)
+    × (begunLessRedeemed (seenOn keepsPostings dueUnposted) ≡ pos 0)
+unfolding everyRule toldOf counted tell tallyOf lastBook lastTable
+started-and-not-told = (refl, refl)
+
+pub keeping-postings-falls : Demand3 daily noTrades (seenOn keepsPostings dueUnposted) → ⊥
+keeping-postings-falls claim =
+    let same : pos 100 ≡ pos 0 = sym (ap pos (started-and-not-told .0)) ∙ claim .outstanding-is-begun-less-redeemed ∙ started-and-not-told .1 in
     omega (arith, ap natAbs same)

@@ -8,15 +8,15 @@ use borrow.Author.Tests.{leb-true, le-leb}
 use lib.Dec.{leb}
 use lib.IntN.{natAbs}
 use lib.ListN.{length, getD}
-use Rattle.money.specs.Limits.{unitLimit, rateLimit, cashLimit}
+use Rattle.money.specs.Limits.{unitLimit, rateLimit, cashLimit, priceLimit}
 use Rattle.money.specs.Days.{Calendar}
 use Rattle.rules.specs.Folds.{allBelow}
-use Rattle.rules.specs.Limits.{capacityLimit, sizeLimit, netLimit, applicationLimit}
-use Rattle.rules.specs.Book.{Nets, Sums, Cash, Security, Guarantee, Vault, Withdrawals, Book}
+use Rattle.rules.specs.Limits.{capacityLimit, sizeLimit, netLimit, applicationLimit, productLimit, aheadLimit}
+use Rattle.rules.specs.Book.{Nets, Sums, Cash, Security, Guarantee, Vault, Withdrawals, Posting, Book, noPosting}
 use Rattle.rules.specs.Unpaid.{unpaidSum}
 use Rattle.rules.specs.Trades.{Trade, inUse, differ}
 use Rattle.rules.specs.Vault.{securityAt, outstandingOf}
-use Rattle.rules.specs.Fit.{capacityFit, securityFit, securitiesFit, allCash, cashFit, tradeFit, allTrades, sizeFit, netFit, netsFit, sumsFit, applicationFit, withdrawalsFit, dayFit, fit}
+use Rattle.rules.specs.Fit.{capacityFit, securityFit, securitiesFit, allCash, cashFit, tradeFit, allTrades, sizeFit, postingFit, postingsFit, netFit, netsFit, sumsFit, applicationFit, withdrawalsFit, dayFit, fit}
 use Rattle.money.proofs.TwoTests.{both, both-of}
 use Rattle.rules.proofs.FoldLaws.{every-holds, every-of, all-at, all-of}
 
@@ -42,6 +42,14 @@ pub record SizeFits (size outstanding : ℕ) : Type 0 where
   pub within : size ≤ sizeLimit
   pub covers : outstanding ≤ size
 
+pub record PostingFits (posting : Posting) : Type 0 where
+  pub term : posting .term ≤ aheadLimit
+  pub price : posting .price .0 ≤ priceLimit
+  pub fallback : posting .fallback .0 ≤ priceLimit
+
+abbrev pub PostingsFit : List Posting → Type 0
+PostingsFit postings = (number : ℕ) → number < productLimit → PostingFits (getD postings number noPosting)
+
 pub record NetsFit (nets : Nets) : Type 0 where
   pub today : natAbs (nets .today .0) ≤ netLimit
   pub cleared : natAbs (nets .cleared .0) ≤ netLimit
@@ -65,6 +73,7 @@ pub record Fit (calendar : Calendar) (book : Book) (table : List Trade) : Type 0
   pub cash : CashFits (book .cash) (book .vault .guarantee)
   pub each : allTrades tradeFit (inUse (book .trades) table) ≡ true
   pub size : SizeFits (book .size .0) (outstandingOf book table)
+  pub postings : PostingsFit (book .postings)
   pub nets : NetsFit (book .nets)
   pub sums : SumsFit (book .sums)
   pub differing : differ (inUse (book .trades) table) ≡ true
@@ -127,6 +136,29 @@ pub fits-size : (size outstanding : ℕ) → SizeFits size outstanding → sizeF
 unfolding sizeFit
 fits-size size outstanding f = both-of (leb size sizeLimit) (leb outstanding size) (le-leb size sizeLimit (f .within)) (le-leb outstanding size (f .covers))
 
+abbrev postingTests : Posting → List Bool
+postingTests p = leb (p .term) aheadLimit ∷ leb (p .price .0) priceLimit ∷ leb (p .fallback .0) priceLimit ∷ []
+
+posting-fits : (p : Posting) → postingFit p ≡ true → PostingFits p
+posting-fits p e =
+    let h = every-holds (postingTests p) e in
+    record { term = leb-true (p .term) aheadLimit (h .0); price = leb-true (p .price .0) priceLimit (h .1 .0); fallback = leb-true (p .fallback .0) priceLimit (h .1 .1 .0) }
+
+fits-posting : (p : Posting) → PostingFits p → postingFit p ≡ true
+fits-posting p f =
+    every-of (postingTests p)
+    (le-leb (p .term) aheadLimit (f .term), (le-leb (p .price .0) priceLimit (f .price), (le-leb (p .fallback .0) priceLimit (f .fallback), tt)))
+
+pub postings-fit : (postings : List Posting) → postingsFit postings ≡ true → PostingsFit postings
+unfolding postingsFit
+postings-fit postings e number h =
+    posting-fits (getD postings number noPosting) (all-at productLimit (λ number. postingFit (getD postings number noPosting)) e number h)
+
+pub fit-postings : (postings : List Posting) → PostingsFit postings → postingsFit postings ≡ true
+unfolding postingsFit
+fit-postings postings f =
+    all-of productLimit (λ number. postingFit (getD postings number noPosting)) (λ number h. fits-posting (getD postings number noPosting) (f number h))
+
 pub nets-fit : (nets : Nets) → netsFit nets ≡ true → NetsFit nets
 unfolding netsFit
 nets-fit nets e =
@@ -186,11 +218,12 @@ module _ (calendar : Calendar) (book : Book) (table : List Trade) where
         cash = cash-fits (book .cash) (book .vault .guarantee) (h .1 .1 .0);
         each = h .1 .1 .1 .0;
         size = size-fits (book .size .0) (outstandingOf book table) (h .1 .1 .1 .1 .0);
-        nets = nets-fit (book .nets) (h .1 .1 .1 .1 .1 .0);
-        sums = sums-fit (book .sums) (h .1 .1 .1 .1 .1 .1 .0);
-        differing = h .1 .1 .1 .1 .1 .1 .1 .0;
-        withdrawals = withdrawals-fit (book .withdrawals) (h .1 .1 .1 .1 .1 .1 .1 .1 .0);
-        day = h .1 .1 .1 .1 .1 .1 .1 .1 .1 .0;
+        postings = postings-fit (book .postings) (h .1 .1 .1 .1 .1 .0);
+        nets = nets-fit (book .nets) (h .1 .1 .1 .1 .1 .1 .0);
+        sums = sums-fit (book .sums) (h .1 .1 .1 .1 .1 .1 .1 .0);
+        differing = h .1 .1 .1 .1 .1 .1 .1 .1 .0;
+        withdrawals = withdrawals-fit (book .withdrawals) (h .1 .1 .1 .1 .1 .1 .1 .1 .1 .0);
+        day = h .1 .1 .1 .1 .1 .1 .1 .1 .1 .1 .0;
       }
 
   pub parts-fit : Fit calendar book table → fit calendar book table ≡ true
@@ -207,12 +240,15 @@ module _ (calendar : Calendar) (book : Book) (table : List Trade) where
               (
                 fits-size (book .size .0) (outstandingOf book table) (f .size),
                 (
-                  fit-nets (book .nets) (f .nets),
+                  fit-postings (book .postings) (f .postings),
                   (
-                    fit-sums (book .sums) (f .sums),
+                    fit-nets (book .nets) (f .nets),
                     (
-                      f .differing,
-                      (fit-withdrawals (book .withdrawals) (f .withdrawals), (f .day, tt)),
+                      fit-sums (book .sums) (f .sums),
+                      (
+                        f .differing,
+                        (fit-withdrawals (book .withdrawals) (f .withdrawals), (f .day, tt)),
+                      ),
                     ),
                   ),
                 ),

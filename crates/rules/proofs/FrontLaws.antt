@@ -18,12 +18,12 @@ use Rattle.rules.specs.Book.{Book}
 use Rattle.rules.specs.Trades.{Contract, Trade, Terms, noTrade, inUse, takeOff, emptied, remaining, packed, over}
 use Rattle.rules.specs.Vault.{headroom}
 use Rattle.rules.specs.Fit.{capacityFit, fit}
-use Rattle.rules.specs.Entry.{Event, Open, FundIn, FundOut, Size, Rate, Pledge, Freeze, Withdraw, Initial, Early, Pay, Close, Entry, Known, Undecodable}
+use Rattle.rules.specs.Entry.{Event, Open, FundIn, FundOut, Size, Rate, Pledge, Freeze, Withdraw, Initial, Early, Pay, Close, Post, Entry, Known, Undecodable}
 use Rattle.rules.specs.Open.{turnsTerminated, openCauses, openedBook, openedTable}
 use Rattle.rules.specs.Size.{sizeCauses}
 use Rattle.rules.specs.Initial.{initialCauses, begun, initialTable}
 use Rattle.rules.specs.Early.{earlyCauses, earlyBook, earlyTable}
-use Rattle.rules.specs.Close.{maturedTrades, maturedSheets, maturedAmount, claimsAtClose, closeCauses, closeAnswer, closedBook, closedTable}
+use Rattle.rules.specs.Close.{maturedTrades, maturedSheets, maturedAmount, leftTrades, startedTerms, startedPrincipal, claimsAtClose, closeCauses, closeAnswer, closedBook, closedTable}
 use Rattle.rules.specs.Step.{Outcome, outcome, eventCauses, entryCauses, causes, act, actOn, refuseOr, step}
 
 -- a table with more slots behind it
@@ -58,7 +58,7 @@ module _ (calendar : Calendar) (book : Book) (front rest : List Trade) (room : b
   headroom-front = rw in-use
 
   causes-front : (event : Event) → eventCauses calendar book (front ++ rest) event ≡ eventCauses calendar book front event
-  unfolding eventCauses openCauses sizeCauses initialCauses earlyCauses closeCauses maturedAmount
+  unfolding eventCauses openCauses sizeCauses initialCauses earlyCauses closeCauses maturedTrades maturedAmount startedTerms startedPrincipal
   causes-front Open = rw in-use
   causes-front (FundIn account amount) = refl
   causes-front (FundOut account amount) = refl
@@ -71,6 +71,7 @@ module _ (calendar : Calendar) (book : Book) (front rest : List Trade) (room : b
   causes-front (Early contract count price) = rw in-use
   causes-front Pay = refl
   causes-front Close = rw in-use
+  causes-front (Post product posting) = refl
 
   -- ---- what is done
 
@@ -90,9 +91,9 @@ module _ (calendar : Calendar) (book : Book) (front rest : List Trade) (room : b
       go true = over-front (map emptied (inUse (book .trades) front))
       go false = refl
 
-  matured-front : maturedTrades book (front ++ rest) ≡ maturedTrades book front
-  unfolding maturedTrades
-  matured-front = rw in-use
+  left-front : leftTrades calendar book (front ++ rest) ≡ leftTrades calendar book front
+  unfolding leftTrades maturedTrades
+  left-front = rw in-use
 
   opened-book-front : openedBook calendar book (front ++ rest) ≡ openedBook calendar book front
   unfolding openedBook
@@ -115,7 +116,7 @@ module _ (calendar : Calendar) (book : Book) (front rest : List Trade) (room : b
   answer-front left = rw in-use
 
   closed-book-front : (left : List Trade) → closedBook calendar book left (front ++ rest) ≡ closedBook calendar book left front
-  unfolding closedBook claimsAtClose maturedAmount
+  unfolding closedBook claimsAtClose maturedTrades maturedAmount startedTerms startedPrincipal
   closed-book-front left = rw in-use
 
   closed-front : (left : List Trade) → closedTable book left (front ++ rest) ≡ closedTable book left front ++ rest
@@ -136,8 +137,9 @@ module _ (calendar : Calendar) (book : Book) (front rest : List Trade) (room : b
   act-front (Early contract count price) = rw (early-front contract count, early-book-front contract count price)
   act-front Pay = refl
   act-front Close =
-      let left = maturedTrades book front in
-      rw (matured-front, answer-front left, closed-book-front left, closed-front left)
+      let left = leftTrades calendar book front in
+      rw (left-front, answer-front left, closed-book-front left, closed-front left)
+  act-front (Post product posting) = refl
 
   -- ---- the entry
 

@@ -1,4 +1,4 @@
--- Events on money, size and collateral leave a fit book: 2 to 8 of the twelve. (01, Twelve events)
+-- Events on money, size, collateral and postings leave a fit book: 2 to 8 and 13. (01, Twelve events; 02, ask 4)
 -- Assumes nothing.
 use mathlib.Core.Path.{_≡_}
 use mathlib.Core.Bool.{false, cond}
@@ -7,16 +7,17 @@ use mathlib.Core.Option.{none}
 use Prim.Native.Nat.{ℕ, _+_, _-_, _≤_, _<_}
 use native.Mathlib.Omega.{arith}
 use borrow.Author.Tests.{ltb-false, leb-false, eqb-false}
-use lib.ListN.{getD, set}
+use lib.Dec.{ltb, eqb}
+use lib.ListN.{getD, set, getD-replicate}
 use Rattle.money.specs.declared.units.Fen.{Fen}
 use Rattle.money.specs.declared.units.Sheets.{Sheets}
 use Rattle.money.specs.Units.{fen}
-use Rattle.money.specs.Limits.{unitLimit, rateLimit, cashLimit}
+use Rattle.money.specs.Limits.{unitLimit, rateLimit, cashLimit, priceLimit}
 use Rattle.money.specs.Causes.{firstOf}
 use Rattle.money.specs.Days.{Calendar}
 use Rattle.money.specs.Collateral.{cashKind}
-use Rattle.rules.specs.Limits.{sizeLimit, applicationLimit}
-use Rattle.rules.specs.Book.{Cash, Security, Vault, Book, noSecurity, withCash, withVault}
+use Rattle.rules.specs.Limits.{sizeLimit, applicationLimit, productLimit, aheadLimit}
+use Rattle.rules.specs.Book.{Cash, Security, Vault, Posting, Book, noSecurity, noPosting, noPostings, withCash, withVault}
 use Rattle.rules.specs.Trades.{Trade}
 use Rattle.rules.specs.Vault.{securityAt, isCash, effectiveOf, frozenOf, outstandingOf}
 use Rattle.rules.specs.Fit.{allCash}
@@ -27,14 +28,22 @@ use Rattle.rules.specs.Rate.{rateCauses, withRate, rated}
 use Rattle.rules.specs.Pledge.{pledgeCauses, arrived, cashArrived, pledged}
 use Rattle.rules.specs.Freeze.{freezeCauses, withFrozen, cashFrozen, frozen}
 use Rattle.rules.specs.Withdraw.{applied, withdrawCauses, withdrawn}
-use Rattle.rules.proofs.FoldLaws.{by-test, at-set}
+use Rattle.rules.specs.Post.{postCauses, posted}
+use Rattle.rules.proofs.FoldLaws.{by-test, neither, at-set}
 use Rattle.rules.proofs.Accepted.{all-clear}
-use Rattle.rules.proofs.FitParts.{SecurityFits, SecuritiesFit, CashFits, Fit}
+use Rattle.rules.proofs.FitParts.{SecurityFits, SecuritiesFit, CashFits, PostingFits, PostingsFit, Fit}
 
 -- ---- collateral with one security set anew
 
 pub none-fits : SecurityFits noSecurity
 none-fits = record { units = omega arith; rate = omega arith; free = omega arith }
+
+pub none-posted-fits : PostingFits noPosting
+none-posted-fits = record { term = omega arith; price = omega arith; fallback = omega arith }
+
+-- what Open leaves posted, and what a fresh book has
+pub none-posted : PostingsFit noPostings
+none-posted number h = rw (getD-replicate productLimit number noPosting noPosting h) none-posted-fits
 
 -- the new one fits if it stands among the 32
 pub set-fits : (vault : Vault) (kind : ℕ) (security : Security) → SecuritiesFit vault → (kind < 32 → SecurityFits security)
@@ -65,6 +74,7 @@ module _ (calendar : Calendar) (book : Book) (table : List Trade) (f : Fit calen
     cash = c;
     each = f .each;
     size = f .size;
+    postings = f .postings;
     nets = f .nets;
     sums = f .sums;
     differing = f .differing;
@@ -139,6 +149,7 @@ module _ (calendar : Calendar) (book : Book) (table : List Trade) (f : Fit calen
       within = ltb-false sizeLimit (size .0) (all-clear (sizeCauses book table size) e 14);
       covers = ltb-false (size .0) (outstandingOf book table) (all-clear (sizeCauses book table size) e 15);
     };
+    postings = f .postings;
     nets = f .nets;
     sums = f .sums;
     differing = f .differing;
@@ -159,6 +170,7 @@ module _ (calendar : Calendar) (book : Book) (table : List Trade) (f : Fit calen
         cash = f .cash;
         each = f .each;
         size = f .size;
+        postings = f .postings;
         nets = f .nets;
         sums = f .sums;
         differing = f .differing;
@@ -169,5 +181,32 @@ module _ (calendar : Calendar) (book : Book) (table : List Trade) (f : Fit calen
             within = at-set (λ n. n ≤ cashLimit) (book .withdrawals .units) (book .withdrawals .count) i units 0 (λ _. within) (omega arith) (λ other. f .withdrawals .each i (omega arith) .within);
           };
         };
+        day = f .day;
+      }
+
+  -- ---- only the postings change
+
+  pub posted-fits : (product : ℕ) (posting : Posting) → firstOf (postCauses book product posting) ≡ none → Fit calendar (posted book product posting) table
+  unfolding postCauses posted
+  posted-fits product posting e =
+      let cs = postCauses book product posting in
+      let prices = neither (ltb priceLimit (posting .price .0)) (ltb priceLimit (posting .fallback .0)) (all-clear cs e 8) in
+      let days = neither (eqb (posting .term) 0) (ltb aheadLimit (posting .term)) (all-clear cs e 9) in
+      let new : PostingFits posting = record {
+        term = ltb-false aheadLimit (posting .term) (days .1);
+        price = ltb-false priceLimit (posting .price .0) (prices .0);
+        fallback = ltb-false priceLimit (posting .fallback .0) (prices .1);
+      } in
+      record {
+        capacity = f .capacity;
+        securities = f .securities;
+        cash = f .cash;
+        each = f .each;
+        size = f .size;
+        postings = λ number h. at-set PostingFits (book .postings) product number posting noPosting (λ _. new) none-posted-fits (λ _. f .postings number h);
+        nets = f .nets;
+        sums = f .sums;
+        differing = f .differing;
+        withdrawals = f .withdrawals;
         day = f .day;
       }

@@ -1,13 +1,13 @@
--- Events of the day and its trades leave a fit book: 1 and 9 to 12 of the twelve. (01, Twelve events)
+-- Events of the day and its trades leave a fit book: 1 and 9 to 12. (01, Twelve events; 02, ask 4)
 -- Assumes nothing.
 use mathlib.Core.Path.{_≡_, refl}
 use mathlib.Core.Bool.{Bool, true, false, cond, not, _&&_, _||_}
 use mathlib.Core.List.{List, [], _∷_, _++_, map}
 use mathlib.Core.Option.{none}
-use Prim.Native.Nat.{ℕ, suc, _+_, _-_, _%_, _≤_, min}
+use Prim.Native.Nat.{ℕ, zero, suc, _+_, _-_, _%_, _≤_, min}
 use native.Mathlib.Nat.{min-le-left}
 use native.Mathlib.Omega.{arith}
-use borrow.Author.Tests.{ltb-false, leb-false, le-leb, not-false}
+use borrow.Author.Tests.{ltb-false, leb-false, le-leb, ne-eqb, not-false}
 use lib.Dec.{leb, ltb, eqb}
 use lib.IntN.{ℤ, pos, negsuc, natAbs, subℕ}
 use lib.ListN.{length, take, set, length-set, length-map}
@@ -18,25 +18,27 @@ use Rattle.money.specs.declared.units.Ticks.{Ticks}
 use Rattle.money.specs.Limits.{tradeLimit, priceLimit}
 use Rattle.money.specs.Causes.{firstOf}
 use Rattle.money.specs.Days.{Calendar}
-use Rattle.rules.specs.Limits.{netLimit}
-use Rattle.rules.specs.Book.{Cash, Guarantee, Closed, Trading, Paid, Book, isTerminated}
+use Rattle.rules.specs.Limits.{netLimit, productLimit}
+use Rattle.rules.specs.Book.{Cash, Guarantee, Closed, Trading, Paid, Book, isTerminated, postingOf, isPosted}
 use Rattle.rules.specs.Unpaid.{unpaidSum, unpaidOf, passes}
 use Rattle.rules.specs.Days.{following, paymentDay, followed}
 use Rattle.rules.specs.Trades.{Contract, Trade, Terms, inUse, emptied, takeOff, remaining, over}
 use Rattle.rules.specs.Vault.{value, headroom, outstandingOf}
 use Rattle.rules.specs.Fit.{tradeFit, dayFit}
 use Rattle.rules.specs.Open.{nextDay, turnsTerminated, fallbackSum, netWithFallbacks, unpaidWithFallbacks, fallbacksPass, openCauses, openedBook, openedTable}
-use Rattle.rules.specs.Initial.{netLess, initialCauses, begun, initialBook, initialTable}
+use Rattle.rules.specs.Initial.{badProduct, netLess, initialCauses, begun, initialBook, initialTable}
 use Rattle.rules.specs.Early.{earlyAmount, netWithEarly, earlyCauses, earlyBook, earlyTable}
 use Rattle.rules.specs.Pay.{payerHolds, moved, fails, payCauses, afterPay}
-use Rattle.rules.specs.Close.{today, maturedTrades, maturedAmount, netWithMatured, clearedAtClose, claimsAtClose, closeCauses, closedBook, closedTable}
+use Rattle.rules.specs.Close.{maturedAmount, outstandingMatured, leftTrades, netAtClose, clearedAtClose, claimsAtClose, closeCauses, closedBook, closedTable}
 use Rattle.rules.proofs.FoldLaws.{neither, every-of}
 use Rattle.rules.proofs.TradeLaws.{outstanding-append, outstanding-one, length-takeOff, take-over, length-over, take-packed, length-packed, take-begun}
-use Rattle.rules.proofs.TableFit.{Fewer, tradeTests, all-the-same, emptied-lessens, matured-lessens, takeOff-lessens, remaining-lessens, fewer-length, fewer-outstanding, fewer-fit, fewer-begun, fewer-differ, all-append, differ-append}
+use Rattle.rules.proofs.TableFit.{Fewer, tradeTests, all-the-same, emptied-lessens, takeOff-lessens, remaining-lessens, fewer-length, fewer-outstanding, fewer-fit, fewer-begun, fewer-differ, all-append, differ-append}
 use Rattle.rules.proofs.DayFit.{trading-not-closed, closing-not-closed, same-day, next-day}
 use Rattle.rules.proofs.EveningFit.{evening-fits}
+use Rattle.rules.proofs.KeepsFit.{none-posted}
+use Rattle.rules.proofs.NextTermLaws.{left-fewer}
 use Rattle.rules.proofs.Accepted.{all-clear}
-use Rattle.rules.proofs.FitParts.{SecuritiesFit, CashFits, NetsFit, SumsFit, WithdrawalsFit, Fit}
+use Rattle.rules.proofs.FitParts.{SecuritiesFit, CashFits, PostingsFit, NetsFit, SumsFit, WithdrawalsFit, Fit}
 
 -- ---- a table that holds the same trades, some lessened and some gone
 
@@ -68,14 +70,15 @@ moved-fits (negsuc net) cash guarantee c h = record { sum = omega (arith, c .sum
 module _ (calendar : Calendar) (book : Book) (table : List Trade) (f : Fit calendar book table) where
   -- the groups that read the table follow, and the others are given
   lessened-fits : {last : ℕ} (book′ : Book) (table′ : List Trade) → Lessens last (book .trades) (book′ .trades) table table′ → book′ .size ≡ book .size
-      → SecuritiesFit (book′ .vault) → CashFits (book′ .cash) (book′ .vault .guarantee) → NetsFit (book′ .nets) → SumsFit (book′ .sums) → WithdrawalsFit (book′ .withdrawals)
+      → SecuritiesFit (book′ .vault) → CashFits (book′ .cash) (book′ .vault .guarantee) → PostingsFit (book′ .postings) → NetsFit (book′ .nets) → SumsFit (book′ .sums) → WithdrawalsFit (book′ .withdrawals)
       → dayFit calendar (book′ .standing .day) (book′ .standing .phase) (inUse (book′ .trades) table′) (book′ .trades) ≡ true → Fit calendar book′ table′
-  lessened-fits book′ table′ l s securities cash nets sums withdrawals day = record {
+  lessened-fits book′ table′ l s securities cash postings nets sums withdrawals day = record {
     capacity = record { within = rw (l .long) (f .capacity .within); room = rw (l .long) (omega (arith, l .count, f .capacity .room)) };
     securities = securities;
     cash = cash;
     each = fewer-fit (l .fewer) (f .each);
     size = record { within = rw s (f .size .within); covers = rw s (omega (arith, f .size .covers, fewer-outstanding (l .fewer))) };
+    postings = postings;
     nets = nets;
     sums = sums;
     differing = fewer-differ (l .fewer) (f .differing);
@@ -95,7 +98,7 @@ module _ (calendar : Calendar) (book : Book) (table : List Trade) (f : Fit calen
       let follows = not-false (followed calendar (following calendar (book .standing .day))) (all-clear (openCauses calendar book table) e 16) in
       let l = opened-lessens (paymentDay calendar (nextDay calendar (book .standing))) (turnsTerminated (book .standing)) in
       let within = cleared-within (followed calendar (following calendar (book .standing .day))) (turnsTerminated (book .standing)) follows (all-clear (openCauses calendar book table) e 14) in
-      lessened-fits (openedBook calendar book table) (openedTable book table) l refl (f .securities) (f .cash)
+      lessened-fits (openedBook calendar book table) (openedTable book table) l refl (f .securities) (f .cash) none-posted
       (record { today = f .nets .today; cleared = within .0 }) (record { unpaid = within .1 }) (f .withdrawals)
       (next-day calendar (book .standing .day) (book .standing .phase) Trading table _ (book .trades) (book .trades) (f .day) follows (l .fewer))
     where
@@ -111,6 +114,13 @@ module _ (calendar : Calendar) (book : Book) (table : List Trade) (f : Fit calen
 
   -- ---- 9 Initial
 
+  -- a product that an initial trade may name
+  known-product : (product : ℕ) → badProduct book product ≡ false → product ≤ productLimit
+  known-product zero e = omega arith
+  known-product (suc number) e =
+      let off = rw (ne-eqb (suc number) 0 (λ q. omega arith)) at e in
+      ltb-false productLimit (suc number) (neither (ltb productLimit (suc number)) (not (isPosted (postingOf book (suc number)))) off .0)
+
   begun-fits : (terms : Terms) → firstOf (initialCauses calendar book table terms) ≡ none → tradeFit (begun calendar book terms) ≡ true
   unfolding initialCauses
   begun-fits terms e =
@@ -122,7 +132,10 @@ module _ (calendar : Calendar) (book : Book) (table : List Trade) (f : Fit calen
         le-leb q tradeLimit (ltb-false tradeLimit q count),
         (
           le-leb (terms .price .0) priceLimit (ltb-false priceLimit (terms .price .0) (prices .0)),
-          (le-leb (terms .fallback .0) priceLimit (ltb-false priceLimit (terms .fallback .0) (prices .1)), tt),
+          (
+            le-leb (terms .fallback .0) priceLimit (ltb-false priceLimit (terms .fallback .0) (prices .1)),
+            (le-leb (terms .product) productLimit (known-product (terms .product) (all-clear cs e 20)), tt),
+          ),
         ),
       )
 
@@ -149,6 +162,7 @@ module _ (calendar : Calendar) (book : Book) (table : List Trade) (f : Fit calen
           within = f .size .within;
           covers = rw now (omega (arith, outstanding-append trades (trade ∷ []), outstanding-one trade, initial-covered (terms .sheets .0) (all-clear cs e 12)));
         };
+        postings = f .postings;
         nets = record { today = ltb-false netLimit (natAbs (netLess book terms)) (all-clear cs e 14); cleared = f .nets .cleared };
         sums = f .sums;
         differing = rw now (differ-append trades trade (f .differing) (all-clear cs e 10));
@@ -170,7 +184,7 @@ module _ (calendar : Calendar) (book : Book) (table : List Trade) (f : Fit calen
       let net = netWithEarly calendar book table contract count price in
       let amount = earlyAmount calendar book table contract count price in
       let n = neither (ltb netLimit (natAbs net)) (passes amount (book .sums .unpaid)) (all-clear cs e 14) in
-      lessened-fits (earlyBook calendar book table contract count price) (earlyTable book table contract count) l refl (f .securities) (f .cash)
+      lessened-fits (earlyBook calendar book table contract count price) (earlyTable book table contract count) l refl (f .securities) (f .cash) (f .postings)
       (record { today = ltb-false netLimit (natAbs net) (n .0); cleared = f .nets .cleared })
       (record { unpaid = omega (arith, ltb-false netLimit (unpaidOf book + amount) (n .1)) })
       (f .withdrawals)
@@ -189,10 +203,10 @@ module _ (calendar : Calendar) (book : Book) (table : List Trade) (f : Fit calen
           (trading-not-closed (book .standing .phase) (all-clear (payCauses book) e 4)) (λ b. b) (f .day)
 
       go : (failing : Bool) → fails book ≡ failing → Fit calendar (afterPay failing book) table
-      go true b = lessened-fits (afterPay true book) table (same-lessens (paymentDay calendar (book .standing .day)) (book .trades) table) refl (f .securities) (f .cash) (f .nets) (f .sums) (f .withdrawals) day
+      go true b = lessened-fits (afterPay true book) table (same-lessens (paymentDay calendar (book .standing .day)) (book .trades) table) refl (f .securities) (f .cash) (f .postings) (f .nets) (f .sums) (f .withdrawals) day
       go false b =
           lessened-fits (afterPay false book) table (same-lessens (paymentDay calendar (book .standing .day)) (book .trades) table) refl (f .securities)
-          (moved-fits (book .nets .cleared .0) (book .cash) (book .vault .guarantee) (f .cash) b)
+          (moved-fits (book .nets .cleared .0) (book .cash) (book .vault .guarantee) (f .cash) b) (f .postings)
           (record { today = f .nets .today; cleared = omega arith }) (record { unpaid = omega (arith, f .sums .unpaid) }) (f .withdrawals) day
 
   -- ---- 12 Close
@@ -209,22 +223,22 @@ module _ (calendar : Calendar) (book : Book) (table : List Trade) (f : Fit calen
         fewer = rw (take-packed (book .trades) kept table) less;
       }
 
-  matured-fewer : Fewer (paymentDay calendar (book .standing .day)) (maturedTrades book table) (inUse (book .trades) table)
-  unfolding maturedTrades
-  matured-fewer = matured-lessens (today book) (inUse (book .trades) table)
+  left-trades-fewer : Fewer (paymentDay calendar (book .standing .day)) (leftTrades calendar book table) (inUse (book .trades) table)
+  unfolding leftTrades
+  left-trades-fewer = left-fewer calendar book (f .postings) (outstandingMatured book table) (inUse (book .trades) table)
 
   pub closed-fits : firstOf (closeCauses calendar book table) ≡ none
-      → Fit calendar (closedBook calendar book (maturedTrades book table) table) (closedTable book (maturedTrades book table) table)
+      → Fit calendar (closedBook calendar book (leftTrades calendar book table) table) (closedTable book (leftTrades calendar book table) table)
   unfolding closeCauses closedBook
   closed-fits e =
-      let left = maturedTrades book table in
-      let lessens = closed-lessens left matured-fewer in
+      let left = leftTrades calendar book table in
+      let lessens = closed-lessens left left-trades-fewer in
       let ev = evening-fits book (claimsAtClose calendar book left table) (f .securities) (f .cash) in
-      let today = ltb netLimit (natAbs (netWithMatured calendar book table)) in
+      let today = ltb netLimit (natAbs (netAtClose calendar book table)) in
       let cleared = ltb netLimit (natAbs (clearedAtClose calendar book table)) in
       let amount = maturedAmount calendar book table in
       let n = neither (today || cleared) (passes amount (book .sums .unpaid)) (all-clear (closeCauses calendar book table) e 14) in
-      lessened-fits (closedBook calendar book left table) (closedTable book left table) lessens refl (ev .securities) (ev .cash)
+      lessened-fits (closedBook calendar book left table) (closedTable book left table) lessens refl (ev .securities) (ev .cash) (f .postings)
       (record { today = omega arith; cleared = ltb-false netLimit (natAbs (clearedAtClose calendar book table)) (neither today cleared (n .0) .1) })
       (record { unpaid = omega (arith, ltb-false netLimit (unpaidOf book + amount) (n .1)) })
       (record { count = omega arith; each = λ i h. absurd (omega arith) })

@@ -1,8 +1,10 @@
 -- What the other laws would let slip, shown case by case: the slips of document 01, the runs, withdrawals and the numbers around them.
 -- Assumes nothing.
 use mathlib.Core.Path.{_≡_, refl}
+use mathlib.Core.Bool.{cond}
 use mathlib.Core.List.{List, [], _∷_, map}
 use Prim.Native.Nat.{ℕ, _+_}
+use lib.Dec.{eqb}
 use lib.IntN.{natAbs}
 use lib.ListN.{replicate, drop, length}
 use Rattle.money.specs.Units.{fen, sheets, ticks}
@@ -134,8 +136,34 @@ not-paid = refl
 -- ---- "Byte 0 code": a code is read back from the event that it gives, and what is no code gives none
 
 abbrev bare : ℕ → Fields
-bare code = record { code = code; kind = 0; spare = 0; amount = 0; contract = 0; price = 0; fallback = 0; due = 0; last = 0 }
+bare code = record { code = code; kind = 0; product = 0; spare = 0; amount = 0; contract = 0; price = 0; fallback = 0; due = 0; last = 0 }
 
-pub codes-read-back : map (λ code. codeOf (entryOf (bare code))) (0 ∷ 1 ∷ 2 ∷ 3 ∷ 4 ∷ 5 ∷ 6 ∷ 7 ∷ 8 ∷ 9 ∷ 10 ∷ 11 ∷ 12 ∷ 13 ∷ []) ≡ (0 ∷ 1 ∷ 2 ∷ 3 ∷ 4 ∷ 5 ∷ 6 ∷ 7 ∷ 8 ∷ 9 ∷ 10 ∷ 11 ∷ 12 ∷ 0 ∷ [])
+pub codes-read-back : map (λ code. codeOf (entryOf (bare code))) (0 ∷ 1 ∷ 2 ∷ 3 ∷ 4 ∷ 5 ∷ 6 ∷ 7 ∷ 8 ∷ 9 ∷ 10 ∷ 11 ∷ 12 ∷ 13 ∷ 14 ∷ []) ≡ (0 ∷ 1 ∷ 2 ∷ 3 ∷ 4 ∷ 5 ∷ 6 ∷ 7 ∷ 8 ∷ 9 ∷ 10 ∷ 11 ∷ 12 ∷ 13 ∷ 0 ∷ [])
 unfolding entryOf unless
 codes-read-back = refl
+
+-- 1 in one of the other fields, told by its place: kind, product, spare, amount, contract, price, fallback, due, last
+abbrev withOne : (code place : ℕ) → Fields
+withOne code place = record {
+  code = code;
+  kind = cond (eqb place 0) 1 0;
+  product = cond (eqb place 1) 1 0;
+  spare = cond (eqb place 2) 1 0;
+  amount = cond (eqb place 3) 1 0;
+  contract = cond (eqb place 4) 1 0;
+  price = cond (eqb place 5) 1 0;
+  fallback = cond (eqb place 6) 1 0;
+  due = cond (eqb place 7) 1 0;
+  last = cond (eqb place 8) 1 0;
+}
+
+-- an initial trade uses the product and all others but kind; Post uses kind, amount and both prices
+pub fields-of-trades-and-postings : (map (λ place. codeOf (entryOf (withOne 9 place))) (0 ∷ 1 ∷ 2 ∷ 3 ∷ 4 ∷ 5 ∷ 6 ∷ 7 ∷ 8 ∷ []) ≡ (0 ∷ 9 ∷ 0 ∷ 9 ∷ 9 ∷ 9 ∷ 9 ∷ 9 ∷ 0 ∷ []))
+    × (map (λ place. codeOf (entryOf (withOne 13 place))) (0 ∷ 1 ∷ 2 ∷ 3 ∷ 4 ∷ 5 ∷ 6 ∷ 7 ∷ 8 ∷ []) ≡ (13 ∷ 0 ∷ 0 ∷ 13 ∷ 0 ∷ 13 ∷ 13 ∷ 0 ∷ 0 ∷ []))
+unfolding entryOf unless
+fields-of-trades-and-postings = (refl, refl)
+
+-- no other event uses the product
+pub product-of-trades-alone : map (λ code. codeOf (entryOf (withOne code 1))) (1 ∷ 2 ∷ 3 ∷ 4 ∷ 5 ∷ 6 ∷ 7 ∷ 8 ∷ 9 ∷ 10 ∷ 11 ∷ 12 ∷ 13 ∷ []) ≡ (0 ∷ 0 ∷ 0 ∷ 0 ∷ 0 ∷ 0 ∷ 0 ∷ 0 ∷ 9 ∷ 0 ∷ 0 ∷ 0 ∷ 0 ∷ [])
+unfolding entryOf unless
+product-of-trades-alone = refl

@@ -14,12 +14,12 @@ use Rattle.money.specs.Days.{Calendar}
 use Rattle.rules.specs.Book.{Book, noSecurity, freshBook}
 use Rattle.rules.specs.Trades.{Trade, outstanding, total, differ}
 use Rattle.rules.specs.Fit.{allTrades, fit}
-use Rattle.rules.specs.Entry.{Event, Open, FundIn, FundOut, Size, Rate, Pledge, Freeze, Withdraw, Initial, Early, Pay, Close, Entry, Known, Undecodable}
+use Rattle.rules.specs.Entry.{Event, Open, FundIn, FundOut, Size, Rate, Pledge, Freeze, Withdraw, Initial, Early, Pay, Close, Post, Entry, Known, Undecodable}
 use Rattle.rules.specs.Step.{eventCauses, entryCauses, causes, act, actOn, refuseOr, step}
 use Rattle.rules.specs.Run.{run}
 use Rattle.rules.specs.Demand3.{All}
 use Rattle.rules.proofs.FitParts.{Fit, fit-parts, parts-fit}
-use Rattle.rules.proofs.KeepsFit.{none-fits, fundedIn-fits, fundedOut-fits, sized-fits, rated-fits, pledged-fits, frozen-fits, withdrawn-fits}
+use Rattle.rules.proofs.KeepsFit.{none-fits, none-posted, fundedIn-fits, fundedOut-fits, sized-fits, rated-fits, pledged-fits, frozen-fits, withdrawn-fits, posted-fits}
 use Rattle.rules.proofs.KeepsFitDay.{opened-fits, initial-fits, early-fits, paid-fits, closed-fits}
 use Rattle.rules.proofs.Answers.{never-1-where-fit}
 
@@ -35,6 +35,7 @@ fresh-is-fit calendar table h =
       cash = record { sum = omega arith; free = omega arith };
       each = refl;
       size = record { within = omega arith; covers = omega arith };
+      postings = none-posted;
       nets = record { today = omega arith; cleared = omega arith };
       sums = record { unpaid = omega arith };
       differing = refl;
@@ -68,6 +69,7 @@ act-keeps-fit calendar book table f (Initial terms) e = initial-fits calendar bo
 act-keeps-fit calendar book table f (Early contract count price) e = early-fits calendar book table f contract count price e
 act-keeps-fit calendar book table f Pay e = paid-fits calendar book table f e
 act-keeps-fit calendar book table f Close e = closed-fits calendar book table f e
+act-keeps-fit calendar book table f (Post product posting) e = posted-fits calendar book table f product posting e
 
 acted-fit : (calendar : Calendar) (book : Book) (table : List Trade) → fit calendar book table ≡ true → (entry : Entry) → firstOf (entryCauses calendar book table entry) ≡ none
     → fit calendar (actOn calendar book table entry .book) (actOn calendar book table entry .table) ≡ true

@@ -9,6 +9,7 @@ use borrow.Author.Tests.{leb-true, le-leb, eqb-false, ne-eqb}
 use lib.Dec.{leb}
 use lib.ListN.{length}
 use Rattle.money.specs.Limits.{tradeLimit, priceLimit}
+use Rattle.rules.specs.Limits.{productLimit}
 use Rattle.rules.specs.Trades.{Contract, Trade, same, withSheets, outstanding, total, onTable, differ, takeOff, emptied, maturing, matured, leaves, remaining}
 use Rattle.rules.specs.Fit.{tradeFit, allTrades}
 use Rattle.money.proofs.TwoTests.{both, both-of}
@@ -30,7 +31,7 @@ pub data Fewer (last : ℕ) : List Trade → List Trade → Type 0 where
 -- ---- the tests of a trade
 
 abbrev pub tradeTests : Trade → List Bool
-tradeTests t = leb (t .sheets .0) tradeLimit ∷ leb (t .price .0) priceLimit ∷ leb (t .fallback .0) priceLimit ∷ []
+tradeTests t = leb (t .sheets .0) tradeLimit ∷ leb (t .price .0) priceLimit ∷ leb (t .fallback .0) priceLimit ∷ leb (t .product) productLimit ∷ []
 
 pub fewer-sheets-fit : (t : Trade) (n : ℕ) → n ≤ t .sheets .0 → tradeFit t ≡ true → tradeFit (withSheets n t) ≡ true
 fewer-sheets-fit t n h e =

@@ -11,7 +11,7 @@ use Rattle.money.specs.declared.units.Ticks.{Ticks}
 use Rattle.money.specs.Units.{sheets}
 use Rattle.money.specs.Money.{redemption}
 use Rattle.money.proofs.Bounds.{no-sheets}
-use Rattle.rules.specs.Trades.{Contract, Trade, same, withSheets, total, outstanding, onTable, tradeOf, differ, takeOff, redeemed, fallbackAmount, emptied, maturing, maturityAmount, matured, leaves, remaining}
+use Rattle.rules.specs.Trades.{Contract, Trade, same, withSheets, total, outstanding, onTable, tradeOf, differ, takeOff, redeemed, fallbackAmount, emptied, maturing, maturityAmount, leaves, remaining}
 use Rattle.rules.specs.Tally.{unlessEmpty, withoutEmpty, sumRows, less, takenFrom, amountOf, whole, wholeIfDue, ofContract}
 use Rattle.rules.proofs.TradeLaws.{zero-or-suc, remaining-none, remaining-some, remaining-append, remaining-remaining, remaining-map, remaining-emptied, total-remaining, maturing-le}
 
@@ -63,9 +63,6 @@ pub amount-whole : (payment : ℕ) (l : List Trade) → amountOf payment whole (
 amount-whole payment l = sumRows-remaining (fallbackAmount payment) (λ t e. no-sheets (t .sheets) (t .fallback) (payment - t .first) e) l
 
 -- ---- each row due by a day
-
-pub taken-due : (d : ℕ) (l : List Trade) → takenFrom (wholeIfDue d) (remaining l) ≡ remaining (map (matured d) l)
-taken-due d l = takenFrom-remaining (wholeIfDue d) l
 
 maturing-none : (d : ℕ) (t : Trade) → t .sheets .0 ≡ 0 → maturing d t ≡ 0
 maturing-none d t e = omega (arith, maturing-le d t)

@@ -2,12 +2,13 @@
 -- For demand 3, and for the proofs of the events that change the table. Assumes nothing.
 use mathlib.Core.Path.{_≡_, refl, ap, _∙_}
 use mathlib.Core.Logic.{_⊎_, inl, inr}
-use mathlib.Core.Bool.{Bool, true, false, cond}
+use mathlib.Core.Bool.{Bool, true, false, cond, not}
 use mathlib.Core.List.{List, [], _∷_, _++_, map}
 use Prim.Native.Nat.{ℕ, zero, suc, _+_, _-_, _≤_, _<_}
 use native.Mathlib.Numerals.{add-one}
 use native.Mathlib.Omega.{arith}
-use lib.Dec.{leb}
+use borrow.Author.Tests.{eqb-false, not-true}
+use lib.Dec.{leb, eqb}
 use lib.ListN.{length, take, drop, set, replicate, length-append, length-drop, length-replicate}
 use lib.Seq.{take-at, take-append-seam, length-take-le, length-front, take-suc-set}
 use Rattle.rules.specs.Trades.{Contract, Trade, noTrade, same, withSheets, total, outstanding, onTable, tradeOf, takeOff, emptied, maturing, matured, leaves, remaining, packed, over}
@@ -106,6 +107,14 @@ maturing-le d t = go (leb (t .due) d)
     go : (b : Bool) → cond b (t .sheets .0) 0 ≤ t .sheets .0
     go true = omega arith
     go false = omega arith
+
+-- a trade of which sheets mature matures whole
+pub matures-whole : (d : ℕ) (t : Trade) → not (eqb (maturing d t) 0) ≡ true → maturing d t ≡ t .sheets .0
+matures-whole d t some = go (leb (t .due) d) (eqb-false (maturing d t) 0 (not-true _ some))
+  where
+    go : (b : Bool) → (cond b (t .sheets .0) 0 ≡ 0 → ⊥) → cond b (t .sheets .0) 0 ≡ t .sheets .0
+    go true none = refl
+    go false none = absurd (none refl)
 
 pub outstanding-matured : (d : ℕ) (l : List Trade) → outstanding (map (matured d) l) + total (maturing d) l ≡ outstanding l
 unfolding outstanding total

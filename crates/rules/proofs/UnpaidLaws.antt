@@ -15,7 +15,7 @@ use Rattle.rules.specs.Book.{Book, answer, freshBook}
 use Rattle.rules.specs.Unpaid.{unpaidSum, unpaidOf, clearedPlus}
 use Rattle.rules.specs.Trades.{Trade, outstanding, remaining}
 use Rattle.rules.specs.Vault.{value, outstandingOf}
-use Rattle.rules.specs.Entry.{Event, Open, FundIn, FundOut, Size, Rate, Pledge, Freeze, Withdraw, Initial, Early, Pay, Close, Entry, Known}
+use Rattle.rules.specs.Entry.{Event, Open, FundIn, FundOut, Size, Rate, Pledge, Freeze, Withdraw, Initial, Early, Pay, Close, Post, Entry, Known}
 use Rattle.rules.specs.Open.{turnsTerminated, fallbackSum, openedBook}
 use Rattle.rules.specs.Funds.{fundedIn, fundedOut}
 use Rattle.rules.specs.Size.{sized}
@@ -26,7 +26,8 @@ use Rattle.rules.specs.Withdraw.{withdrawn}
 use Rattle.rules.specs.Initial.{initialBook}
 use Rattle.rules.specs.Early.{earlyBook}
 use Rattle.rules.specs.Pay.{fails, afterPay, payNumber}
-use Rattle.rules.specs.Close.{Evening, maturedTrades, unpaidAtClose, claimsOf, mayGo, settleOne, settled, served, evening, claimsAtClose, closedTable, closedBook, closeAnswer}
+use Rattle.rules.specs.Post.{posted}
+use Rattle.rules.specs.Close.{Evening, leftTrades, unpaidAtClose, claimsOf, mayGo, settleOne, settled, served, evening, claimsAtClose, closedTable, closedBook, closeAnswer}
 use Rattle.rules.specs.Redeemed.{amountRedeemed}
 use Rattle.rules.specs.Step.{Outcome, outcome, causes, act, refuseOr, step, accepted}
 use Rattle.rules.specs.Run.{see, run}
@@ -39,7 +40,7 @@ use Rattle.rules.proofs.EveningFit.{gone, over-evening}
 
 act-grows : (calendar : Calendar) (book : Book) (table : List Trade) (event : Event) → (isPay (Known event) && eqb (act calendar book table event .answer .number) 0) ≡ false
     → unpaidOf (act calendar book table event .book) ≡ unpaidOf book + amountRedeemed calendar book table event
-unfolding act openedBook fundedIn fundedOut sized rated pledged frozen withdrawn initialBook earlyBook afterPay closedBook closeAnswer
+unfolding act openedBook fundedIn fundedOut sized rated pledged frozen withdrawn initialBook earlyBook afterPay closedBook closeAnswer posted
 act-grows calendar book table Open other = go (turnsTerminated (book .standing))
   where
     go : (ends : Bool) → unpaidSum (cond ends (clearedPlus (fallbackSum calendar book table) (book .sums .unpaid)) (book .sums .unpaid))
@@ -61,6 +62,7 @@ act-grows calendar book table Pay other = go (fails book) other
     go true other = omega arith
     go false other = let z : _≡_ {A = ℕ} 0 1 = cc in absurd (omega arith)
 act-grows calendar book table Close other = omega arith
+act-grows calendar book table (Post product posting) other = omega arith
 
 pub unpaid-grows : (calendar : Calendar) (book : Book) (table : List Trade) (event : Event)
     → let after = step calendar book table (Known event) in
@@ -152,5 +154,5 @@ unfolding step act
 close-covered calendar book table some-went = go (firstOf (causes calendar book table (Known Close))) some-went
   where
     go : (cause : Option ℕ) → 0 < refuseOr cause book table (act calendar book table Close) .answer .done → Covered (refuseOr cause book table (act calendar book table Close))
-    go none some-went = closed-covered calendar book (maturedTrades book table) table some-went
+    go none some-went = closed-covered calendar book (leftTrades calendar book table) table some-went
     go (some n) some-went = absurd (omega arith)

@@ -1,16 +1,17 @@
--- "12 Close, in Paid, or in Trading if terminated": its parts (a) to (f). (arts. 49, 52, 53, 60, 61, 69)
+-- "12 Close, in Paid, or in Trading if terminated": its parts (a) to (f), and between (a) and (b) the next terms. (02, ask 4; arts. 30, 49, 52, 53, 60, 61, 69)
 -- Assumes nothing.
 use Prim.Native.Nat.{ℕ, _+_, _-_, _*_}
 use mathlib.Core.Bool.{Bool, true, false, cond, not, _&&_, _||_}
 use mathlib.Core.List.{List, [], _∷_, map}
 use lib.Dec.{ltb, leb}
-use lib.IntN.{ℤ, pos, natAbs, _+ℤ_}
+use lib.IntN.{ℤ, pos, natAbs, _+ℤ_, _-ℤ_}
 use lib.ListN.{length, getD, set}
 use lib.Signed.{ltZ}
 use Rattle.money.specs.Units.{fen, sheets, signedFen, sheetFen}
 use Rattle.money.specs.declared.units.Fen.{Fen}
 use Rattle.money.specs.Causes.{Cause, _⇒_}
 use Rattle.money.specs.Days.{Calendar}
+use Rattle.money.specs.Money.{principal}
 use Rattle.rules.specs.Folds.{inTurn}
 use Rattle.rules.specs.Limits.{netLimit}
 use Rattle.rules.specs.Book.{Security, Guarantee, Vault, Closed, ShortRun, NotShort, ShortOnce, ShortTwice, ShortThrice, Standing, Withdrawals, Unpaid, Book, Answer, isPaid, isTrading, isTerminated, hasFailed, withUnpaid, noApplications}
@@ -19,6 +20,7 @@ pub use Rattle.rules.specs.Days.{today}
 use Rattle.rules.specs.Days.{paymentDay}
 use Rattle.rules.specs.Trades.{Trade, inUse, total, outstanding, maturing, maturityAmount, matured, remaining, packed}
 use Rattle.rules.specs.Vault.{securityAt, isCash, effectiveOf, frozenOf, value, headroomOf}
+use Rattle.rules.specs.NextTerm.{leftFrom, startedFrom}
 
 abbrev pub mayClose : Standing → Bool
 mayClose standing = isPaid (standing .phase) || isTrading (standing .phase) && isTerminated (standing .status)
@@ -35,13 +37,35 @@ unfoldable pub maturedAmount : Calendar → Book → List Trade → ℕ
 maturedAmount calendar book table =
     total (maturityAmount (today book) (paymentDay calendar (book .standing .day))) (inUse (book .trades) table)
 
+-- ---- "between its parts (a) and (b)" (02, ask 4): all have matured before the first of them starts again
+
+-- O once all have matured
+abbrev pub outstandingMatured : Book → List Trade → ℕ
+outstandingMatured book table = outstanding (maturedTrades book table)
+
+-- the trades in their slots as (b) begins
+unfoldable pub leftTrades : Calendar → Book → List Trade → List Trade
+leftTrades calendar book table = leftFrom calendar book (outstandingMatured book table) (inUse (book .trades) table)
+
+-- the records of the terms that start
+unfoldable pub startedTerms : Calendar → Book → List Trade → List Trade
+startedTerms calendar book table = startedFrom calendar book (outstandingMatured book table) (inUse (book .trades) table)
+
+-- "A started term counts as an initial trade in every total": "10,000q is taken from today's net"
+unfoldable pub startedPrincipal : Calendar → Book → List Trade → ℕ
+startedPrincipal calendar book table = total (λ term. principal (term .sheets) .0) (startedTerms calendar book table)
+
 -- ---- (b) "today's net joins the cleared net and becomes 0"
 
 abbrev pub netWithMatured : Calendar → Book → List Trade → ℤ
 netWithMatured calendar book table = book .nets .today .0 +ℤ pos (maturedAmount calendar book table)
 
+-- "today's net as (b) begins": with what matured, less what started
+abbrev pub netAtClose : Calendar → Book → List Trade → ℤ
+netAtClose calendar book table = netWithMatured calendar book table -ℤ pos (startedPrincipal calendar book table)
+
 abbrev pub clearedAtClose : Calendar → Book → List Trade → ℤ
-clearedAtClose calendar book table = book .nets .cleared .0 +ℤ netWithMatured calendar book table
+clearedAtClose calendar book table = book .nets .cleared .0 +ℤ netAtClose calendar book table
 
 -- U with this Close's maturities: "Close adds the second to the first before it looks at applications" (02, ask 2)
 abbrev pub unpaidAtClose : Calendar → Book → List Trade → Unpaid
@@ -51,7 +75,7 @@ unpaidAtClose calendar book table = joined (todayPlus (maturedAmount calendar bo
 unfoldable pub closeCauses : Calendar → Book → List Trade → List Cause
 closeCauses calendar book table =
     (not (mayClose (book .standing)) ⇒ 4)
-    ∷ (ltb netLimit (natAbs (netWithMatured calendar book table))
+    ∷ (ltb netLimit (natAbs (netAtClose calendar book table))
     || ltb netLimit (natAbs (clearedAtClose calendar book table))
     || passes (maturedAmount calendar book table) (book .sums .unpaid) ⇒ 14)
     ∷ []
@@ -176,6 +200,7 @@ closedBook calendar book left table =
       size = book .size;
       standing = closedStanding (shortAtClose (isShortClose book left (end .vault)) (book .standing .short)) (book .standing);
       withdrawals = noApplications;
+      postings = book .postings;
       trades = length (remaining left);
     })
 

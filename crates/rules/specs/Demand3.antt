@@ -1,25 +1,26 @@
--- Demand 3: a single claim about a list of what was seen, on whatever ledger. (00, demand 3; 01, Twelve events, "Demand 3")
+-- Demand 3: a single claim about a list of what was seen, on whatever ledger. (00, demand 3; 01, Twelve events, "Demand 3"; 02, ask 4)
 -- Assumes nothing.
 use mathlib.Core.Path.{_≡_}
 use mathlib.Core.Bool.{Bool, cond, _&&_}
 use mathlib.Core.List.{List, [], _∷_}
 use mathlib.Core.Option.{none, some}
-use Prim.Native.Nat.{ℕ, _≤_, _<_}
+use Prim.Native.Nat.{ℕ, _+_, _≤_, _<_}
 use lib.Dec.{T, eqb}
 use lib.IntN.{ℤ, pos, natAbs, _+ℤ_, _-ℤ_}
 use lib.Signed.{_≤ℤ_}
 use Rattle.money.specs.Days.{Calendar}
 use Rattle.rules.specs.Book.{Cash, Book, freshBook}
 use Rattle.rules.specs.Trades.{Trade}
-use Rattle.rules.specs.Vault.{outstandingOf, headroom}
+use Rattle.rules.specs.Vault.{value, headroomOf, outstandingOf, headroom}
 use Rattle.rules.specs.Fit.{allCash}
 use Rattle.rules.specs.Entry.{Entry, codeOf}
 use Rattle.rules.specs.Pay.{payerHolds}
-use Rattle.rules.specs.Step.{Outcome, step, accepted}
-use Rattle.rules.specs.Run.{Seen, run, Follows, lastBook, lastTable}
+use Rattle.rules.specs.Close.{outstandingMatured, startedTerms}
+use Rattle.rules.specs.Step.{accepted}
+use Rattle.rules.specs.Run.{Seen, see, run, Follows, lastBook, lastTable}
 use Rattle.rules.specs.Tally.{Tally, Told, blank, tell, tallyOf}
 
--- ---- what the tally is told: the entry, its answer's number and, at an Open, the status
+-- ---- what the tally is told: the entry, its answer's number, at an Open the status and at a Close the terms started
 
 abbrev pub isOpen : Entry → Bool
 isOpen entry = eqb (codeOf entry) 1
@@ -30,29 +31,53 @@ isInitial entry = eqb (codeOf entry) 9
 abbrev pub isPay : Entry → Bool
 isPay entry = eqb (codeOf entry) 11
 
+abbrev pub isClose : Entry → Bool
+isClose entry = eqb (codeOf entry) 12
+
 abbrev pub number : Seen → ℕ
 number seen = seen .left .answer .number
 
--- "at an Open, the status that the rules above give over the same list": `ruled` is what they leave of the same entry
-abbrev pub told : (ruled : Outcome) → Seen → Told
-told ruled seen = record {
+-- "at an Open, the status that the rules above give over the same list": `ruled` is the same entry where the rules are kept.
+-- "the tally of demand 3 is told from these rules which ones started, with their records" (02, ask 4)
+abbrev pub told : Calendar → (ruled seen : Seen) → Told
+told calendar ruled seen = record {
   entry = seen .entry;
   number = number seen;
-  status = cond (isOpen (seen .entry)) (some (ruled .book .standing .status)) none;
+  status = cond (isOpen (seen .entry)) (some (ruled .left .book .standing .status)) none;
+  started = cond (isClose (seen .entry) && accepted (number ruled)) (startedTerms calendar (ruled .book) (ruled .table)) [];
 }
 
 -- of a list, beside which the rules begin with this book and table
 unfoldable pub toldOf : Calendar → Book → List Trade → List Seen → List Told
 toldOf calendar book table [] = []
 toldOf calendar book table (seen ∷ more) =
-    let ruled = step calendar book table (seen .entry) in
-    told ruled seen ∷ toldOf calendar (ruled .book) (ruled .table) more
+    let ruled = see calendar book table (seen .entry) in
+    told calendar ruled seen ∷ toldOf calendar (ruled .left .book) (ruled .left .table) more
 
 -- ---- the claims about one entry
 
 -- "After each accepted Initial headroom was 0 or above."
 abbrev pub InitialCovered : Seen → Type 0
 InitialCovered seen = T (isInitial (seen .entry)) → T (accepted (number seen)) → pos 0 ≤ℤ headroom (seen .left .book) (seen .left .table)
+
+-- O right after each of some terms that start one after the other
+abbrev pub outstandings : (outstanding : ℕ) → (started : List Trade) → List ℕ
+outstandings outstanding [] = []
+outstandings outstanding (term ∷ started) =
+    let next = outstanding + term .sheets .0 in
+    next ∷ outstandings next started
+
+abbrev pub Each : (ℕ → Type 0) → List ℕ → Type 0
+Each claim [] = Unit {0}
+Each claim (number ∷ numbers) = claim number × Each claim numbers
+
+-- "A started term counts as an initial trade … in the headroom rule" (02, ask 4): after each started term headroom was 0 or above
+abbrev pub StartsCovered : (told : Told) → Seen → Type 0
+StartsCovered told seen =
+    T (isClose (seen .entry))
+    → T (accepted (number seen))
+    → Each (λ outstanding. pos 0 ≤ℤ headroomOf (seen .book .size .0) (value (seen .book .vault)) outstanding)
+    (outstandings (outstandingMatured (seen .book) (seen .table)) (told .started))
 
 -- "Exactly when the payer held at least its size, the answer was 0, own fell by the net and client rose by it; otherwise 99, and neither
 -- changed."
@@ -81,12 +106,19 @@ abbrev pub All : (Seen → Type 0) → List Seen → Type 0
 All claim [] = Unit {0}
 All claim (seen ∷ more) = claim seen × All claim more
 
+-- each with what the tally is told of it
+abbrev pub AllTold : Calendar → (Told → Seen → Type 0) → Book → List Trade → List Seen → Type 0
+AllTold calendar claim book table [] = Unit {0}
+AllTold calendar claim book table (seen ∷ more) =
+    let ruled = see calendar book table (seen .entry) in
+    claim (told calendar ruled seen) seen × AllTold calendar claim (ruled .left .book) (ruled .left .table) more
+
 -- each with the tally of what came before it
 abbrev pub AllBeside : Calendar → (Tally → Seen → Type 0) → Book → List Trade → Tally → List Seen → Type 0
 AllBeside calendar claim book table t [] = Unit {0}
 AllBeside calendar claim book table t (seen ∷ more) =
-    let ruled = step calendar book table (seen .entry) in
-    claim t seen × AllBeside calendar claim (ruled .book) (ruled .table) (tell calendar t (told ruled seen)) more
+    let ruled = see calendar book table (seen .entry) in
+    claim t seen × AllBeside calendar claim (ruled .left .book) (ruled .left .table) (tell calendar t (told calendar ruled seen)) more
 
 -- "The money moved, own before less own after over accepted Pays"
 abbrev pub movedAt : Seen → ℤ
@@ -119,6 +151,7 @@ pub record Demand3 (calendar : Calendar) (table : List Trade) (list : List Seen)
   pub outstanding-is-begun-less-redeemed :
       pos (outstandingAfter table list) ≡ pos (tallyBeside calendar table list .begun) -ℤ pos (tallyBeside calendar table list .redeemed)
   pub initials-covered : All InitialCovered list
+  pub starts-covered : AllTold calendar StartsCovered freshBook table list
   pub payments-whole-or-nothing : AllBeside calendar PaymentRight freshBook table blank list
   -- "sums to paid"
   pub money-moved-is-paid : moneyMoved list ≡ tallyBeside calendar table list .paid

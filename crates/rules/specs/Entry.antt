@@ -1,4 +1,4 @@
--- The twelve events, and how 40 bytes give one. (01, Twelve events; The journal)
+-- The thirteen events, and how 40 bytes give one. (01, Twelve events; The journal; 02, ask 4)
 -- Assumes nothing.
 use Prim.Native.Nat.{ℕ, _+_, _*_}
 use mathlib.Core.Path.{_≡_}
@@ -8,12 +8,13 @@ use lib.Dec.{leb, eqb}
 use lib.ListN.{length, take, drop, getD}
 use Rattle.money.specs.Units.{fen, sheets, ticks}
 use Rattle.money.specs.Causes.{Cause, _⇒_, firstOf, numberOf}
+use Rattle.rules.specs.declared.book.Posting.{Posting}
 use Rattle.rules.specs.declared.trade.Terms.{Terms}
 pub use Rattle.rules.specs.declared.event.Fields.{Fields}
 pub use Rattle.rules.specs.declared.event.Account.{Account}
 pub use Rattle.rules.specs.declared.event.Account.the-variants.{Own, Client}
 pub use Rattle.rules.specs.declared.event.Event.{Event}
-pub use Rattle.rules.specs.declared.event.Event.the-variants.{Open, FundIn, FundOut, Size, Rate, Pledge, Freeze, Withdraw, Initial, Early, Pay, Close}
+pub use Rattle.rules.specs.declared.event.Event.the-variants.{Open, FundIn, FundOut, Size, Rate, Pledge, Freeze, Withdraw, Initial, Early, Pay, Close, Post}
 pub use Rattle.rules.specs.declared.event.Entry.{Entry}
 pub use Rattle.rules.specs.declared.event.Entry.the-variants.{Known, Undecodable}
 
@@ -26,12 +27,13 @@ abbrev pub numberAt : (from width : ℕ) → List ℕ → ℕ
 numberAt from width bytes = littleEndian (take width (drop from bytes))
 
 -- "Byte 0 code; 1 kind or account; 8 to 15 amount, rate or size; 16 to 23 contract; 24 to 27 price; 28 to 31 fallback price; 32 to 35 due
--- day; others 0."
+-- day; others 0." "product 0 to 15 (byte 1)"; "An initial trade's byte 2 is 0, or the product number plus 1." (02, ask 4)
 abbrev pub fieldsOf : List ℕ → Fields
 fieldsOf bytes = record {
   code = getD bytes 0 0;
   kind = getD bytes 1 0;
-  spare = numberAt 2 6 bytes;
+  product = getD bytes 2 0;
+  spare = numberAt 3 5 bytes;
   amount = numberAt 8 8 bytes;
   contract = numberAt 16 8 bytes;
   price = numberAt 24 4 bytes;
@@ -52,7 +54,7 @@ onAccount account event unused =
 
 -- all but code, kind and amount: what trades use, and what no event uses
 abbrev pub restOf : Fields → List ℕ
-restOf f = f .spare ∷ f .contract ∷ f .price ∷ f .fallback ∷ f .due ∷ f .last ∷ []
+restOf f = f .product ∷ f .spare ∷ f .contract ∷ f .price ∷ f .fallback ∷ f .due ∷ f .last ∷ []
 
 abbrev pub termsOf : Fields → Terms
 termsOf f = record {
@@ -61,9 +63,14 @@ termsOf f = record {
   price = ticks (f .price);
   fallback = ticks (f .fallback);
   due = f .due;
+  product = f .product;
 }
 
--- "code not 1 to 12" is number 2; each code with the fields that it does not use
+-- "its term in days (amount, 1 to 365) and both prices"
+abbrev pub postingIn : Fields → Posting
+postingIn f = record { term = f .amount; price = ticks (f .price); fallback = ticks (f .fallback) }
+
+-- "Codes now run to 13" (02, ask 4), and any other is number 2; each code with the fields that it does not use
 unfoldable pub entryOf : Fields → Entry
 entryOf f =
     cond (eqb (f .code) 1) (unless Open (f .amount ∷ f .kind ∷ restOf f))
@@ -76,10 +83,11 @@ entryOf f =
     (cond (eqb (f .code) 8) (unless (Withdraw (f .kind) (f .amount)) (restOf f))
     (cond (eqb (f .code) 9) (unless (Initial (termsOf f)) (f .kind ∷ f .spare ∷ f .last ∷ []))
     (cond (eqb (f .code) 10) (unless (Early (record { 0 = f .contract }) (sheets (f .amount)) (ticks (f .price)))
-    (f .kind ∷ f .spare ∷ f .fallback ∷ f .due ∷ f .last ∷ []))
+    (f .kind ∷ f .product ∷ f .spare ∷ f .fallback ∷ f .due ∷ f .last ∷ []))
     (cond (eqb (f .code) 11) (unless Pay (f .amount ∷ f .kind ∷ restOf f))
     (cond (eqb (f .code) 12) (unless Close (f .amount ∷ f .kind ∷ restOf f))
-    Undecodable)))))))))))
+    (cond (eqb (f .code) 13) (unless (Post (f .kind) (postingIn f)) (f .product ∷ f .spare ∷ f .contract ∷ f .due ∷ f .last ∷ []))
+    Undecodable))))))))))))
 
 -- "events of 40 bytes"
 abbrev pub eventBytes : ℕ
@@ -90,7 +98,7 @@ decoded bytes = cond (eqb (length bytes) eventBytes) (entryOf (fieldsOf bytes)) 
 
 -- ---- the number of each case, and when it is given
 
--- "code not 1 to 12, account not 0 or 1, unused field not 0" is 2; an event that is known is put to the book
+-- a code that is none of the thirteen, "account not 0 or 1, unused field not 0" is 2; an event that is known is put to the book
 abbrev pub entryNumber : Entry → ℕ
 entryNumber (Known event) = 0
 entryNumber Undecodable = 2
@@ -102,17 +110,18 @@ among first last code = leb first code && leb code last
 abbrev pub strays : (used : Bool) → (field : ℕ) → Bool
 strays used field = not used && not (eqb field 0)
 
--- amount and kind, contract and price, fallback price and due day by the codes that use them; no event uses the other bytes
+-- each field by the codes that use it: Post uses kind, amount and both prices; no event uses the other bytes
 unfoldable pub fieldCauses : Fields → List Cause
 fieldCauses f =
-    (not (among 1 12 (f .code)) ⇒ 2)
+    (not (among 1 13 (f .code)) ⇒ 2)
     ∷ (among 2 3 (f .code) && not (eqb (f .kind) 0 || eqb (f .kind) 1) ⇒ 2)
-    ∷ (strays (among 2 10 (f .code)) (f .amount) ⇒ 2)
-    ∷ (strays (among 2 8 (f .code) && not (eqb (f .code) 4)) (f .kind) ⇒ 2)
+    ∷ (strays (among 2 10 (f .code) || eqb (f .code) 13) (f .amount) ⇒ 2)
+    ∷ (strays (among 2 8 (f .code) && not (eqb (f .code) 4) || eqb (f .code) 13) (f .kind) ⇒ 2)
+    ∷ (strays (eqb (f .code) 9) (f .product) ⇒ 2)
     ∷ (strays false (f .spare) ⇒ 2)
     ∷ (strays (among 9 10 (f .code)) (f .contract) ⇒ 2)
-    ∷ (strays (among 9 10 (f .code)) (f .price) ⇒ 2)
-    ∷ (strays (eqb (f .code) 9) (f .fallback) ⇒ 2)
+    ∷ (strays (among 9 10 (f .code) || eqb (f .code) 13) (f .price) ⇒ 2)
+    ∷ (strays (eqb (f .code) 9 || eqb (f .code) 13) (f .fallback) ⇒ 2)
     ∷ (strays (eqb (f .code) 9) (f .due) ⇒ 2)
     ∷ (strays false (f .last) ⇒ 2)
     ∷ []
@@ -138,4 +147,5 @@ codeOf (Known (Initial terms)) = 9
 codeOf (Known (Early contract count price)) = 10
 codeOf (Known Pay) = 11
 codeOf (Known Close) = 12
+codeOf (Known (Post product posting)) = 13
 codeOf Undecodable = 0

@@ -11,8 +11,8 @@ use Rattle.money.specs.Collateral.{cashKind}
 use Rattle.money.specs.Limits.{unitLimit, rateLimit, cashLimit, tradeLimit, priceLimit}
 use Rattle.money.specs.Days.{Calendar, trades}
 use Rattle.rules.specs.Folds.{allBelow, every}
-use Rattle.rules.specs.Limits.{capacityLimit, sizeLimit, netLimit, applicationLimit}
-use Rattle.rules.specs.Book.{Nets, Sums, Cash, Security, Guarantee, Vault, Day, Never, On, Phase, Withdrawals, Book, isClosed}
+use Rattle.rules.specs.Limits.{capacityLimit, sizeLimit, netLimit, applicationLimit, productLimit, aheadLimit}
+use Rattle.rules.specs.Book.{Nets, Sums, Cash, Security, Guarantee, Vault, Day, Never, On, Phase, Withdrawals, Posting, Book, isClosed, noPosting}
 use Rattle.rules.specs.Unpaid.{unpaidSum}
 use Rattle.rules.specs.Days.{followed, paymentDay}
 use Rattle.rules.specs.Trades.{Trade, inUse, differ}
@@ -42,10 +42,15 @@ allCash cash guarantee = cash .own .0 + cash .client .0 + guarantee .effective .
 unfoldable pub cashFit : Cash → Guarantee → Bool
 cashFit cash guarantee = leb (allCash cash guarantee) cashLimit && leb (guarantee .frozen .0) (guarantee .effective .0)
 
--- "a trade 10^8 sheets; price 100,000"
+-- "a trade 10^8 sheets; price 100,000"; "A book with a product … out of range is unfit." (02, ask 4)
 abbrev pub tradeFit : Trade → Bool
 tradeFit trade =
-    every (leb (trade .sheets .0) tradeLimit ∷ leb (trade .price .0) priceLimit ∷ leb (trade .fallback .0) priceLimit ∷ [])
+    every
+    (leb (trade .sheets .0) tradeLimit
+    ∷ leb (trade .price .0) priceLimit
+    ∷ leb (trade .fallback .0) priceLimit
+    ∷ leb (trade .product) productLimit
+    ∷ [])
 
 unfoldable pub allTrades : (Trade → Bool) → List Trade → Bool
 allTrades test [] = true
@@ -54,6 +59,14 @@ allTrades test (trade ∷ trades) = test trade && allTrades test trades
 -- "S 10^10", "O is at most S"
 unfoldable pub sizeFit : (size outstanding : ℕ) → Bool
 sizeFit size outstanding = leb size sizeLimit && leb outstanding size
+
+-- "A book with a … posting out of range is unfit." (02, ask 4)
+abbrev pub postingFit : Posting → Bool
+postingFit posting =
+    every (leb (posting .term) aheadLimit ∷ leb (posting .price .0) priceLimit ∷ leb (posting .fallback .0) priceLimit ∷ [])
+
+unfoldable pub postingsFit : List Posting → Bool
+postingsFit postings = allBelow productLimit (λ number. postingFit (getD postings number noPosting))
 
 -- "either net 4×10^18 up or down"
 abbrev pub netFit : ℤ → Bool
@@ -100,6 +113,7 @@ fit calendar book table =
     ∷ cashFit (book .cash) (book .vault .guarantee)
     ∷ allTrades tradeFit (inUse (book .trades) table)
     ∷ sizeFit (book .size .0) (outstandingOf book table)
+    ∷ postingsFit (book .postings)
     ∷ netsFit (book .nets)
     ∷ sumsFit (book .sums)
     ∷ differ (inUse (book .trades) table)

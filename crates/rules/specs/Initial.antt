@@ -1,7 +1,7 @@
--- "9 Initial, in Trading: a new last trade; 10,000q is taken from today's net." (arts. 21, 33, 43, 44)
+-- "9 Initial, in Trading: a new last trade; 10,000q is taken from today's net." (02, ask 4; arts. 21, 30, 33, 43, 44)
 -- Assumes nothing.
 use Prim.Native.Nat.{ℕ, _+_, _%_}
-use mathlib.Core.Bool.{Bool, not, _||_}
+use mathlib.Core.Bool.{Bool, not, _&&_, _||_}
 use mathlib.Core.List.{List, [], _∷_, _++_}
 use lib.Dec.{ltb, leb, eqb}
 use lib.IntN.{ℤ, pos, natAbs, _-ℤ_}
@@ -13,8 +13,8 @@ use Rattle.money.specs.Limits.{tradeLimit, priceLimit}
 use Rattle.money.specs.Causes.{Cause, _⇒_}
 use Rattle.money.specs.Days.{Calendar, atOrAfter}
 use Rattle.money.specs.Money.{principal}
-use Rattle.rules.specs.Limits.{netLimit, aheadLimit}
-use Rattle.rules.specs.Book.{Book, isTrading, isTerminated, isSuspended, withNets, withTrades}
+use Rattle.rules.specs.Limits.{netLimit, productLimit, aheadLimit}
+use Rattle.rules.specs.Book.{Book, isTrading, isTerminated, isSuspended, withNets, withTrades, postingOf, isPosted}
 use Rattle.rules.specs.Days.{dayNumber, paymentDay, followed}
 use Rattle.rules.specs.Trades.{Terms, Trade, inUse, onTable}
 use Rattle.rules.specs.Vault.{headroom}
@@ -38,9 +38,17 @@ badDue calendar today due = offTerm today due || noMaturity calendar due
 abbrev pub badPrices : (price fallback : Ticks) → Bool
 badPrices price fallback = ltb priceLimit (price .0) || ltb priceLimit (fallback .0)
 
+-- "An initial trade's byte 2 is 0, or the product number plus 1"; "in an initial trade a product not posted today", or above 15 (02, ask 4)
+abbrev pub badProduct : Book → (product : ℕ) → Bool
+badProduct book product = not (eqb product 0) && (ltb productLimit product || not (isPosted (postingOf book product)))
+
 -- today's net with an initial trade taken from it
 abbrev pub netLess : Book → Terms → ℤ
 netLess book terms = book .nets .today .0 -ℤ pos (principal (terms .sheets) .0)
+
+-- its product; "20, …, placed after 3" (02, ask 4)
+abbrev pub productCauses : Book → Terms → List Cause
+productCauses book terms = (badProduct book (terms .product) ⇒ 20) ∷ []
 
 -- when an initial trade may begin
 abbrev pub timeCauses : Book → List Cause
@@ -80,7 +88,8 @@ roomCauses book table terms = slotCauses book table terms ++ sheetCauses book ta
 
 unfoldable pub initialCauses : Calendar → Book → List Trade → Terms → List Cause
 initialCauses calendar book table terms =
-    timeCauses book
+    productCauses book terms
+    ++ timeCauses book
     ++ countCauses terms
     ++ termCauses calendar book terms
     ++ roomCauses book table terms
@@ -94,6 +103,7 @@ begun calendar book terms = record {
   fallback = terms .fallback;
   first = paymentDay calendar (book .standing .day);
   due = terms .due;
+  product = terms .product;
 }
 
 unfoldable pub initialBook : Book → Terms → Book

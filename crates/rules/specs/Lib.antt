@@ -19,9 +19,12 @@ pub mod Withdraw
 pub mod Initial
 pub mod Early
 pub mod Pay
+pub mod Post
+pub mod NextTerm
 pub mod Close
 pub mod Redeemed
 pub mod Step
+pub mod Order
 pub mod Cover
 pub mod Run
 pub mod Tally

@@ -18,6 +18,10 @@ netLimit = 4 * 10 ^ 18
 abbrev pub applicationLimit : ℕ
 applicationLimit = 128
 
+-- "product 0 to 15" (02, ask 4)
+abbrev pub productLimit : ℕ
+productLimit = 16
+
 -- "due not 1 to 365 days ahead"
 abbrev pub aheadLimit : ℕ
 aheadLimit = 365

@@ -9,7 +9,7 @@ use Rattle.money.specs.Units.{signedFen}
 use Rattle.money.specs.Causes.{Cause, _⇒_}
 use Rattle.money.specs.Days.{Calendar}
 use Rattle.rules.specs.Limits.{netLimit}
-use Rattle.rules.specs.Book.{Day, Trading, Status, Standing, Unpaid, Book, isClosed, isTerminated, withNets, withUnpaid, withStanding}
+use Rattle.rules.specs.Book.{Day, Trading, Status, Standing, Unpaid, Book, isClosed, isTerminated, withNets, withUnpaid, withStanding, withPostings, noPostings}
 use Rattle.rules.specs.Status.{statusAtOpen}
 use Rattle.rules.specs.Unpaid.{clearedPlus, passes}
 use Rattle.rules.specs.Days.{following, toDay, paymentDay, followed}
@@ -62,13 +62,18 @@ openedStanding calendar standing = record {
   short = standing .short;
 }
 
-unfoldable pub openedBook : Calendar → Book → List Trade → Book
-openedBook calendar book table =
+-- the book on the day opened, with what was posted before
+abbrev pub turnedBook : Calendar → Book → List Trade → Book
+turnedBook calendar book table =
     let turns = turnsTerminated (book .standing) in
     let cleared = cond turns (netWithFallbacks calendar book table) (book .nets .cleared .0) in
     let unpaid = cond turns (unpaidWithFallbacks calendar book table) (book .sums .unpaid) in
     withStanding (openedStanding calendar (book .standing))
     (withNets (record { today = book .nets .today; cleared = signedFen cleared }) (withUnpaid unpaid book))
+
+-- "Open forgets what was posted" (02, ask 4)
+unfoldable pub openedBook : Calendar → Book → List Trade → Book
+openedBook calendar book table = withPostings noPostings (turnedBook calendar book table)
 
 unfoldable pub openedTable : Book → List Trade → List Trade
 openedTable book table =

@@ -6,7 +6,7 @@ use mathlib.Core.List.{List}
 use Rattle.money.specs.Days.{Calendar}
 use Rattle.rules.specs.Book.{Book}
 use Rattle.rules.specs.Trades.{Trade}
-use Rattle.rules.specs.Entry.{Event, Open, FundIn, FundOut, Size, Rate, Pledge, Freeze, Withdraw, Initial, Early, Pay, Close}
+use Rattle.rules.specs.Entry.{Event, Open, FundIn, FundOut, Size, Rate, Pledge, Freeze, Withdraw, Initial, Early, Pay, Close, Post}
 use Rattle.rules.specs.Open.{turnsTerminated, fallbackSum}
 use Rattle.rules.specs.Early.{earlyAmount}
 use Rattle.rules.specs.Close.{maturedAmount}
@@ -25,3 +25,4 @@ amountRedeemed calendar book table (Initial terms) = 0
 amountRedeemed calendar book table (Early contract count price) = earlyAmount calendar book table contract count price
 amountRedeemed calendar book table Pay = 0
 amountRedeemed calendar book table Close = maturedAmount calendar book table
+amountRedeemed calendar book table (Post product posting) = 0

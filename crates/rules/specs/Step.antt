@@ -12,7 +12,7 @@ use Rattle.money.specs.Days.{Calendar}
 use Rattle.rules.specs.Book.{Book, Answer, answer}
 use Rattle.rules.specs.Trades.{Trade}
 use Rattle.rules.specs.Fit.{fit}
-use Rattle.rules.specs.Entry.{Event, Open, FundIn, FundOut, Size, Rate, Pledge, Freeze, Withdraw, Initial, Early, Pay, Close, Entry, Known, Undecodable, entryNumber}
+use Rattle.rules.specs.Entry.{Event, Open, FundIn, FundOut, Size, Rate, Pledge, Freeze, Withdraw, Initial, Early, Pay, Close, Post, Entry, Known, Undecodable, entryNumber}
 use Rattle.rules.specs.Open.{openCauses, openedBook, openedTable}
 use Rattle.rules.specs.Funds.{fundInCauses, fundedIn, fundOutCauses, fundedOut}
 use Rattle.rules.specs.Size.{sizeCauses, sized}
@@ -23,7 +23,8 @@ use Rattle.rules.specs.Withdraw.{withdrawCauses, withdrawn}
 use Rattle.rules.specs.Initial.{initialCauses, initialBook, initialTable}
 use Rattle.rules.specs.Early.{earlyCauses, earlyBook, earlyTable}
 use Rattle.rules.specs.Pay.{payCauses, fails, afterPay, payNumber}
-use Rattle.rules.specs.Close.{maturedTrades, closeCauses, closeAnswer, closedBook, closedTable}
+use Rattle.rules.specs.Post.{postCauses, posted}
+use Rattle.rules.specs.Close.{leftTrades, closeCauses, closeAnswer, closedBook, closedTable}
 
 -- what a call leaves: its answer, the book and the table
 pub record Outcome : Type 0 where
@@ -48,6 +49,7 @@ eventCauses calendar book table (Initial terms) = initialCauses calendar book ta
 eventCauses calendar book table (Early contract count price) = earlyCauses calendar book table contract count price
 eventCauses calendar book table Pay = payCauses book
 eventCauses calendar book table Close = closeCauses calendar book table
+eventCauses calendar book table (Post product posting) = postCauses book product posting
 
 -- what does not decode has its own number
 abbrev pub entryCauses : Calendar → Book → List Trade → Entry → List Cause
@@ -76,8 +78,9 @@ act calendar book table (Early contract count price) =
     outcome (answer 0) (earlyBook calendar book table contract count price) (earlyTable book table contract count)
 act calendar book table Pay = outcome (answer (payNumber (fails book))) (afterPay (fails book) book) table
 act calendar book table Close =
-    let left = maturedTrades book table in
+    let left = leftTrades calendar book table in
     outcome (closeAnswer calendar book left table) (closedBook calendar book left table) (closedTable book left table)
+act calendar book table (Post product posting) = outcome (answer 0) (posted book product posting) table
 
 abbrev pub actOn : Calendar → Book → List Trade → Entry → Outcome
 actOn calendar book table (Known event) = act calendar book table event

@@ -1,4 +1,5 @@
--- The tally of demand 3: told only the calendar, the events, their answers' numbers and, at an Open, the status. (01, Twelve events, "Demand 3")
+-- The tally of demand 3: told only the calendar, the events, their answers' numbers, at an Open the status and at a Close the terms started.
+-- (01, Twelve events, "Demand 3"; 02, ask 4)
 -- It has its own rules for days and rows, and knows no book.
 -- Assumes nothing.
 use Prim.Native.Nat.{ℕ, zero, suc, _+_, _-_}
@@ -16,7 +17,7 @@ use Rattle.rules.specs.declared.book.Status.the-variants.{Normal, Suspen
 use Rattle.rules.specs.declared.trade.Contract.{Contract}
 use Rattle.rules.specs.declared.trade.Trade.{Trade}
 use Rattle.rules.specs.declared.trade.Terms.{Terms}
-use Rattle.rules.specs.Entry.{Open, FundIn, FundOut, Size, Rate, Pledge, Freeze, Withdraw, Initial, Early, Pay, Close, Entry, Known, Undecodable}
+use Rattle.rules.specs.Entry.{Open, FundIn, FundOut, Size, Rate, Pledge, Freeze, Withdraw, Initial, Early, Pay, Close, Post, Entry, Known, Undecodable}
 
 -- "a row (a record's fields)"
 abbrev pub Row : Type 0
@@ -41,6 +42,7 @@ pub record Told : Type 0 where
   pub entry : Entry
   pub number : ℕ
   pub status : Option Status
+  pub started : List Row
 
 -- ---- days
 
@@ -68,7 +70,7 @@ withoutEmpty [] = []
 withoutEmpty (row ∷ rows) = unlessEmpty (row .sheets .0) row (withoutEmpty rows)
 
 abbrev pub less : (Row → ℕ) → Row → Row
-less taken row = record { contract = row .contract; sheets = sheets (row .sheets .0 - taken row); price = row .price; fallback = row .fallback; first = row .first; due = row .due }
+less taken row = record { contract = row .contract; sheets = sheets (row .sheets .0 - taken row); price = row .price; fallback = row .fallback; first = row .first; due = row .due; product = row .product }
 
 -- the rows after sheets are taken, and the redemption amount of those sheets
 abbrev pub takenFrom : (Row → ℕ) → List Row → List Row
@@ -128,6 +130,7 @@ rowOf terms first = record {
   fallback = terms .fallback;
   first = first;
   due = terms .due;
+  product = terms .product;
 }
 
 -- "Initial adds its sheets to begun and a row (a record's fields), and takes 10,000q from running."
@@ -156,18 +159,30 @@ redeemedEarly calendar contract count price t = record {
   paid = t .paid;
 }
 
+-- a started term's record stands in the place of its contract's row
+abbrev pub renewed : (started : List Row) → Row → Row
+renewed [] row = row
+renewed (term ∷ started) row = cond (isOf (row .contract) term) term (renewed started row)
+
+abbrev pub principalOf : Row → ℕ
+principalOf row = principal (row .sheets) .0
+
 -- "Close takes each row due by then whole at its price; then running joins cleared and becomes 0."
-abbrev pub closed : Calendar → Tally → Tally
-closed calendar t = record {
-  day = t .day;
-  rows = takenFrom (wholeIfDue (dayOr0 (t .day))) (t .rows);
-  funds = t .funds;
-  begun = t .begun;
-  redeemed = t .redeemed + sumRows (wholeIfDue (dayOr0 (t .day))) (t .rows);
-  running = pos 0;
-  cleared = t .cleared +ℤ (t .running +ℤ pos (amountOf (paidOn calendar (t .day)) (wholeIfDue (dayOr0 (t .day))) (λ row. row .price) (t .rows)));
-  paid = t .paid;
-}
+-- Before it joins, "A started term counts as an initial trade in every total" (02, ask 4).
+abbrev pub closed : Calendar → (started : List Row) → Tally → Tally
+closed calendar started t =
+    let due = wholeIfDue (dayOr0 (t .day)) in
+    let matured = pos (amountOf (paidOn calendar (t .day)) due (λ row. row .price) (t .rows)) in
+    record {
+      day = t .day;
+      rows = withoutEmpty (map (λ row. renewed started (less due row)) (t .rows));
+      funds = t .funds;
+      begun = t .begun + sumRows whole started;
+      redeemed = t .redeemed + sumRows due (t .rows);
+      running = pos 0;
+      cleared = t .cleared +ℤ ((t .running +ℤ matured) -ℤ pos (sumRows principalOf started));
+      paid = t .paid;
+    }
 
 -- "Pay sets paid to cleared."
 abbrev pub paidOff : Tally → Tally
@@ -179,20 +194,21 @@ saysTerminated (some Normal) = false
 saysTerminated (some Suspended) = false
 saysTerminated (some Terminated) = true
 
-unfoldable pub counted : Calendar → Entry → Option Status → Tally → Tally
-counted calendar (Known Open) status t = opened (saysTerminated status) calendar t
-counted calendar (Known (FundIn account amount)) status t = withFunds (t .funds +ℤ pos (amount .0)) t
-counted calendar (Known (FundOut account amount)) status t = withFunds (t .funds -ℤ pos (amount .0)) t
-counted calendar (Known (Size size)) status t = t
-counted calendar (Known (Rate kind rate)) status t = t
-counted calendar (Known (Pledge kind units)) status t = t
-counted calendar (Known (Freeze kind units)) status t = t
-counted calendar (Known (Withdraw kind units)) status t = t
-counted calendar (Known (Initial terms)) status t = began calendar terms t
-counted calendar (Known (Early contract count price)) status t = redeemedEarly calendar contract (count .0) price t
-counted calendar (Known Pay) status t = paidOff t
-counted calendar (Known Close) status t = closed calendar t
-counted calendar Undecodable status t = t
+unfoldable pub counted : Calendar → Entry → Option Status → (started : List Row) → Tally → Tally
+counted calendar (Known Open) status started t = opened (saysTerminated status) calendar t
+counted calendar (Known (FundIn account amount)) status started t = withFunds (t .funds +ℤ pos (amount .0)) t
+counted calendar (Known (FundOut account amount)) status started t = withFunds (t .funds -ℤ pos (amount .0)) t
+counted calendar (Known (Size size)) status started t = t
+counted calendar (Known (Rate kind rate)) status started t = t
+counted calendar (Known (Pledge kind units)) status started t = t
+counted calendar (Known (Freeze kind units)) status started t = t
+counted calendar (Known (Withdraw kind units)) status started t = t
+counted calendar (Known (Initial terms)) status started t = began calendar terms t
+counted calendar (Known (Early contract count price)) status started t = redeemedEarly calendar contract (count .0) price t
+counted calendar (Known Pay) status started t = paidOff t
+counted calendar (Known Close) status started t = closed calendar started t
+counted calendar (Known (Post product posting)) status started t = t
+counted calendar Undecodable status started t = t
 
 -- "Only answer 0 changes it."
 abbrev pub onZero : ℕ → Tally → Tally → Tally
@@ -200,7 +216,7 @@ onZero zero before after = after
 onZero (suc number) before after = before
 
 unfoldable pub tell : Calendar → Tally → Told → Tally
-tell calendar t told = onZero (told .number) t (counted calendar (told .entry) (told .status) t)
+tell calendar t told = onZero (told .number) t (counted calendar (told .entry) (told .status) (told .started) t)
 
 unfoldable pub tallyOf : Calendar → Tally → List Told → Tally
 tallyOf calendar t [] = t

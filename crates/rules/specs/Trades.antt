@@ -1,4 +1,4 @@
--- The trades on the table: their records in order of acceptance, and what redemption makes of them. (01, The book; Twelve events; arts. 29, 60, 72)
+-- The trades on the table: their records, and what redemption makes of them. (01, The book; Twelve events; arts. 29, 60, 72)
 -- Assumes nothing.
 use Prim.Native.Nat.{ℕ, zero, suc, _+_, _-_}
 use mathlib.Core.Bool.{Bool, true, false, cond}
@@ -18,11 +18,11 @@ same a b = eqb (a .0) (b .0)
 
 -- what a freed slot is filled with
 abbrev pub noTrade : Trade
-noTrade = record { contract = record { 0 = 0 }; sheets = sheets 0; price = ticks 0; fallback = ticks 0; first = 0; due = 0 }
+noTrade = record { contract = record { 0 = 0 }; sheets = sheets 0; price = ticks 0; fallback = ticks 0; first = 0; due = 0; product = 0 }
 
 -- a trade with another number of sheets left
 abbrev pub withSheets : ℕ → Trade → Trade
-withSheets count trade = record { contract = trade .contract; sheets = sheets count; price = trade .price; fallback = trade .fallback; first = trade .first; due = trade .due }
+withSheets count trade = record { contract = trade .contract; sheets = sheets count; price = trade .price; fallback = trade .fallback; first = trade .first; due = trade .due; product = trade .product }
 
 -- the slots in use, the first of the table
 abbrev pub inUse : ℕ → List Trade → List Trade

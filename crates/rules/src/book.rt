@@ -2,10 +2,12 @@
 ghost use mathlib.Core.Path.{_≡_};
 ghost use Rattle.rules.specs.Book.{freshBook};
 use crate::limits::APPLICATION_LIMIT;
+use crate::limits::PRODUCT_LIMIT;
 use money::limits::SECURITIES;
 use money::units::Fen;
 use money::units::Sheets;
 use money::units::SignedFen;
+use money::units::Ticks;
 
 // Today's net and the cleared net: redemptions plus, initial trades minus.
 #[repr(C)]
@@ -107,6 +109,14 @@ pub struct Withdrawals {
     pub count: usize,
 }
 
+// What is posted today for a product: the term in days, 0 where nothing is, and both prices.
+#[repr(C)]
+pub struct Posting {
+    pub term: u64,
+    pub price: Ticks,
+    pub fallback: Ticks,
+}
+
 // `size` is S, the declared size; `trades` is how many slots of the lent table are in use.
 pub struct Book {
     pub nets: Nets,
@@ -116,10 +126,11 @@ pub struct Book {
     pub size: Sheets,
     pub standing: Standing,
     pub withdrawals: Withdrawals,
+    pub postings: [Posting; PRODUCT_LIMIT],
     pub trades: usize,
 }
 
-// A fresh book: Closed and normal, all numbers 0, table and applications empty.
+// A fresh book: Closed and normal, all numbers 0, table and applications empty, nothing posted.
 pub fn fresh() -> Book
     ensures { λ r. ⌜ r ≡ freshBook ⌝ }
 {
@@ -164,6 +175,11 @@ pub fn fresh() -> Book
             units: [0; APPLICATION_LIMIT],
             count: 0,
         },
+        postings: [Posting {
+            term: 0,
+            price: Ticks(0),
+            fallback: Ticks(0),
+        }; PRODUCT_LIMIT],
         trades: 0,
     }
 }

@@ -1,4 +1,5 @@
-// The twelve events, and what a journal's entry is.
+// The thirteen events, and what a journal's entry is.
+use crate::book::Posting;
 use crate::trade::Contract;
 use crate::trade::Terms;
 use money::units::Fen;
@@ -10,7 +11,7 @@ pub enum Account {
     Client,
 }
 
-// Events on a kind carry its number as given, and its units or its rate.
+// Events on a kind carry its number as given, and its units or its rate; Post a product's number as given, and its posting.
 pub enum Event {
     Open,
     FundIn(Account, Fen),
@@ -24,12 +25,14 @@ pub enum Event {
     Early(Contract, Sheets, Ticks),
     Pay,
     Close,
+    Post(u8, Posting),
 }
 
 // The numbers in the 40 bytes; `spare` and `last` are the bytes that no event uses.
 pub struct Fields {
     pub code: u8,
     pub kind: u8,
+    pub product: u8,
     pub spare: u64,
     pub amount: u64,
     pub contract: u64,

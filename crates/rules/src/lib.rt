@@ -6,7 +6,7 @@ pub mod book;
 // A trade's record, and the terms that it begins with.
 pub mod trade;
 
-// The twelve events.
+// The thirteen events.
 pub mod event;
 
 // What a call answers.

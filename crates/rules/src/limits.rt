@@ -17,6 +17,9 @@ pub const UNPAID_LIMIT: u64 = NET_LIMIT as u64;
 // "up to 128 applications stand for the evening"
 pub const APPLICATION_LIMIT: usize = 128;
 
+// "product 0 to 15" (02, ask 4)
+pub const PRODUCT_LIMIT: usize = 16;
+
 // "due not 1 to 365 days ahead"
 pub const AHEAD_LIMIT: u32 = 365;
 

@@ -6,7 +6,8 @@ use money::units::Ticks;
 #[repr(C)]
 pub struct Contract(pub u64);
 
-// `first` is the payment day of the initial trade, as planned.
+// `first` is the payment day of the initial trade, as planned; `product` is 0, or the number plus 1 of the product at whose
+// posted terms the next term starts.
 #[repr(C)]
 pub struct Trade {
     pub contract: Contract,
@@ -15,6 +16,7 @@ pub struct Trade {
     pub fallback: Ticks,
     pub first: u32,
     pub due: u32,
+    pub product: u64,
 }
 
 pub struct Terms {
@@ -23,4 +25,5 @@ pub struct Terms {
     pub price: Ticks,
     pub fallback: Ticks,
     pub due: u32,
+    pub product: u8,
 }
