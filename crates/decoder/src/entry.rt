@@ -4,10 +4,11 @@ ghost use mathlib.Core.List.{[], _∷_};
 ghost use Prim.Native.Nat.{_+_, _≤_, _<_};
 ghost use lib.ListN.{length};
 ghost use Rattle.money.specs.Units.{sheets, ticks};
-ghost use Rattle.rules.specs.Entry.{eventBytes, numberAt, fieldsOf, restOf, termsOf, unless, onAccount, entryOf, IsEntryOf};
+ghost use Rattle.rules.specs.Entry.{eventBytes, numberAt, fieldsOf, restOf, termsOf, postingIn, unless, onAccount, entryOf, IsEntryOf};
 use money::units::Fen;
 use money::units::Sheets;
 use money::units::Ticks;
+use rules::book::Posting;
 use rules::event::Account;
 use rules::event::Entry;
 use rules::event::Event;
@@ -43,7 +44,7 @@ fn number8(bytes: &[u8], at: usize) -> u64
     (low as u64) + (high as u64) * 4_294_967_296
 }
 
-// The spare bytes are what the first 8 have beyond code and kind.
+// The spare bytes are what the first 8 have beyond code, kind and product.
 fn fields_of(bytes: &[u8]) -> Fields
     requires { ⌜ length (now bytes) ≡ eventBytes ⌝ }
     ensures { λ r. ⌜ r ≡ fieldsOf (now (bytes .entry)) ⌝ }
@@ -51,7 +52,8 @@ fn fields_of(bytes: &[u8]) -> Fields
     Fields {
         code: bytes[0],
         kind: bytes[1],
-        spare: number8(bytes, 0) / 65_536,
+        product: bytes[2],
+        spare: number8(bytes, 0) / 16_777_216,
         amount: number8(bytes, 8),
         contract: number8(bytes, 16),
         price: number4(bytes, 24),
@@ -65,6 +67,9 @@ fn fields_of(bytes: &[u8]) -> Fields
 fn kind_and_amount(fields: Fields, event: Event) -> Entry
     ensures { λ r. ⌜ r ≡ unless event (restOf fields) ⌝ }
 {
+    if fields.product != 0 {
+        return Entry::Undecodable;
+    }
     if fields.spare != 0 {
         return Entry::Undecodable;
     }
@@ -140,6 +145,7 @@ fn initial(fields: Fields) -> Entry
         price: Ticks(fields.price),
         fallback: Ticks(fields.fallback),
         due: fields.due,
+        product: fields.product,
     });
     Entry::Known(event)
 }
@@ -147,9 +153,12 @@ fn initial(fields: Fields) -> Entry
 fn early(fields: Fields) -> Entry
     ensures { λ r.
         ⌜ r ≡ unless (Event.Early (record { 0 = fields .contract }) (sheets (fields .amount)) (ticks (fields .price)))
-        (fields .kind ∷ fields .spare ∷ fields .fallback ∷ fields .due ∷ fields .last ∷ []) ⌝ }
+        (fields .kind ∷ fields .product ∷ fields .spare ∷ fields .fallback ∷ fields .due ∷ fields .last ∷ []) ⌝ }
 {
     if fields.kind != 0 {
+        return Entry::Undecodable;
+    }
+    if fields.product != 0 {
         return Entry::Undecodable;
     }
     if fields.spare != 0 {
@@ -170,6 +179,35 @@ fn early(fields: Fields) -> Entry
         Ticks(fields.price),
     );
     Entry::Known(event)
+}
+
+// The product's number stands where other events have a kind, and its term where they have an amount.
+fn post(fields: Fields) -> Entry
+    ensures { λ r.
+        ⌜ r ≡ unless (Event.Post (fields .kind) (postingIn fields))
+        (fields .product ∷ fields .spare ∷ fields .contract ∷ fields .due ∷ fields .last ∷ []) ⌝ }
+{
+    if fields.product != 0 {
+        return Entry::Undecodable;
+    }
+    if fields.spare != 0 {
+        return Entry::Undecodable;
+    }
+    if fields.contract != 0 {
+        return Entry::Undecodable;
+    }
+    if fields.due != 0 {
+        return Entry::Undecodable;
+    }
+    if fields.last != 0 {
+        return Entry::Undecodable;
+    }
+    let posting = Posting {
+        term: fields.amount,
+        price: Ticks(fields.price),
+        fallback: Ticks(fields.fallback),
+    };
+    Entry::Known(Event::Post(fields.kind, posting))
 }
 
 // Each code with its event, and with the test that the fields it does not use are 0.
@@ -200,6 +238,7 @@ fn entry_of(fields: Fields) -> Entry
         10 => early(fields),
         11 => code_only(fields, Event::Pay),
         12 => code_only(fields, Event::Close),
+        13 => post(fields),
         _ => Entry::Undecodable,
     }
 }

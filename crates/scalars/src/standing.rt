@@ -1,6 +1,6 @@
 // Where the firm stands: tests of its phase, status and failed run.
 ghost use mathlib.Core.Path.{_≡_};
-ghost use Rattle.rules.specs.Book.{isClosed, isTrading, isPaid, isSuspended, isTerminated, hasFailed};
+ghost use Rattle.rules.specs.Book.{isClosed, isTrading, isPaid, isNormal, isSuspended, isTerminated, hasFailed};
 use rules::book::FailedRun;
 use rules::book::Phase;
 use rules::book::Standing;
@@ -36,6 +36,17 @@ pub fn is_paid(standing: Standing) -> bool
         Phase::Closed => false,
         Phase::Trading => false,
         Phase::Paid => true,
+    }
+}
+
+pub fn is_normal(standing: Standing) -> bool
+    ensures { λ r. ⌜ r ≡ isNormal (standing .status) ⌝ }
+{
+    let status = standing.status;
+    match status {
+        Status::Normal => true,
+        Status::Suspended => false,
+        Status::Terminated => false,
     }
 }
 

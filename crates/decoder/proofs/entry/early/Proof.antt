@@ -20,5 +20,9 @@ returns-5 c = search unusedFields depth 6
 returns-6 : tie.Need-returns-6
 returns-6 c = search unusedFields depth 7
 
+returns-7 : tie.Need-returns-7
+returns-7 c = search unusedFields depth 8
+
 pub early-spec : {M : Type 1} → statement M
-early-spec = tie.close (tie.spec returns returns-2 returns-3 returns-4 returns-5 returns-6)
+early-spec =
+    tie.close (tie.spec returns returns-2 returns-3 returns-4 returns-5 returns-6 returns-7)

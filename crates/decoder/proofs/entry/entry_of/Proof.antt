@@ -43,6 +43,9 @@ code-only-requires-2 c κs = search needs
 code-only-requires-3 : tie.Need-code-only-requires-3
 code-only-requires-3 c κs = search needs
 
+post-requires : tie.Need-post-requires
+post-requires c κs = search needs
+
 returns : tie.Need-returns
 unfolding entryOf
 returns c = rw (c .before .match .keys1) (c .code-only .ensures)
@@ -93,7 +96,11 @@ returns-12 c = rw (c .before .match .keys12) (c .code-only3 .ensures)
 
 returns-13 : tie.Need-returns-13
 unfolding entryOf
-returns-13 c = search ne-eqb
+returns-13 c = rw (c .before .match .keys13) (c .post .ensures)
+
+returns-14 : tie.Need-returns-14
+unfolding entryOf
+returns-14 c = search ne-eqb
 
 pub entry-of-spec : {M : Type 1} → statement M
 entry-of-spec =
@@ -111,6 +118,7 @@ entry-of-spec =
     early-requires
     code-only-requires-2
     code-only-requires-3
+    post-requires
     returns
     returns-2
     returns-3
@@ -123,4 +131,5 @@ entry-of-spec =
     returns-10
     returns-11
     returns-12
-    returns-13)
+    returns-13
+    returns-14)

@@ -23,6 +23,9 @@ returns-6 c = search unusedFields depth 7
 returns-7 : tie.Need-returns-7
 returns-7 c = search unusedFields depth 8
 
+returns-8 : tie.Need-returns-8
+returns-8 c = search unusedFields depth 9
+
 pub kind-and-amount-spec : {M : Type 1} → statement M
 kind-and-amount-spec =
-    tie.close (tie.spec returns returns-2 returns-3 returns-4 returns-5 returns-6 returns-7)
+    tie.close (tie.spec returns returns-2 returns-3 returns-4 returns-5 returns-6 returns-7 returns-8)
