@@ -21,15 +21,15 @@ use Rattle.core.proofs.FlatLaws.{length-trades, trade-below, trade-at}
 use Rattle.core.proofs.StoreLaws.{same-words}
 use Rattle.core.proofs.StepLaws.{unfit-step}
 
--- ---- the place of a trade: four numbers in the row, 32 bytes in the table
+-- ---- the place of a trade: five numbers in the row, 40 bytes in the table
 
-pub words-fit : {k n m : ℕ} → k < n → n * width ≤ m → k * width + 3 < m
+pub words-fit : {k n m : ℕ} → k < n → n * width ≤ m → k * width + 4 < m
 words-fit l r = omega arith
 
-pub fours : (n : ℕ) → n * width % width ≡ 0
-fours n = omega arith
+pub whole-trades : (n : ℕ) → n * width % width ≡ 0
+whole-trades n = omega arith
 
-pub place-fits : {i n : ℕ} → i < n → n * 32 < 2 ^ 63 → i * 32 < 2 ^ 64
+pub place-fits : {i n : ℕ} → i < n → n * 40 < 2 ^ 63 → i * 40 < 2 ^ 64
 place-fits l r = omega arith
 
 -- ---- the first trades of a longer row of numbers
@@ -63,7 +63,7 @@ pub record CopiedTo (trades : List Trade) (m k : ℕ) (row : List ℕ) : Type 0 
 pub copied-none : (trades : List Trade) (row : List ℕ) → CopiedTo trades (length row) 0 row
 copied-none trades row = record { long = refl; same = λ i l. absurd (omega (arith, l)) }
 
-pub copied-next : (trades : List Trade) (m k : ℕ) (row next : List ℕ) → k * width + 3 < m → CopiedTo trades m k row → length next ≡ length row → tradesOf next ≡ set (tradesOf row) k (getD trades k noTrade) → CopiedTo trades m (suc k) next
+pub copied-next : (trades : List Trade) (m k : ℕ) (row next : List ℕ) → k * width + 4 < m → CopiedTo trades m k row → length next ≡ length row → tradesOf next ≡ set (tradesOf row) k (getD trades k noTrade) → CopiedTo trades m (suc k) next
 copied-next trades m k row next room c e h = record { long = e ∙ c .long; same = λ i l. ap (λ (ts : List Trade). getD ts i noTrade) h ∙ by i l (ℕ-discrete i k) }
   where
     inside : k < length (tradesOf row)

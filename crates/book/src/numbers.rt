@@ -21,7 +21,8 @@ pub fn apply_flat(calendar: &[u32], book: Book, table: &mut [u64], entry: Entry)
     let vault = book.vault;
     let withdrawals = book.withdrawals;
     let scalars = split::scalars_of(book);
-    let mut held = split::held_of(vault);
+    let postings = book.postings;
+    let mut held = split::held_of(vault, postings);
     let mut kinds = split::kinds_of(withdrawals);
     let mut units = split::units_of(withdrawals);
     let done = lent::apply(

@@ -1,14 +1,15 @@
--- Close: its causes by the code's tests, the matured figures as planned, the flat table after maturity, the evening that a fit book allows, and what it gives back.
+-- Close: its causes by the code's tests, its plan, the flat table once its slots are settled, the evening that a fit book allows, and what it gives
+-- back. For the event Close.
 -- Assumes nothing.
 use mathlib.Core.Path.{_≡_, refl, sym, ap, _∙_}
 use mathlib.Core.Bool.{Bool, true, false, not, _||_}
-use mathlib.Core.List.{List, map}
+use mathlib.Core.List.{List}
 use mathlib.Core.Option.{Option, none, some}
-use Prim.Native.Nat.{ℕ}
+use Prim.Native.Nat.{ℕ, _+_, _-_, _*_, _≤_}
 use native.Mathlib.Omega.{arith}
 use lib.Dec.{ltb}
 use lib.IntN.{natAbs}
-use lib.ListN.{length, length-map, take, drop}
+use lib.ListN.{length, take, drop}
 use lib.Seq.{take-at, drop-at}
 use Rattle.money.specs.declared.units.Sheets.{Sheets}
 use Rattle.money.specs.Units.{fen, sheets}
@@ -19,11 +20,14 @@ use Rattle.rules.specs.Limits.{netLimit}
 use Rattle.rules.specs.Book.{answer}
 use Rattle.rules.specs.Unpaid.{passes}
 use Rattle.rules.specs.Days.{paymentDay}
-use Rattle.rules.specs.Trades.{total, outstanding, maturing, maturityAmount, matured, remaining, packed, over}
+use Rattle.rules.specs.Trades.{inUse, total, outstanding, maturing, maturityAmount, remaining, packed, over}
+use Rattle.rules.specs.NextTerm.{leftFrom, startedFrom}
 use Rattle.rules.specs.Fit.{netFit, securitiesFit, cashFit, fit}
-use Rattle.rules.specs.Close.{Evening, mayClose, today, maturedTrades, maturedSheets, maturedAmount, netWithMatured, clearedAtClose, unpaidAtClose, closeCauses, allArrived, claimsOf, evening, claimsAtClose, closedTable, closedBook, closeAnswer}
-use Rattle.rules.proofs.FitParts.{securities-fit, cash-fits}
-use Rattle.rules.proofs.TableFit.{matured-lessens, fewer-fit}
+use Rattle.rules.specs.Close.{Evening, mayClose, today, maturedTrades, maturedSheets, maturedAmount, outstandingMatured, leftTrades, startedTerms, startedPrincipal, netAtClose, clearedAtClose, unpaidAtClose, closeCauses, allArrived, claimsOf, evening, claimsAtClose, closedTable, closedBook, closeAnswer}
+use Rattle.rules.proofs.FitParts.{Fit, fit-parts, securities-fit, cash-fits}
+use Rattle.rules.proofs.TradeLaws.{outstanding-matured}
+use Rattle.rules.proofs.NextTermLaws.{outstanding-left}
+use Rattle.rules.proofs.NextTermTurns.{principal-by-sheets, started-at-most}
 use Rattle.rules.proofs.EveningFit.{all-arrived-fit}
 use Rattle.core.specs.Types.{Unpaid, Security, Book, Trade}
 use Rattle.scalars.specs.declared.state.Scalars.{Scalars}
@@ -34,7 +38,8 @@ use Rattle.core.specs.Flat.{Rows, rowsOf, tradesTo, tradesOf, bookOf, ev
 use Rattle.core.proofs.Column.{first-holds, second-holds, neither-holds}
 use Rattle.core.proofs.NetLaws.{over-net, within-net}
 use Rattle.core.proofs.FitFacts.{fit-in-use}
-use Rattle.core.proofs.FlatLaws.{length-trades, take-trades}
+use Rattle.core.proofs.FlatLaws.{take-trades}
+use Rattle.core.proofs.StartLaws.{left-long}
 use Rattle.core.proofs.EveningLaws.{Kept as KeptEvening}
 
 -- ---- the causes, by the code's tests in their order
@@ -46,7 +51,7 @@ module _ (calendar : Calendar) (book : Book) (table : List Trade) where
 
   -- the three tests of 14
   abbrev today-over : Bool
-  today-over = ltb netLimit (natAbs (netWithMatured calendar book table))
+  today-over = ltb netLimit (natAbs (netAtClose calendar book table))
 
   abbrev cleared-over : Bool
   cleared-over = ltb netLimit (natAbs (clearedAtClose calendar book table))
@@ -55,9 +60,9 @@ module _ (calendar : Calendar) (book : Book) (table : List Trade) where
   unpaid-over = passes (maturedAmount calendar book table) (book .sums .unpaid)
 
   module _ (may : not (mayClose (book .standing)) ≡ false) where
-    pub today-outside : netFit (netWithMatured calendar book table) ≡ false → firstOf (closeCauses calendar book table) ≡ some 14
+    pub today-outside : netFit (netAtClose calendar book table) ≡ false → firstOf (closeCauses calendar book table) ≡ some 14
     unfolding closeCauses
-    today-outside e = skip _ _ may (hit _ _ (first-holds unpaid-over (first-holds cleared-over (over-net (netWithMatured calendar book table) e))))
+    today-outside e = skip _ _ may (hit _ _ (first-holds unpaid-over (first-holds cleared-over (over-net (netAtClose calendar book table) e))))
 
     pub cleared-outside : netFit (clearedAtClose calendar book table) ≡ false → firstOf (closeCauses calendar book table) ≡ some 14
     unfolding closeCauses
@@ -67,59 +72,98 @@ module _ (calendar : Calendar) (book : Book) (table : List Trade) where
     unfolding closeCauses
     unpaid-past e = skip _ _ may (hit _ _ (second-holds (today-over || cleared-over) e))
 
-    pub may-be-closed : netFit (netWithMatured calendar book table) ≡ true → netFit (clearedAtClose calendar book table) ≡ true
+    pub may-be-closed : netFit (netAtClose calendar book table) ≡ true → netFit (clearedAtClose calendar book table) ≡ true
         → unpaid-over ≡ false → firstOf (closeCauses calendar book table) ≡ none
     unfolding closeCauses
     may-be-closed today cleared unpaid =
         skip _ _ may
-        (skip _ _ (neither-holds (neither-holds (within-net (netWithMatured calendar book table) today) (within-net (clearedAtClose calendar book table) cleared)) unpaid) clear)
+        (skip _ _ (neither-holds (neither-holds (within-net (netAtClose calendar book table) today) (within-net (clearedAtClose calendar book table) cleared)) unpaid) clear)
 
--- ---- (a) what is planned over the flat table is what matures
+-- ---- (a) and the next terms: what is planned over the flat table
 
-module _ (calendar : Calendar) (book : Book) (table : List ℕ) (fits : fit calendar book (tradesOf table) ≡ true) (day payment : ℕ) (d : day ≡ today book) (p : payment ≡ paymentDay calendar (book .standing .day))
-    (plan : Redeemed) (planned : plan ≡ maturityOf day payment (tradesTo table (book .trades))) where
-  pub sheets-planned : plan .sheets ≡ sheets (maturedSheets book (tradesOf table))
-  unfolding maturedSheets
-  sheets-planned = rw (planned, d) (ap (λ (trades : List Trade). sheets (total (maturing (today book)) trades)) (sym (fit-in-use calendar book table fits)))
+module _ (calendar : Calendar) (book : Book) (table : List ℕ) (fits : fit calendar book (tradesOf table) ≡ true) where
+  abbrev trades : List Trade
+  trades = tradesTo table (book .trades)
 
-  pub amount-planned : plan .amount ≡ fen (maturedAmount calendar book (tradesOf table))
-  unfolding maturedAmount
-  amount-planned = rw (planned, d, p) (ap (λ (trades : List Trade). fen (total (maturityAmount (today book) (paymentDay calendar (book .standing .day))) trades)) (sym (fit-in-use calendar book table fits)))
+  in-use : inUse (book .trades) (tradesOf table) ≡ trades
+  in-use = fit-in-use calendar book table fits
 
--- ---- (a) and (e): the flat table after its due trades are redeemed
+  module _ (day payment : ℕ) (d : day ≡ today book) (p : payment ≡ paymentDay calendar (book .standing .day)) (plan : Redeemed) (planned : plan ≡ maturityOf day payment trades) where
+    pub sheets-planned : plan .sheets ≡ sheets (maturedSheets book (tradesOf table))
+    unfolding maturedSheets
+    sheets-planned = rw (planned, d) (ap (λ (l : List Trade). sheets (total (maturing (today book)) l)) (sym in-use))
 
-module _ (table after : List ℕ) (count day : ℕ) (kept : Kept table count) (same : length after ≡ length table) (redeemed : tradesOf after ≡ over count (map (matured day) (tradesTo table count)) (tradesOf table)) where
-  long : length (map (matured day) (tradesTo table count)) ≡ count
-  long = length-map (tradesTo table count) (matured day) ∙ length-trades table count
+    pub amount-planned : plan .amount ≡ fen (maturedAmount calendar book (tradesOf table))
+    unfolding maturedAmount
+    amount-planned = rw (planned, d, p) (ap (λ (l : List Trade). fen (total (maturityAmount (today book) (paymentDay calendar (book .standing .day))) l)) (sym in-use))
 
-  pub redeemed-in-use : tradesTo after count ≡ map (matured day) (tradesTo table count)
-  redeemed-in-use =
+  -- O before, less what matured
+  pub matured-left : outstandingMatured book (tradesOf table) + maturedSheets book (tradesOf table) ≡ outstanding (inUse (book .trades) (tradesOf table))
+  unfolding maturedTrades maturedSheets
+  matured-left = outstanding-matured (today book) (inUse (book .trades) (tradesOf table))
+
+  -- what matures and what starts is within S
+  abbrev parts : Fit calendar book (tradesOf table)
+  parts = fit-parts calendar book (tradesOf table) fits
+
+  pub matured-bound : outstandingMatured book (tradesOf table) ≤ 10000000000
+  matured-bound = omega (arith, matured-left, parts .size .covers, parts .size .within)
+
+  pub started-bound : (o : ℕ) → outstanding (startedFrom calendar book o trades) ≤ 10000000000
+  started-bound o =
+      omega (arith, started-at-most calendar book o trades, outstanding-matured (today book) trades, ap outstanding in-use, parts .size .covers, parts .size .within)
+
+  -- O as (b) begins counts what started
+  module _ (o left : ℕ) (e : o ≡ outstandingMatured book (tradesOf table)) (l : left ≡ o + outstanding (startedFrom calendar book o trades)) where
+    started-in-use : startedFrom calendar book o trades ≡ startedTerms calendar book (tradesOf table)
+    unfolding startedTerms
+    started-in-use = rw (e, in-use)
+
+    outstanding-of-left : outstanding (leftTrades calendar book (tradesOf table)) ≡ outstandingMatured book (tradesOf table) + outstanding (startedTerms calendar book (tradesOf table))
+    unfolding leftTrades startedTerms maturedTrades
+    outstanding-of-left = outstanding-left calendar book (outstandingMatured book (tradesOf table)) (inUse (book .trades) (tradesOf table))
+
+    pub left-planned : left ≡ outstanding (leftTrades calendar book (tradesOf table))
+    left-planned =
+        l
+        ∙ ap (λ (terms : List Trade). o + outstanding terms) started-in-use
+        ∙ ap (λ (n : ℕ). n + outstanding (startedTerms calendar book (tradesOf table))) e
+        ∙ sym outstanding-of-left
+
+    pub principal-planned : 10000 * (left - o) ≡ startedPrincipal calendar book (tradesOf table)
+    unfolding startedPrincipal
+    principal-planned =
+        rw (principal-by-sheets (startedTerms calendar book (tradesOf table)))
+        (omega (arith, l ∙ ap (λ (terms : List Trade). o + outstanding terms) started-in-use))
+
+-- ---- (a) to (e): the flat table once its slots are settled
+
+module _ (table after : List ℕ) (count : ℕ) (changed : List Trade) (kept : Kept table count) (same : length after ≡ length table) (long : length changed ≡ count)
+    (settled : tradesOf after ≡ over count changed (tradesOf table)) where
+  pub settled-in-use : tradesTo after count ≡ changed
+  settled-in-use =
       sym (take-trades after count (omega (arith, kept .room)))
-      ∙ (ap (take count) redeemed ∙ take-at (map (matured day) (tradesTo table count)) (drop count (tradesOf table)) count long)
-
-  -- redeemed trades stay within their limits
-  pub redeemed-kept : Kept after count
-  redeemed-kept = record {
-    room = omega (arith, kept .room);
-    few = kept .few;
-    within = rw redeemed-in-use (fewer-fit {last = 0} (matured-lessens day (tradesTo table count)) (kept .within));
-  }
+      ∙ (ap (take count) settled ∙ take-at changed (drop count (tradesOf table)) count long)
 
   -- spare slots keep their content
   pub spare-slots-kept : drop count (tradesOf after) ≡ drop count (tradesOf table)
-  spare-slots-kept = ap (drop count) redeemed ∙ drop-at (map (matured day) (tradesTo table count)) (drop count (tradesOf table)) count long
+  spare-slots-kept = ap (drop count) settled ∙ drop-at changed (drop count (tradesOf table)) count long
 
-module _ (book : Book) (table after : List ℕ) (day : ℕ) (d : day ≡ today book) (kept : Kept table (book .trades)) (same : length after ≡ length table) (redeemed : tradesOf after ≡ over (book .trades) (map (matured day) (tradesTo table (book .trades))) (tradesOf table)) where
-  pub trades-after-maturity : tradesTo after (book .trades) ≡ maturedTrades book (tradesOf table)
-  unfolding maturedTrades
-  trades-after-maturity =
-      redeemed-in-use table after (book .trades) day kept same redeemed
-      ∙ (ap (λ n. map (matured n) (tradesTo table (book .trades))) d
-      ∙ ap (map (matured (today book))) (sym (take-trades table (book .trades) (omega (arith, kept .room)))))
+module _ (calendar : Calendar) (book : Book) (table after : List ℕ) (o : ℕ) (e : o ≡ outstandingMatured book (tradesOf table)) (kept : Kept table (book .trades))
+    (same : length after ≡ length table) (settled : tradesOf after ≡ over (book .trades) (leftFrom calendar book o (tradesTo table (book .trades))) (tradesOf table)) where
+  pub trades-left : tradesTo after (book .trades) ≡ leftTrades calendar book (tradesOf table)
+  unfolding leftTrades
+  trades-left =
+      let slots = leftFrom calendar book o (tradesTo table (book .trades)) in
+      let in-order : slots ≡ leftFrom calendar book (outstandingMatured book (tradesOf table)) (inUse (book .trades) (tradesOf table)) =
+      rw (e, take-trades table (book .trades) (omega (arith, kept .room)))
+      in
+      settled-in-use table after (book .trades) slots kept same (left-long calendar book o table (book .trades)) settled ∙ in-order
 
-  pub packed-after-maturity : packed (book .trades) (remaining (tradesTo after (book .trades))) (tradesOf after) ≡ closedTable book (maturedTrades book (tradesOf table)) (tradesOf table)
+  pub packed-left : packed (book .trades) (remaining (tradesTo after (book .trades))) (tradesOf after) ≡ closedTable book (leftTrades calendar book (tradesOf table)) (tradesOf table)
   unfolding closedTable
-  packed-after-maturity = rw (trades-after-maturity, spare-slots-kept table after (book .trades) day kept same redeemed)
+  packed-left =
+      rw (trades-left, spare-slots-kept table after (book .trades) (leftFrom calendar book o (tradesTo table (book .trades))) kept same (left-long calendar book o table (book .trades)) settled)
 
 -- ---- (c) and (d): the evening of a book whose vault and cash are fit
 

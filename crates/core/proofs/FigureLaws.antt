@@ -26,6 +26,7 @@ use Rattle.rules.specs.Initial.{initialCauses, begun, initialBook, initialTable
 use Rattle.rules.specs.Early.{earlyCauses, earlyBook, earlyTable}
 use Rattle.rules.specs.Pay.{fails, afterPay}
 use Rattle.rules.specs.Close.{closeAnswer}
+use Rattle.rules.specs.Post.{posted}
 use Rattle.rules.specs.Step.{eventCauses, entryCauses, causes, act, actOn, refuseOr, step, accepted}
 use Rattle.rules.specs.Cover.{coverCounted}
 use Rattle.rules.proofs.TradeLaws.{outstanding-append, outstanding-one, outstanding-takeOff, length-takeOff, take-over, take-begun}
@@ -33,7 +34,7 @@ use Rattle.rules.proofs.Accepted.{all-clear}
 use Rattle.rules.proofs.Answers.{turned-down}
 use Rattle.rules.proofs.FitParts.{fit-parts}
 use Rattle.rules.proofs.StaysFit.{others-clear}
-use Rattle.core.specs.Types.{Book, Contract, Trade, Terms, Event, Open, FundIn, FundOut, Size, Rate, Pledge, Freeze, Withdraw, Initial, Early, Pay, Close, Entry, Known, Undecodable, Applied}
+use Rattle.core.specs.Types.{Book, Contract, Trade, Terms, Event, Open, FundIn, FundOut, Size, Rate, Pledge, Freeze, Withdraw, Initial, Early, Pay, Close, Post, Entry, Known, Undecodable, Applied}
 use Rattle.core.specs.Flat.{appliedOf}
 use Rattle.core.specs.Figures.{Figures, figuresOf, MovedBy}
 
@@ -70,7 +71,7 @@ module _ (calendar : Calendar) (book : Book) (table : List Trade) (fits : fit ca
   -- an event that is done; only a payment that fails has another number than 0
   done-moves : (event : Event) → firstOf (eventCauses calendar book table event) ≡ none
       → MovedBy (Known event) (act calendar book table event .answer .number) (figuresOf book table) (figuresOf (act calendar book table event .book) (act calendar book table event .table))
-  unfolding eventCauses act openedBook fundedIn fundedOut sized rated pledged frozen withdrawn initialBook earlyBook afterPay closeAnswer
+  unfolding eventCauses act openedBook fundedIn fundedOut sized rated pledged frozen withdrawn initialBook earlyBook afterPay closeAnswer posted
   done-moves Open e = (never, λ _. refl)
   done-moves (FundIn account amount) e = (never, λ _. refl)
   done-moves (FundOut account amount) e = (never, λ _. refl)
@@ -87,6 +88,7 @@ module _ (calendar : Calendar) (book : Book) (table : List Trade) (fits : fit ca
       paid true = refl
       paid false = refl
   done-moves Close e = (never, λ _. tt)
+  done-moves (Post product posting) e = (never, λ _. refl)
 
   -- one that is turned down
   refused-moves : (entry : Entry) (n : ℕ) → accepted n ≡ false → MovedBy entry n (figuresOf book table) (figuresOf book table)

@@ -9,7 +9,7 @@ use lib.ListN.{take}
 use Rattle.money.specs.Days.{Calendar}
 use Rattle.rules.specs.Folds.{every}
 use Rattle.rules.specs.Trades.{outstanding, differ}
-use Rattle.rules.specs.Fit.{capacityFit, securitiesFit, cashFit, tradeFit, allTrades, sizeFit, netsFit, sumsFit, withdrawalsFit, dayFit, fit}
+use Rattle.rules.specs.Fit.{capacityFit, securitiesFit, cashFit, tradeFit, allTrades, sizeFit, postingsFit, netsFit, sumsFit, withdrawalsFit, dayFit, fit}
 use Rattle.rules.proofs.FitParts.{capacity-fits}
 use Rattle.core.specs.Types.{Book, Trade}
 use Rattle.core.specs.Flat.{tradesTo, tradesOf}
@@ -40,6 +40,7 @@ laterTests calendar book inUse =
     ∷ cashFit (book .cash) (book .vault .guarantee)
     ∷ allTrades tradeFit inUse
     ∷ sizeFit (book .size .0) (outstanding inUse)
+    ∷ postingsFit (book .postings)
     ∷ netsFit (book .nets)
     ∷ sumsFit (book .sums)
     ∷ differ inUse

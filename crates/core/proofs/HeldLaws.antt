@@ -1,4 +1,4 @@
--- The row of securities, four numbers each: which security stands where, what storing one changes, and whether all are fit.
+-- The securities in their row, four numbers each: which security stands where, what storing one changes, and whether all are fit.
 -- For the functions over the row, and those above them. Assumes nothing.
 use mathlib.Core.Path.{_≡_, refl, sym, ap, _∙_}
 use mathlib.Core.Bool.{true, false}
@@ -16,33 +16,19 @@ use Rattle.rules.specs.Vault.{securityAt}
 use Rattle.rules.specs.Fit.{securityFit, securitiesFit}
 use Rattle.rules.proofs.FoldLaws.{all-of}
 use Rattle.core.specs.Types.{Security, Guarantee}
-use Rattle.core.specs.Flat.{securityIn, securitiesTo, securitiesOf, vaultOf}
+use Rattle.core.specs.Flat.{securityIn, upTo, securitiesOf, vaultOf, postingsFrom, postingsOf}
 use Rattle.core.proofs.SumLaws.{one-fails}
+use Rattle.core.proofs.UpToLaws.{length-up-to, up-to-below, same-up-to}
+use Rattle.core.proofs.PostingLaws.{postings-kept}
 use Rattle.core.proofs.StoreLaws.{getD-sets-inside, getD-sets-outside}
 
 -- ---- which security stands where
 
-no-securities : (held : List ℕ) → securitiesTo held 0 ≡ []
-unfolding securitiesTo
-no-securities held = refl
+pub length-securities : (held : List ℕ) (n : ℕ) → length (upTo (securityIn held) n) ≡ n
+length-securities held n = length-up-to (securityIn held) n
 
-next-security : (held : List ℕ) (n : ℕ) → securitiesTo held (suc n) ≡ securitiesTo held n ++ (securityIn held n ∷ [])
-unfolding securitiesTo
-next-security held n = refl
-
-pub length-securities : (held : List ℕ) (n : ℕ) → length (securitiesTo held n) ≡ n
-length-securities held zero = ap length (no-securities held)
-length-securities held (suc n) = rw (next-security held n, length-append (securitiesTo held n) (securityIn held n ∷ [])) (omega (arith, length-securities held n))
-
-pub security-below : (held : List ℕ) (n i : ℕ) → i < n → getD (securitiesTo held n) i noSecurity ≡ securityIn held i
-security-below held zero i h = absurd (omega arith)
-security-below held (suc n) i h = rw (next-security held n) (by (decLt i n) (security-below held n i))
-  where
-    by : Dec (i < n) → (i < n → getD (securitiesTo held n) i noSecurity ≡ securityIn held i) → getD (securitiesTo held n ++ (securityIn held n ∷ [])) i noSecurity ≡ securityIn held i
-    by (yes l) rec = List·getD-append (securitiesTo held n) (securityIn held n ∷ []) noSecurity i (omega (arith, length-securities held n)) ∙ rec l
-    by (no g) rec =
-        let e : i ≡ n = omega arith in
-        rw e (getD-at (securitiesTo held n) (securityIn held n) [] noSecurity n (length-securities held n))
+pub security-below : (held : List ℕ) (n i : ℕ) → i < n → getD (upTo (securityIn held) n) i noSecurity ≡ securityIn held i
+security-below held n i h = up-to-below (securityIn held) noSecurity n i h
 
 -- as the definitions of the vault read it
 pub security-at-row : (held : List ℕ) (guarantee : Guarantee) (kind : ℕ) → kind < 32 → securityAt (vaultOf guarantee (securitiesOf held)) kind ≡ securityIn held kind
@@ -80,7 +66,7 @@ apart kind i k q l = by (decLt i kind)
     by (yes b) = inl (omega arith)
     by (no b) = inr (omega arith)
 
-numbers-put : (held : List ℕ) (kind : ℕ) (security : Security) → kind < 32 → length held ≡ 128 → securitiesOf (sets held (kind * 4) (numbers security)) ≡ set (securitiesOf held) kind security
+numbers-put : (held : List ℕ) (kind : ℕ) (security : Security) → kind < 32 → length held ≡ 160 → securitiesOf (sets held (kind * 4) (numbers security)) ≡ set (securitiesOf held) kind security
 numbers-put held kind security h e =
     same-securities (sets held (kind * 4) (numbers security)) (set (securitiesOf held) kind security) (length-set (securitiesOf held) kind security ∙ length-securities held 32) (λ i l. by i l (ℕ-discrete i kind))
   where
@@ -91,12 +77,29 @@ numbers-put held kind security h e =
         ∙ sym (getD-set-other (securitiesOf held) kind i security noSecurity q ∙ security-below held 32 i l)
 
 -- the four stores as the code makes them
-pub security-put : (held : List ℕ) (kind : ℕ) (security : Security) → kind < 32 → length held ≡ 128
-    → securitiesOf (set (set (set (set held (kind * 4) (security .effective)) (kind * 4 + 1) (security .arriving)) (kind * 4 + 2) (security .frozen)) (kind * 4 + 3) (security .rate)) ≡ set (securitiesOf held) kind security
-security-put held kind security h e =
+abbrev stores : List ℕ → (kind : ℕ) → Security → List ℕ
+stores held kind security =
+    set
+    (set (set (set held (kind * 4) (security .effective)) (kind * 4 + 1) (security .arriving)) (kind * 4 + 2) (security .frozen))
+    (kind * 4 + 3)
+    (security .rate)
+
+in-a-row : (held : List ℕ) (kind : ℕ) (security : Security) → stores held kind security ≡ sets held (kind * 4) (numbers security)
+in-a-row held kind security =
     let by-2 : kind * 4 + 2 ≡ suc (suc (kind * 4)) = omega arith in
     let by-3 : kind * 4 + 3 ≡ suc (suc (suc (kind * 4))) = omega arith in
-    rw (add-one (kind * 4), by-2, by-3) (numbers-put held kind security h e)
+    rw (add-one (kind * 4), by-2, by-3)
+
+pub security-put : (held : List ℕ) (kind : ℕ) (security : Security) → kind < 32 → length held ≡ 160
+    → (securitiesOf (stores held kind security) ≡ set (securitiesOf held) kind security) × (postingsOf (stores held kind security) ≡ postingsOf held)
+security-put held kind security h e = rw (in-a-row held kind security) (
+  numbers-put held kind security h e,
+  postings-kept _ held (λ k l. getD-sets-outside (numbers security) held (kind * 4) k (inr (omega arith))),
+)
+
+-- what is stored behind them leaves them
+pub securities-kept : (s t : List ℕ) → ((k : ℕ) → k < postingsFrom → getD s k 0 ≡ getD t k 0) → securitiesOf s ≡ securitiesOf t
+securities-kept s t h = same-up-to (securityIn s) (securityIn t) 32 (λ i l. same-numbers s t i i (λ k m. h (i * 4 + k) (omega arith)))
 
 -- ---- whether all are fit
 

@@ -24,7 +24,7 @@ use Rattle.core.proofs.RunLaws.{unfit-run}
 
 -- whole rows are as long as they must be
 pub record Lengths (l : Lent) : Type 0 where
-  pub held : length (l .held) ≡ 128
+  pub held : length (l .held) ≡ 160
   pub kinds : length (l .kinds) ≡ 128
   pub units : length (l .units) ≡ 128
   pub table : length (l .table) % width ≡ 0

@@ -6,9 +6,12 @@ pub mod StoreLaws
 pub mod PlaceLaws
 pub mod ChainLaws
 pub mod RedemptionLaws
+pub mod StartLaws
 pub mod PackingLaws
 -- laws for the code: the core's book, the vault and the evening
+pub mod UpToLaws
 pub mod HeldLaws
+pub mod PostingLaws
 pub mod HeldFit
 pub mod RowLaws
 pub mod SplitLaws

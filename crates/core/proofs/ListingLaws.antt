@@ -20,7 +20,7 @@ use Rattle.rules.specs.Fit.{fit}
 use Rattle.rules.specs.Listing.{journalCapacity, journalTable, listingOf, lengthCauses, listingCauses, writtenBy, runDone}
 use Rattle.rules.proofs.Answers.{none-at-0}
 use Rattle.rules.proofs.StaysFit.{others-clear, fresh-is-fit}
-use Rattle.core.specs.Flat.{width, heldLength, tradeAt, tradesTo, capacity, tradesOf, securityIn, securitiesTo, rowsOf, bookOf, scalarsOf}
+use Rattle.core.specs.Flat.{width, heldLength, tradeAt, tradesTo, capacity, tradesOf, securityIn, postingIn, upTo, rowsOf, bookOf, scalarsOf}
 
 -- ---- a listing that is not refused
 
@@ -42,11 +42,11 @@ module _ (words bytes room : ℕ) where
 abbrev pub zeros : ℕ → List ℕ
 zeros numbers = replicate numbers 0
 
-zero-trade : (numbers place : ℕ) → place * width + 3 < numbers → tradeAt (zeros numbers) place ≡ noTrade
+zero-trade : (numbers place : ℕ) → place * width + 4 < numbers → tradeAt (zeros numbers) place ≡ noTrade
 unfolding tradeAt
 zero-trade numbers place h =
     let read : (i : ℕ) → i < numbers → getD (zeros numbers) i 0 ≡ zero = λ i l. getD-replicate numbers i zero zero l in
-    rw (read (place * width) (omega arith), read (place * width + 1) (omega arith), read (place * width + 2) (omega arith), read (place * width + 3) (omega arith))
+    rw (read (place * width) (omega arith), read (place * width + 1) (omega arith), read (place * width + 2) (omega arith), read (place * width + 3) (omega arith), read (place * width + 4) (omega arith))
 
 zero-trades : (numbers count : ℕ) → count * width ≤ numbers → tradesTo (zeros numbers) count ≡ replicate count noTrade
 unfolding tradesTo
@@ -67,7 +67,7 @@ journal-starts-empty = empty-table (journalCapacity * width) journalCapacity ref
 -- ---- a fresh book in rows of zeros
 
 pub fresh-in-rows : bookOf (scalarsOf freshBook) (rowsOf (zeros heldLength) (zeros applicationLimit) (zeros applicationLimit)) ≡ freshBook
-unfolding freshBook securitiesTo securityIn
+unfolding freshBook upTo securityIn postingIn
 fresh-in-rows = refl
 
 pub fresh-fits : (calendar : Calendar) → fit calendar freshBook journalTable ≡ true

@@ -14,6 +14,7 @@ use Rattle.money.specs.Limits.{tradeLimit, priceLimit}
 use Rattle.money.specs.declared.units.Ticks.{Ticks}
 use Rattle.money.specs.Units.{sheets}
 use Rattle.money.proofs.Bounds.{redemption-bound}
+use Rattle.rules.specs.Limits.{productLimit}
 use Rattle.rules.specs.Trades.{noTrade, total, redeemed, fallbackAmount, emptied, maturing, maturityAmount, matured, over}
 use Rattle.rules.specs.Fit.{tradeFit}
 use Rattle.rules.proofs.FoldLaws.{every-holds}
@@ -29,6 +30,7 @@ pub record Within (trade : Trade) : Type 0 where
   pub sheets : trade .sheets .0 ≤ tradeLimit
   pub price : trade .price .0 ≤ priceLimit
   pub fallback : trade .fallback .0 ≤ priceLimit
+  pub product : trade .product ≤ productLimit
 
 pub within-of : (trade : Trade) → tradeFit trade ≡ true → Within trade
 within-of trade h =
@@ -37,6 +39,7 @@ within-of trade h =
       sheets = leb-true (trade .sheets .0) tradeLimit (tests .0);
       price = leb-true (trade .price .0) priceLimit (tests .1 .0);
       fallback = leb-true (trade .fallback .0) priceLimit (tests .1 .1 .0);
+      product = leb-true (trade .product) productLimit (tests .1 .1 .1 .0);
     }
 
 pub kept-within : (table : List ℕ) (count : ℕ) → Kept table count → (i : ℕ) → i < count → Within (tradeAt table i)

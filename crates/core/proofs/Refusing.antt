@@ -17,7 +17,7 @@ use Rattle.core.specs.Flat.{Rows, bookOf, appliedBy, appliedAt}
 
 -- the rows of no book: where a fact is the scalars' alone
 abbrev pub noRows : Rows
-noRows = record { securities = []; kinds = []; units = [] }
+noRows = record { securities = []; postings = []; kinds = []; units = [] }
 
 -- a number that is not 0 is a cause's
 pub refused : (o : Option ℕ) (n : ℕ) → n ≡ numberOf o → (n ≡ 0 → ⊥) → o ≡ some n
@@ -25,7 +25,7 @@ refused none n e z = absurd (z e)
 refused (some k) n e z = ap some (sym e)
 
 pub done : (calendar : Calendar) (book : Book) (table : List Trade) (event : Event) (n : ℕ) → n ≡ numberOf (firstOf (eventCauses calendar book table event)) → n ≡ 0 → firstOf (eventCauses calendar book table event) ≡ none
-done calendar book table event n = none-at-0 (λ k. not (unused k)) (eventCauses calendar book table event) n refl (event-numbers calendar book table event .1)
+done calendar book table event n = none-at-0 (λ k. not (unused k)) (eventCauses calendar book table event) n refl (event-numbers calendar book table event .known)
 
 -- ---- what an event gives back: the book as it was where it is turned down, the new one where it is done
 

@@ -3,13 +3,17 @@
 use mathlib.Core.Path.{_≡_, ap, _∙_}
 use mathlib.Core.List.{List}
 use Prim.Native.Nat.{ℕ}
-use Rattle.core.specs.Types.{Security, Book}
+use Rattle.core.specs.Types.{Security, Posting, Book}
 use Rattle.scalars.specs.declared.state.Scalars.{Scalars}
-use Rattle.core.specs.Flat.{securitiesOf, rowsOf, bookOf, scalarsOf}
+use Rattle.core.specs.Flat.{securitiesOf, postingsOf, rowsOf, bookOf, scalarsOf}
 
-pub whole : (book : Book) (held : List ℕ) {scalars : Scalars} {kinds units : List ℕ} → scalars ≡ scalarsOf book → securitiesOf held ≡ book .vault .securities → kinds ≡ book .withdrawals .kinds → units ≡ book .withdrawals .units → bookOf scalars (rowsOf held kinds units) ≡ book
-whole book held {scalars} {kinds} {units} d s k u =
+pub whole : (book : Book) (held : List ℕ) {scalars : Scalars} {kinds units : List ℕ} → scalars ≡ scalarsOf book → securitiesOf held ≡ book .vault .securities → postingsOf held ≡ book .postings → kinds ≡ book .withdrawals .kinds → units ≡ book .withdrawals .units → bookOf scalars (rowsOf held kinds units) ≡ book
+whole book held {scalars} {kinds} {units} d s p k u =
     ap (λ (x : Scalars). bookOf x (rowsOf held kinds units)) d
-    ∙ ap (λ (row : List Security). bookOf (scalarsOf book) (record { securities = row; kinds = kinds; units = units })) s
-    ∙ ap (λ (row : List ℕ). bookOf (scalarsOf book) (record { securities = book .vault .securities; kinds = row; units = units })) k
-    ∙ ap (λ (row : List ℕ). bookOf (scalarsOf book) (record { securities = book .vault .securities; kinds = book .withdrawals .kinds; units = row })) u
+    ∙ ap (λ (row : List Security). rows row (postingsOf held) kinds units) s
+    ∙ ap (λ (row : List Posting). rows (book .vault .securities) row kinds units) p
+    ∙ ap (λ (row : List ℕ). rows (book .vault .securities) (book .postings) row units) k
+    ∙ ap (λ (row : List ℕ). rows (book .vault .securities) (book .postings) (book .withdrawals .kinds) row) u
+  where
+    rows : List Security → List Posting → (kinds units : List ℕ) → Book
+    rows securities postings kinds units = bookOf (scalarsOf book) (record { securities = securities; postings = postings; kinds = kinds; units = units })

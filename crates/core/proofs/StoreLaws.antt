@@ -1,4 +1,4 @@
--- What a store into the flat table changes: one number of a trade, or its four numbers in a row, is one trade set.
+-- What a store into the flat table changes: one number of a trade, or its five numbers in a row, is one trade set.
 -- For put_sheets and put_trade, and for HeldLaws and TableLaws. Assumes nothing.
 use mathlib.Core.Path.{_≡_, refl, sym, ap, _∙_}
 use mathlib.Core.Logic.{_⊎_, inl, inr, ⊎-elim}
@@ -17,12 +17,12 @@ use Rattle.core.proofs.FlatLaws.{length-trades, trade-at}
 
 -- ---- one store
 
--- trades with the same four numbers are the same
+-- trades with the same five numbers are the same
 pub same-words : (s t : List ℕ) (i j : ℕ) → ((k : ℕ) → k < width → getD s (i * width + k) 0 ≡ getD t (j * width + k) 0) → tradeAt s i ≡ tradeAt t j
 unfolding tradeAt
 same-words s t i j h =
     let z : getD s (i * width) 0 ≡ getD t (j * width) 0 = simp add-zero at (h 0 (omega arith)) in
-    rw (z, h 1 (omega arith), h 2 (omega arith), h 3 (omega arith))
+    rw (z, h 1 (omega arith), h 2 (omega arith), h 3 (omega arith), h 4 (omega arith))
 
 -- where one trade is another and the rest are the same, that trade was set
 trade-set : (s t : List ℕ) (place : ℕ) (trade : Trade) → length s ≡ length t → tradeAt s place ≡ trade → ((i : ℕ) → (i ≡ place → ⊥) → tradeAt s i ≡ tradeAt t i) → tradesOf s ≡ set (tradesOf t) place trade
@@ -45,6 +45,7 @@ sheets-here table place count h =
       other (place * width) (λ z. omega arith),
       other (place * width + 2) (λ z. omega arith),
       other (place * width + 3) (λ z. omega arith),
+      other (place * width + 4) (λ z. omega arith),
     )
 
 pub sheets-put : (table : List ℕ) (place count : ℕ) → HasSlot table place → tradesOf (set table (place * width + 1) count) ≡ set (tradesOf table) place (withSheets count (tradeAt table place))
@@ -52,7 +53,7 @@ sheets-put table place count h =
     trade-set (set table (place * width + 1) count) table place (withSheets count (tradeAt table place)) (length-set table (place * width + 1) count) (sheets-here table place count h)
     (λ i q. same-words (set table (place * width + 1) count) table i i (λ k l. getD-set-other table (place * width + 1) (i * width + k) count 0 (λ z. q (omega arith))))
 
--- ---- four stores in a row
+-- ---- five stores in a row
 
 pub getD-sets-outside : (vs l : List ℕ) (i j : ℕ) → (j < i) ⊎ (i + length vs ≤ j) → getD (sets l i vs) j 0 ≡ getD l j 0
 getD-sets-outside [] l i j h = refl
@@ -74,7 +75,7 @@ abbrev pub pair : (low high : ℕ) → ℕ
 pair low high = low + 4294967296 * high
 
 abbrev words : Trade → List ℕ
-words trade = trade .contract .0 ∷ trade .sheets .0 ∷ pair (trade .price .0) (trade .fallback .0) ∷ pair (trade .first) (trade .due) ∷ []
+words trade = trade .contract .0 ∷ trade .sheets .0 ∷ pair (trade .price .0) (trade .fallback .0) ∷ pair (trade .first) (trade .due) ∷ trade .product ∷ []
 
 -- the prices and days of a trade have 32 bits
 pub record Narrow (trade : Trade) : Type 0 where
@@ -83,10 +84,10 @@ pub record Narrow (trade : Trade) : Type 0 where
   pub first : trade .first < 4294967296
   pub due : trade .due < 4294967296
 
-lower-pair : (low high : ℕ) → low < 4294967296 → lower (pair low high) ≡ low
+pub lower-pair : (low high : ℕ) → low < 4294967296 → lower (pair low high) ≡ low
 lower-pair low high h = omega arith
 
-upper-pair : (low high : ℕ) → low < 4294967296 → high < 4294967296 → upper (pair low high) ≡ high
+pub upper-pair : (low high : ℕ) → low < 4294967296 → high < 4294967296 → upper (pair low high) ≡ high
 upper-pair low high h k = omega arith
 
 trade-here : (table : List ℕ) (place : ℕ) (trade : Trade) → HasSlot table place → Narrow trade → tradeAt (sets table (place * width) (words trade)) place ≡ trade
@@ -98,6 +99,7 @@ trade-here table place trade h n =
       word 1 (omega arith),
       word 2 (omega arith),
       word 3 (omega arith),
+      word 4 (omega arith),
       lower-pair (trade .price .0) (trade .fallback .0) (n .price),
       upper-pair (trade .price .0) (trade .fallback .0) (n .price) (n .fallback),
       lower-pair (trade .first) (trade .due) (n .first),
@@ -116,19 +118,23 @@ words-put table place trade h n =
     trade-set (sets table (place * width) (words trade)) table place trade (length-sets table (place * width) (words trade)) (trade-here table place trade h n)
     (λ i q. same-words (sets table (place * width) (words trade)) table i i (λ k l. getD-sets-outside (words trade) table (place * width) (i * width + k) (apart place i k q l)))
 
--- the four stores as the code makes them
+-- the five stores as the code makes them
 abbrev pub stores : List ℕ → ℕ → Trade → List ℕ
 stores table at trade =
     set
+    (set
     (set (set (set table at (trade .contract .0)) (at + 1) (trade .sheets .0)) (at + 2) (pair (trade .price .0) (trade .fallback .0)))
     (at + 3)
-    (pair (trade .first) (trade .due))
+    (pair (trade .first) (trade .due)))
+    (at + 4)
+    (trade .product)
 
 in-a-row : (table : List ℕ) (at : ℕ) (trade : Trade) → stores table at trade ≡ sets table at (words trade)
 in-a-row table at trade =
     let by-2 : at + 2 ≡ suc (suc at) = omega arith in
     let by-3 : at + 3 ≡ suc (suc (suc at)) = omega arith in
-    rw (add-one at, by-2, by-3)
+    let by-4 : at + 4 ≡ suc (suc (suc (suc at))) = omega arith in
+    rw (add-one at, by-2, by-3, by-4)
 
 pub trade-put : (table : List ℕ) (place : ℕ) (trade : Trade) → HasSlot table place → Narrow trade → tradesOf (stores table (place * width) trade) ≡ set (tradesOf table) place trade
 trade-put table place trade h n = ap tradesOf (in-a-row table (place * width) trade) ∙ words-put table place trade h n

@@ -9,7 +9,7 @@ use Rattle.money.specs.Days.{Calendar}
 use Rattle.rules.specs.Trades.{inUse, outstanding}
 use Rattle.rules.specs.Vault.{value, outstandingOf}
 use Rattle.rules.specs.Fit.{tradeFit, allTrades}
-use Rattle.core.specs.Types.{Trade, Book, Event, Open, FundIn, FundOut, Size, Rate, Pledge, Freeze, Withdraw, Initial, Early, Pay, Close, Entry, Known, Undecodable}
+use Rattle.core.specs.Types.{Trade, Book, Event, Open, FundIn, FundOut, Size, Rate, Pledge, Freeze, Withdraw, Initial, Early, Pay, Close, Post, Entry, Known, Undecodable}
 use Rattle.core.specs.Flat.{FitsWhole, FitsHeld, vaultOf, securitiesOf}
 use Rattle.scalars.specs.declared.state.Scalars.{Scalars}
 pub use Rattle.core.specs.declared.figures.Figures.{Figures}
@@ -64,6 +64,7 @@ Moved (Initial terms) before after = (after .outstanding .0 ≡ before .outstand
 Moved (Early contract count price) before after = (before .outstanding .0 ≡ after .outstanding .0 + count .0) × (after .value ≡ before .value)
 Moved Pay before after = after ≡ before
 Moved Close before after = Unit {0}
+Moved (Post product posting) before after = after ≡ before
 
 -- after any entry, by its number
 abbrev pub MovedBy : Entry → (number : ℕ) → (before after : Figures) → Type 0

@@ -1,4 +1,4 @@
--- How the core lays out its table, four numbers a trade, and its book, scalars and rows: what `Lent` reads numbers by. Promises of other calls
+-- How the core lays out its table, five numbers a trade, and its book, scalars and rows: what `Lent` reads numbers by. Promises of other calls
 -- cite this layout and `appliedOf`; all else serves private contracts. No rule of document 01 stands here.
 -- Assumes nothing.
 use Prim.Native.Nat.{ℕ, zero, suc, _+_, _*_, _/_, _%_, _≤_, _<_}
@@ -12,7 +12,7 @@ use Rattle.money.specs.Limits.{calendarLimit, priceLimit, termLimit}
 use Rattle.money.specs.declared.units.Ticks.{Ticks}
 use Rattle.money.specs.Units.{sheets, ticks}
 use Rattle.money.specs.Days.{Calendar}
-use Rattle.rules.specs.Limits.{capacityLimit, applicationLimit}
+use Rattle.rules.specs.Limits.{capacityLimit, applicationLimit, productLimit}
 use Rattle.rules.specs.Book.{answer, isClosed}
 use Rattle.rules.specs.Days.{following, followed}
 use Rattle.rules.specs.Open.{turnsTerminated, openedStanding}
@@ -21,28 +21,35 @@ use Rattle.rules.specs.Close.{Evening, closeAnswer, closedBook}
 use Rattle.rules.specs.Step.{Outcome}
 use Rattle.rules.specs.Trades.{same}
 use Rattle.rules.specs.Fit.{securitiesFit, cashFit, withdrawalsFit, tradeFit, allTrades, fit}
-use Rattle.core.specs.Types.{Security, Standing, Guarantee, Vault, Book, Applied, Contract, Trade}
+use Rattle.core.specs.Types.{Security, Posting, Standing, Guarantee, Vault, Book, Applied, Contract, Trade}
 use Rattle.scalars.specs.declared.state.Scalars.{Scalars}
 use Rattle.scalars.specs.declared.done.Done.{Done}
 use Rattle.core.specs.declared.evening.EveningScalars.{EveningScalars}
 
 -- how many numbers a trade takes
 abbrev pub width : ℕ
-width = 4
+width = 5
 
 -- a table has so many slots, and one at a place
 abbrev pub HasSlots : List ℕ → (count : ℕ) → Type 0
 HasSlots table count = count * width ≤ length table
 
 abbrev pub HasSlot : List ℕ → (place : ℕ) → Type 0
-HasSlot table place = place * width + 3 < length table
+HasSlot table place = place * width + 4 < length table
 
--- how many numbers a security takes, and all 32 of them
+-- one row holds the securities and what is posted: how many numbers a security takes and a posting, where the first posting stands,
+-- and how long the row is, with 32 securities and 16 postings
 abbrev pub securityWidth : ℕ
 securityWidth = 4
 
+abbrev pub postingWidth : ℕ
+postingWidth = 2
+
+abbrev pub postingsFrom : ℕ
+postingsFrom = 128
+
 abbrev pub heldLength : ℕ
-heldLength = 128
+heldLength = 160
 
 -- a number of the trade at a place
 abbrev pub word : List ℕ → (place field : ℕ) → ℕ
@@ -63,6 +70,7 @@ tradeAt table place = record {
   fallback = ticks (upper (word table place 2));
   first = lower (word table place 3);
   due = upper (word table place 3);
+  product = word table place 4;
 }
 
 -- the first trades of the table, and all of them
@@ -76,7 +84,7 @@ capacity table = length table / width
 abbrev pub tradesOf : List ℕ → List Trade
 tradesOf table = tradesTo table (capacity table)
 
--- ---- the rows beside the scalars: the securities, four numbers each, and the applications
+-- ---- the rows beside the scalars: the securities, four numbers each, with the postings, two each, and the applications
 
 unfoldable pub securityIn : List ℕ → ℕ → Security
 securityIn held kind = record {
@@ -86,20 +94,32 @@ securityIn held kind = record {
   rate = getD held (kind * securityWidth + 3) 0;
 }
 
-unfoldable pub securitiesTo : List ℕ → ℕ → List Security
-securitiesTo held zero = []
-securitiesTo held (suc count) = securitiesTo held count ++ (securityIn held count ∷ [])
+-- f 0, f 1, … and f (count - 1)
+unfoldable pub upTo : {A : Type 0} → (ℕ → A) → ℕ → List A
+upTo f zero = []
+upTo f (suc count) = upTo f count ++ (f count ∷ [])
 
 abbrev pub securitiesOf : List ℕ → List Security
-securitiesOf held = securitiesTo held 32
+securitiesOf held = upTo (securityIn held) 32
+
+unfoldable pub postingIn : List ℕ → ℕ → Posting
+postingIn held number = record {
+  term = getD held (postingsFrom + number * postingWidth) 0;
+  price = ticks (lower (getD held (postingsFrom + number * postingWidth + 1) 0));
+  fallback = ticks (upper (getD held (postingsFrom + number * postingWidth + 1) 0));
+}
+
+abbrev pub postingsOf : List ℕ → List Posting
+postingsOf held = upTo (postingIn held) productLimit
 
 pub record Rows : Type 0 where
   pub securities : List Security
+  pub postings : List Posting
   pub kinds : List ℕ
   pub units : List ℕ
 
 abbrev pub rowsOf : (held kinds units : List ℕ) → Rows
-rowsOf held kinds units = record { securities = securitiesOf held; kinds = kinds; units = units }
+rowsOf held kinds units = record { securities = securitiesOf held; postings = postingsOf held; kinds = kinds; units = units }
 
 abbrev pub vaultOf : Guarantee → List Security → Vault
 vaultOf guarantee securities = record { guarantee = guarantee; securities = securities }
@@ -114,6 +134,7 @@ bookOf scalars rows = record {
   size = scalars .size;
   standing = scalars .standing;
   withdrawals = record { kinds = rows .kinds; units = rows .units; count = scalars .applications };
+  postings = rows .postings;
   trades = scalars .trades;
 }
 

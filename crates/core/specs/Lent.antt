@@ -16,7 +16,7 @@ use Rattle.core.specs.Types.{Book, Trade, Entry, Cover}
 use Rattle.core.specs.Flat.{width, heldLength, rowsOf, bookOf, tradesOf}
 use Rattle.scalars.specs.declared.state.Scalars.{Scalars}
 
--- what is small of the book, the rows of securities and of applications, and the table
+-- what is small of the book, the rows of securities with the postings and of applications, and the table
 pub record Lent : Type 0 where
   pub scalars : Scalars
   pub held : List ℕ
@@ -34,7 +34,7 @@ bookIn l = bookOf (l .scalars) (rowsOf (l .held) (l .kinds) (l .units))
 abbrev pub tableIn : Lent → List Trade
 tableIn l = tradesOf (l .table)
 
--- 32 securities of four numbers each, 128 applications, and whole trades of four numbers each
+-- 32 securities of four numbers each with 16 postings of two, 128 applications, and whole trades of five numbers each
 unfoldable pub isWhole : Lent → Bool
 isWhole l =
     every

@@ -2,6 +2,7 @@
 pub mod Types
 pub mod Flat
 pub mod Redemption
+pub mod NextTerm
 pub mod Figures
 pub mod Chains
 pub mod Lent

@@ -4,6 +4,7 @@ pub use Rattle.rules.specs.declared.book.Nets.{Nets}
 pub use Rattle.rules.specs.declared.book.Unpaid.{Unpaid}
 pub use Rattle.rules.specs.declared.book.Cash.{Cash}
 pub use Rattle.rules.specs.declared.book.Security.{Security}
+pub use Rattle.rules.specs.declared.book.Posting.{Posting}
 pub use Rattle.rules.specs.declared.book.Guarantee.{Guarantee}
 pub use Rattle.rules.specs.declared.book.Vault.{Vault}
 pub use Rattle.rules.specs.declared.book.Day.{Day}
@@ -19,7 +20,7 @@ pub use Rattle.rules.specs.declared.trade.Terms.{Terms}
 pub use Rattle.rules.specs.declared.event.Account.{Account}
 pub use Rattle.rules.specs.declared.event.Account.the-variants.{Own, Client}
 pub use Rattle.rules.specs.declared.event.Event.{Event}
-pub use Rattle.rules.specs.declared.event.Event.the-variants.{Open, FundIn, FundOut, Size, Rate, Pledge, Freeze, Withdraw, Initial, Early, Pay, Close}
+pub use Rattle.rules.specs.declared.event.Event.the-variants.{Open, FundIn, FundOut, Size, Rate, Pledge, Freeze, Withdraw, Initial, Early, Pay, Close, Post}
 pub use Rattle.rules.specs.declared.event.Entry.{Entry}
 pub use Rattle.rules.specs.declared.event.Entry.the-variants.{Known, Undecodable}
 pub use Rattle.rules.specs.declared.answer.Applied.{Applied}

@@ -1,27 +1,29 @@
-// 12 Close: maturity, the nets and U, the evening's applications, the table and the short run.
+// 12 Close: maturity and the next terms, the nets and U, the evening's applications, the table and the short run.
 ghost use mathlib.Core.Path.{_≡_};
-ghost use Prim.Native.Nat.{ℕ};
+ghost use Prim.Native.Nat.{ℕ, _≤_};
 ghost use mathlib.Core.List.{List};
 ghost use mathlib.Core.Option.{none};
 ghost use lib.IntN.{pos};
 ghost use lib.ListN.{length};
 ghost use Rattle.money.specs.Causes.{firstOf};
-ghost use Rattle.money.specs.Units.{sheets, signedFen};
+ghost use Rattle.money.specs.Units.{signedFen};
 ghost use Rattle.money.specs.Days.{Calendar};
 ghost use Rattle.rules.specs.Limits.{applicationLimit};
 ghost use Rattle.rules.specs.Vault.{value};
 ghost use Rattle.rules.specs.Book.{noApplications};
-ghost use Rattle.rules.specs.Close.{mayClose, maturedTrades, maturedSheets, clearedAtClose, unpaidAtClose, claimsOf, claimsAtClose, served, evening as eveningOf, shortMore, shortAtClose, closedStanding, closeCauses, closedBook, closedTable};
+ghost use Rattle.rules.specs.Close.{mayClose, leftTrades, clearedAtClose, unpaidAtClose, claimsOf, claimsAtClose, served, evening as eveningOf, shortMore, shortAtClose, closedStanding, closeCauses, closedBook, closedTable};
 ghost use Rattle.rules.specs.Trades.{outstanding, remaining};
 ghost use Rattle.core.specs.Types.{Trade};
-ghost use Rattle.core.specs.Flat.{FitsWhole, RowsFit, Rows, vaultOf, securitiesOf, rowsOf, bookOf, eveningAt, appliedAt, tradesOf, closedBy, tableBy, Kept};
-use crate::days;
+ghost use Rattle.core.specs.Figures.{CountedWhole};
+ghost use Rattle.core.specs.NextTerm.{Planned, Renewable, mostMatured};
+ghost use Rattle.core.specs.Flat.{RowsFit, Rows, vaultOf, securitiesOf, postingsOf, rowsOf, bookOf, eveningAt, appliedAt, tradesOf, closedBy, tableBy, Kept};
 use crate::evening;
 use crate::evening::EveningScalars;
+use crate::figures::KnownFigures;
 use crate::nets;
+use crate::next_term;
+use crate::next_term::Plan;
 use crate::packing;
-use crate::redemption;
-use crate::trades;
 use crate::vault;
 use money::units::Fen;
 use money::units::Sheets;
@@ -109,7 +111,7 @@ fn clear(kinds: &mut [u8], units: &mut [u64])
     }
 }
 
-// The evening's end, with the sheets of the trades that part (a) leaves and U as it is then.
+// The evening's end, with O as part (b) begins and U as it is then.
 fn evening_end(
     scalars: Scalars,
     held: &mut [u64],
@@ -122,7 +124,8 @@ fn evening_end(
     ensures { λ r.
         let book = bookOf scalars (rowsOf (now (held .entry)) (now (kinds .entry)) (now (units .entry))) in
         ⌜ (eveningAt r (securitiesOf (now (held .exit))) ≡ eveningOf book (claimsOf (left .0) (unpaid .0)))
-        × (r .value .0 ≡ value (vaultOf (r .guarantee) (securitiesOf (now (held .exit))))) ⌝ }
+        × (r .value .0 ≡ value (vaultOf (r .guarantee) (securitiesOf (now (held .exit)))))
+        × (postingsOf (now (held .exit)) ≡ postingsOf (now (held .entry))) ⌝ }
 {
     let standing = scalars.standing;
     let guarantee = scalars.guarantee;
@@ -166,6 +169,7 @@ fn closed_scalars(
         → ended .value .0 ≡ value (vaultOf (ended .guarantee) (securitiesOf held))
         → left .0 ≡ outstanding trades
         → kept ≡ length (remaining trades)
+        → postingsOf held ≡ rows .postings
         → bookOf r (rowsOf held (noApplications .kinds) (noApplications .units)) ≡ closedBook calendar book trades table) ⌝ }
 {
     let standing = scalars.standing;
@@ -185,39 +189,41 @@ fn closed_scalars(
     next
 }
 
-// What Close does, once nothing refuses it. O is what is left after maturity, before the table is packed.
+// What Close does, once nothing refuses it: what was planned is written, before the table is packed.
 fn closed(
+    calendar: &[u32],
     scalars: Scalars,
     held: &mut [u64],
     kinds: &mut [u8],
     units: &mut [u64],
     table: &mut [u64],
-    matured: Sheets,
+    plan: Plan,
     cleared: Nets,
     unpaid: Unpaid,
 ) -> Done
-    requires { ⌜ (RowsFit scalars (now held) (now kinds) (now units)) × (Kept (now table) (scalars .trades)) ⌝ }
+    requires { ⌜ (RowsFit scalars (now held) (now kinds) (now units))
+        × (Renewable (now calendar) (plan .closing) (now held))
+        × (Kept (now table) (scalars .trades))
+        × (plan .outstanding .0 ≤ mostMatured) ⌝ }
     ensures { λ r.
         let book = bookOf scalars (rowsOf (now (held .entry)) (now (kinds .entry)) (now (units .entry))) in
         let trades = tradesOf (now (table .entry)) in
-        let remains = maturedTrades book trades in
-        ⌜ ((calendar : Calendar) →
-        matured ≡ sheets (maturedSheets book trades)
-        → cleared ≡ record { today = signedFen (pos 0); cleared = signedFen (clearedAtClose calendar book trades) }
-        → unpaid ≡ unpaidAtClose calendar book trades
-        → appliedAt r (rowsOf (now (held .exit)) (now (kinds .exit)) (now (units .exit))) ≡ closedBy none calendar book remains trades)
-        × (tradesOf (now (table .exit)) ≡ closedTable book remains trades) ⌝ }
+        let remains = leftTrades (now (calendar .entry)) book trades in
+        ⌜ (Planned (now (calendar .entry)) book (now (held .entry)) trades plan
+        → cleared ≡ record { today = signedFen (pos 0); cleared = signedFen (clearedAtClose (now (calendar .entry)) book trades) }
+        → unpaid ≡ unpaidAtClose (now (calendar .entry)) book trades
+        → (appliedAt r (rowsOf (now (held .exit)) (now (kinds .exit)) (now (units .exit))) ≡ closedBy none (now (calendar .entry)) book remains trades)
+        × (tradesOf (now (table .exit)) ≡ closedTable book remains trades)) ⌝ }
 {
-    let standing = scalars.standing;
-    let day = standing.day;
     let count = scalars.trades;
-    redemption::redeem_due(table, count, days::day_number(day));
-    let left = trades::outstanding_of(&*table, count);
+    let closing = plan.closing;
+    let left = plan.left;
+    next_term::settle(calendar, &*held, table, count, closing, plan.outstanding);
     let kept = packing::pack(table, count);
     let ended = evening_end(scalars, held, &*kinds, &*units, left, unpaid.cleared);
     clear(kinds, units);
     let next = closed_scalars(scalars, cleared, unpaid, ended, left, kept);
-    done::of_close(matured, ended.done, ended.dropped, next)
+    done::of_close(plan.matured, ended.done, ended.dropped, next)
 }
 
 // All that can refuse it is decided on a plan, before anything is written.
@@ -228,12 +234,13 @@ pub fn close(
     kinds: &mut [u8],
     units: &mut [u64],
     table: &mut [u64],
+    known: KnownFigures,
 ) -> Done
-    requires { ⌜ FitsWhole (now calendar) scalars (now held) (now kinds) (now units) (tradesOf (now table)) ⌝ }
+    requires { ⌜ CountedWhole (now calendar) scalars (now held) (now kinds) (now units) (tradesOf (now table)) known ⌝ }
     ensures { λ r.
         let book = bookOf scalars (rowsOf (now (held .entry)) (now (kinds .entry)) (now (units .entry))) in
         let trades = tradesOf (now (table .entry)) in
-        let remains = maturedTrades book trades in
+        let remains = leftTrades (now (calendar .entry)) book trades in
         let left = rowsOf (now (held .exit)) (now (kinds .exit)) (now (units .exit)) in
         let cause = firstOf (closeCauses (now (calendar .entry)) book trades) in
         ⌜ (appliedAt r left ≡ closedBy cause (now (calendar .entry)) book remains trades)
@@ -243,15 +250,12 @@ pub fn close(
     if !may_close(standing) {
         return done::answered(4, scalars);
     }
-    let day = standing.day;
-    let count = scalars.trades;
-    let payment = days::payment_day(calendar, day);
-    let plan = redemption::maturity_plan(&*table, count, days::day_number(day), payment);
-    let with_matured = nets::today_plus(scalars.nets, plan.amount);
-    if !nets::today_fit(with_matured) {
+    let plan = next_term::plan_of(calendar, scalars, &*held, &*kinds, &*units, &*table, known);
+    let at_close = nets::today_at_close(scalars.nets, plan.amount, plan.started);
+    if !nets::today_fit(at_close) {
         return done::answered(14, scalars);
     }
-    let cleared = nets::joined(with_matured);
+    let cleared = nets::joined(at_close);
     if !nets::cleared_fit(cleared) {
         return done::answered(14, scalars);
     }
@@ -261,12 +265,13 @@ pub fn close(
     }
     let unpaid = unpaid::joined_with(sums.unpaid, plan.amount);
     closed(
+        calendar,
         scalars,
         held,
         kinds,
         units,
         table,
-        plan.sheets,
+        plan,
         cleared,
         unpaid,
     )

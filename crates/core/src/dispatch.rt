@@ -1,4 +1,4 @@
-// The twelve events on a book: which function each is, and when none is asked.
+// The thirteen events on a book: which function each is, and when none is asked.
 ghost use mathlib.Core.Path.{_≡_};
 ghost use Rattle.rules.specs.Step.{step};
 ghost use Rattle.core.specs.Types.{Known};
@@ -13,6 +13,7 @@ use crate::initial;
 use crate::open;
 use crate::pay;
 use crate::pledge;
+use crate::post;
 use crate::rate;
 use crate::size;
 use crate::withdraw;
@@ -42,7 +43,7 @@ fn event_on(
         × (tradesOf (now (table .exit)) ≡ next .table) ⌝ }
 {
     match event {
-        Event::Open => open::open(calendar, scalars, table),
+        Event::Open => open::open(calendar, scalars, held, table),
         Event::FundIn(account, amount) => funds::fund_in(scalars, account, amount),
         Event::FundOut(account, amount) => funds::fund_out(scalars, account, amount),
         Event::Size(sheets) => size::set_size(scalars, known.outstanding, sheets),
@@ -67,7 +68,8 @@ fn event_on(
             price,
         ),
         Event::Pay => pay::pay(scalars),
-        Event::Close => close::close(calendar, scalars, held, kinds, units, table),
+        Event::Close => close::close(calendar, scalars, held, kinds, units, table, known),
+        Event::Post(product, posting) => post::post(scalars, held, product, posting),
     }
 }
 

@@ -11,7 +11,7 @@ ghost use Rattle.rules.specs.Vault.{securityAt, effectiveOf, frozenOf, value as
 ghost use Rattle.rules.specs.Fit.{securitiesFit, withdrawalsFit};
 ghost use Rattle.rules.specs.Close.{securityArrived, guaranteeArrived, takenOut, claimsOf, mayGo, applications};
 ghost use Rattle.core.specs.Types.{Vault};
-ghost use Rattle.core.specs.Flat.{vaultOf, securitiesOf, eveningAt, heldLength};
+ghost use Rattle.core.specs.Flat.{vaultOf, securitiesOf, postingsOf, eveningAt, heldLength};
 ghost use Rattle.core.specs.Figures.{valueBound};
 use crate::held;
 use crate::vault;
@@ -50,7 +50,9 @@ pub fn guarantee_arrived(guarantee: Guarantee) -> Guarantee
 // What arrives becomes effective, of every security.
 pub fn all_arrived(held: &mut [u64], guarantee: Guarantee)
     requires { ⌜ (length (now held) ≡ heldLength) × (securitiesFit (vaultOf guarantee (securitiesOf (now held))) ≡ true) ⌝ }
-    ensures { λ _. ⌜ securitiesOf (now (held .exit)) ≡ map securityArrived (securitiesOf (now (held .entry))) ⌝ }
+    ensures { λ _.
+        ⌜ (securitiesOf (now (held .exit)) ≡ map securityArrived (securitiesOf (now (held .entry))))
+        × (postingsOf (now (held .exit)) ≡ postingsOf (now (held .entry))) ⌝ }
 {
     let mut kind = 0;
     while kind < SECURITIES {
@@ -171,7 +173,8 @@ pub fn applications(
         let before = eveningAt begun (securitiesOf (now (held .entry))) in
         ⌜ (eveningAt r (securitiesOf (now (held .exit)))
         ≡ applications served (claimsOf (outstanding .0) (unpaid .0)) (record { kinds = now (kinds .entry); units = now (units .entry); count = count }) before)
-        × (r .value .0 ≡ valueOf (vaultOf (r .guarantee) (securitiesOf (now (held .exit))))) ⌝ }
+        × (r .value .0 ≡ valueOf (vaultOf (r .guarantee) (securitiesOf (now (held .exit)))))
+        × (postingsOf (now (held .exit)) ≡ postingsOf (now (held .entry))) ⌝ }
 {
     let mut guarantee = begun.guarantee;
     let mut own = begun.own.0;

@@ -129,6 +129,7 @@ fn figures_moved(
         }
         Event::Pay => before,
         Event::Close => figures_of(calendar, scalars, held, table),
+        Event::Post(_, _) => before,
     }
 }
 

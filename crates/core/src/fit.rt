@@ -15,6 +15,7 @@ ghost use Rattle.core.specs.Figures.{outstandingAt, latestFirst, summary
 use crate::days;
 use crate::layout;
 use crate::nets;
+use crate::postings;
 use crate::trades;
 use crate::trades::Summary;
 use crate::vault;
@@ -103,7 +104,7 @@ fn day_fit(calendar: &[u32], standing: Standing, count: usize, latest: u32) -> b
     }
 }
 
-// The tests after those of the vault, the cash and the sheets.
+// The tests after those of the vault, the cash, the sheets and the postings.
 fn others_fit(
     calendar: &[u32],
     scalars: Scalars,
@@ -177,6 +178,9 @@ fn is_fit(
         return false;
     }
     if !size_fit(scalars.size, summary.outstanding) {
+        return false;
+    }
+    if !postings::postings_fit(held) {
         return false;
     }
     others_fit(calendar, scalars, kinds, units, table, summary.latest)

@@ -1,4 +1,4 @@
-// The core's table: four numbers a trade, in the record's order. Trades are read and written here only.
+// The core's table: five numbers a trade, in the record's order. Trades are read and written here only.
 ghost use mathlib.Core.Path.{_≡_};
 ghost use Prim.Native.Nat.{ℕ, _+_, _*_, _≤_, _<_};
 ghost use lib.ListN.{length, getD, set};
@@ -32,21 +32,21 @@ pub fn sheets_at(table: &[u64], place: usize) -> Sheets
 }
 
 // Prices and days have 32 bits, and stand two to a number: this is the lower half, and below it the upper.
-fn lower_at(table: &[u64], at: usize) -> u32
+pub fn lower_at(table: &[u64], at: usize) -> u32
     requires { ⌜ at < length (now table) ⌝ }
     ensures { λ r. ⌜ r ≡ lower (getD (now (table .entry)) at 0) ⌝ }
 {
     (table[at] % 4_294_967_296) as u32
 }
 
-fn upper_at(table: &[u64], at: usize) -> u32
+pub fn upper_at(table: &[u64], at: usize) -> u32
     requires { ⌜ at < length (now table) ⌝ }
     ensures { λ r. ⌜ r ≡ upper (getD (now (table .entry)) at 0) ⌝ }
 {
     (table[at] / 4_294_967_296 % 4_294_967_296) as u32
 }
 
-fn paired(low: u32, high: u32) -> u64
+pub fn paired(low: u32, high: u32) -> u64
     ensures { λ r. ⌜ (r ≡ low + 4294967296 * high) × (low < 4294967296) × (high < 4294967296) ⌝ }
 {
     low as u64 + 4_294_967_296 * (high as u64)
@@ -80,6 +80,13 @@ pub fn due_at(table: &[u64], place: usize) -> u32
     upper_at(table, place * layout::WIDTH + 3)
 }
 
+pub fn product_at(table: &[u64], place: usize) -> u64
+    requires { ⌜ HasSlot (now table) place ⌝ }
+    ensures { λ r. ⌜ r ≡ tradeAt (now (table .entry)) place .product ⌝ }
+{
+    table[place * layout::WIDTH + 4]
+}
+
 pub fn put_sheets(table: &mut [u64], place: usize, count: Sheets)
     requires { ⌜ HasSlot (now table) place ⌝ }
     ensures { λ _.
@@ -100,6 +107,7 @@ pub fn no_trade() -> Trade
         fallback: Ticks(0),
         first: 0,
         due: 0,
+        product: 0,
     }
 }
 
@@ -113,6 +121,7 @@ pub fn put_trade(table: &mut [u64], place: usize, trade: Trade)
     table[place * layout::WIDTH + 1] = trade.sheets.0;
     table[place * layout::WIDTH + 2] = paired(trade.price.0, trade.fallback.0);
     table[place * layout::WIDTH + 3] = paired(trade.first, trade.due);
+    table[place * layout::WIDTH + 4] = trade.product;
 }
 
 pub fn slots(table: &[u64]) -> usize
@@ -132,6 +141,7 @@ pub fn trade_at(table: &[u64], place: usize) -> Trade
         fallback: fallback_at(table, place),
         first: first_at(table, place),
         due: due_at(table, place),
+        product: product_at(table, place),
     }
 }
 

@@ -6,7 +6,7 @@ ghost use lib.ListN.{length, set};
 ghost use Rattle.money.specs.Causes.{firstOf, numberOf};
 ghost use Rattle.money.specs.Collateral.{cashKind};
 ghost use Rattle.rules.specs.Freeze.{freezeCauses, frozen, withFrozen, cashFrozen};
-ghost use Rattle.core.specs.Flat.{securityIn, securitiesOf, rowsOf, bookOf, appliedBy, appliedAt, heldLength};
+ghost use Rattle.core.specs.Flat.{securityIn, securitiesOf, postingsOf, rowsOf, bookOf, appliedBy, appliedAt, heldLength};
 use crate::held;
 use crate::vault;
 use money::limits::CASH_KIND;
@@ -35,8 +35,9 @@ fn freeze_refusal(scalars: Scalars, held: &[u64], kind: u8, units: u64) -> u8
 fn put_frozen(held: &mut [u64], kind: u8, units: u64)
     requires { ⌜ (kind < cashKind) × (length (now held) ≡ heldLength) ⌝ }
     ensures { λ _.
-        ⌜ securitiesOf (now (held .exit))
-        ≡ set (securitiesOf (now (held .entry))) kind (withFrozen units (securityIn (now (held .entry)) kind)) ⌝ }
+        ⌜ (securitiesOf (now (held .exit))
+        ≡ set (securitiesOf (now (held .entry))) kind (withFrozen units (securityIn (now (held .entry)) kind)))
+        × (postingsOf (now (held .exit)) ≡ postingsOf (now (held .entry))) ⌝ }
 {
     let at = kind as usize;
     let mut security = held::security_at(&*held, at);

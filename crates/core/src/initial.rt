@@ -12,22 +12,23 @@ ghost use Rattle.money.specs.Money.{principal};
 ghost use Rattle.rules.specs.Days.{dayNumber};
 ghost use Rattle.rules.specs.Trades.{inUse, onTable};
 ghost use Rattle.rules.specs.Vault.{headroom};
-ghost use Rattle.rules.specs.Initial.{badCount, badPrices, badDue, timeCauses, termCauses, slotCauses, sheetCauses, begun, initialCauses, initialBook, initialTable};
-ghost use Rattle.core.specs.Flat.{HasSlots, Rows, rowsOf, bookOf, appliedAt, tradesOf, appliedBy, tableBy};
+ghost use Rattle.rules.specs.Initial.{badCount, badDue, productCauses, timeCauses, termCauses, slotCauses, sheetCauses, begun, initialCauses, initialBook, initialTable};
+ghost use Rattle.core.specs.Flat.{HasSlots, Rows, rowsOf, bookOf, appliedAt, tradesOf, appliedBy, tableBy, heldLength};
 ghost use Rattle.core.specs.Figures.{CountedHeld};
 use crate::days;
 use crate::figures;
 use crate::figures::KnownFigures;
 use crate::flat;
 use crate::nets;
+use crate::postings;
+use crate::prices;
 use crate::trades;
-use money::limits::PRICE_LIMIT;
 use money::limits::TRADE_LIMIT;
 use money::units::Fen;
 use money::units::Sheets;
-use money::units::Ticks;
 use rules::book::Day;
 use rules::limits::AHEAD_LIMIT;
+use rules::limits::PRODUCT_LIMIT;
 use rules::trade::Contract;
 use rules::trade::Terms;
 use rules::trade::Trade;
@@ -48,15 +49,6 @@ fn bad_count(count: Sheets) -> bool
         return true;
     }
     count.0 > TRADE_LIMIT
-}
-
-fn bad_prices(price: Ticks, fallback: Ticks) -> bool
-    ensures { λ r. ⌜ r ≡ badPrices price fallback ⌝ }
-{
-    if price.0 > PRICE_LIMIT {
-        return true;
-    }
-    fallback.0 > PRICE_LIMIT
 }
 
 fn bad_due(calendar: &[u32], day: Day, due: u32) -> bool
@@ -113,8 +105,29 @@ fn lacks_headroom(
     headroom::above_headroom(scalars.size, figures.value, figures.outstanding, count)
 }
 
-// The causes, group by group as the rules have them: when a trade may begin, its prices and its due day, the table's room, and
-// headroom's and the net's.
+// The causes, group by group as the rules have them: a trade's product, when it may begin, its prices and its due day, the table's room,
+// and headroom's and the net's.
+fn product_refusal(scalars: Scalars, held: &[u64], terms: Terms) -> u8
+    requires { ⌜ length (now held) ≡ heldLength ⌝ }
+    ensures { λ r.
+        ⌜ ((kinds units : List ℕ) →
+        let book = bookOf scalars (rowsOf (now (held .entry)) kinds units) in
+        r ≡ numberOf (firstOf (productCauses book terms))) ⌝ }
+{
+    let product = terms.product as usize;
+    if product == 0 {
+        return 0;
+    }
+    if product > PRODUCT_LIMIT {
+        return 20;
+    }
+    let posting = postings::posting_of(held, product);
+    if posting.term == 0 {
+        return 20;
+    }
+    0
+}
+
 fn time_refusal(scalars: Scalars) -> u8
     ensures { λ r. ⌜ ((rows : Rows) → r ≡ numberOf (firstOf (timeCauses (bookOf scalars rows)))) ⌝ }
 {
@@ -137,7 +150,7 @@ fn term_refusal(calendar: &[u32], scalars: Scalars, terms: Terms) -> u8
 {
     let price = terms.price;
     let fallback = terms.fallback;
-    if bad_prices(price, fallback) {
+    if prices::bad_prices(price, fallback) {
         return 8;
     }
     let standing = scalars.standing;
@@ -203,6 +216,10 @@ fn initial_refusal(
         let cause = firstOf (initialCauses (now (calendar .entry)) book trades terms) in
         r ≡ numberOf cause) ⌝ }
 {
+    let of_its_product = product_refusal(scalars, held, terms);
+    if of_its_product != 0 {
+        return of_its_product;
+    }
     let at_this_time = time_refusal(scalars);
     if at_this_time != 0 {
         return at_this_time;
@@ -232,6 +249,7 @@ fn begun_trade(calendar: &[u32], scalars: Scalars, terms: Terms) -> Trade
     let sheets = terms.sheets;
     let price = terms.price;
     let fallback = terms.fallback;
+    let product = terms.product as u64;
     Trade {
         contract,
         sheets,
@@ -239,6 +257,7 @@ fn begun_trade(calendar: &[u32], scalars: Scalars, terms: Terms) -> Trade
         fallback,
         first: days::payment_day(calendar, day),
         due: terms.due,
+        product,
     }
 }
 

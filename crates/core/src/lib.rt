@@ -1,4 +1,4 @@
-// The core: the twelve events on a book and its table in lent numbers.
+// The core: the thirteen events on a book and its table in lent numbers.
 
 // A whole book taken apart into scalars and rows, and put together.
 pub mod split;
@@ -9,7 +9,7 @@ pub mod lent;
 // The run of a journal's events on a fresh book.
 pub mod listing;
 
-// How many numbers a trade takes, and the securities.
+// How many numbers a trade takes, a security and a posting.
 pub mod layout;
 
 // The table, the vault, and what the events share.
@@ -24,7 +24,10 @@ mod flat;
 mod held;
 mod line;
 mod nets;
+mod next_term;
 mod packing;
+mod postings;
+mod prices;
 mod redemption;
 mod run;
 mod trades;
@@ -39,6 +42,7 @@ mod initial;
 mod open;
 mod pay;
 mod pledge;
+mod post;
 mod rate;
 mod size;
 mod withdraw;

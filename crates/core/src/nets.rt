@@ -92,6 +92,21 @@ pub fn today_plus(nets: Nets, amount: Fen) -> Nets
     }
 }
 
+// Today's net as part (b) of Close begins: with what matured, less what started.
+pub fn today_at_close(nets: Nets, matured: Fen, started: Fen) -> Nets
+    requires { ⌜ (netFit (nets .today .0) ≡ true) × (matured .0 ≤ amountBound) × (started .0 ≤ amountBound) ⌝ }
+    ensures { λ r.
+        ⌜ r ≡ record { today = signedFen (nets .today .0 +ℤ pos (matured .0) -ℤ pos (started .0)); cleared = nets .cleared } ⌝ }
+{
+    let with_matured = today_plus(nets, matured);
+    let today = with_matured.today;
+    let cleared = nets.cleared;
+    Nets {
+        today: plus(today, negative(started)),
+        cleared,
+    }
+}
+
 // Whether today's net would leave its limit with an amount taken from it, or joining it.
 pub fn over_less(nets: Nets, amount: Fen) -> bool
     requires { ⌜ (netFit (nets .today .0) ≡ true) × (amount .0 ≤ amountBound) ⌝ }

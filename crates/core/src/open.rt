@@ -1,16 +1,18 @@
 // 1 Open: goes to the next trading day; on turning terminated every trade is redeemed at its fallback price.
 ghost use mathlib.Core.Path.{_≡_};
-ghost use Prim.Native.Nat.{_≤_};
+ghost use mathlib.Core.List.{List};
+ghost use Prim.Native.Nat.{ℕ, _≤_};
 ghost use lib.ListN.{length};
 ghost use Rattle.money.specs.Limits.{calendarLimit};
 ghost use Rattle.money.specs.Causes.{firstOf};
 ghost use Rattle.money.specs.Units.{fen};
 ghost use Rattle.rules.specs.Status.{statusAtOpen};
-ghost use Rattle.rules.specs.Open.{turnsTerminated, openedStanding, fallbackSum, openCauses, openedBook, openedTable};
-ghost use Rattle.core.specs.Flat.{Rows, bookOf, Fits, Opening, Ending, appliedAt, tradesOf, appliedBy, tableBy};
+ghost use Rattle.rules.specs.Open.{turnsTerminated, openedStanding, fallbackSum, openCauses, turnedBook, openedBook, openedTable};
+ghost use Rattle.core.specs.Flat.{Rows, rowsOf, bookOf, Fits, FitsHeld, Opening, Ending, appliedAt, tradesOf, appliedBy, tableBy};
 ghost use Rattle.core.specs.Redemption.{amountBound};
 use crate::days;
 use crate::nets;
+use crate::postings;
 use crate::redemption;
 use money::units::Fen;
 use rules::book::Phase;
@@ -72,7 +74,7 @@ fn terminated(calendar: &[u32], scalars: Scalars, table: &mut [u64], after: Stan
         ⌜ ((rows : Rows) →
         let book = bookOf scalars rows in
         let cause = firstOf (openCauses (now (calendar .entry)) book trades) in
-        (appliedAt r rows ≡ appliedBy cause book (openedBook (now (calendar .entry)) book trades))
+        (appliedAt r rows ≡ appliedBy cause book (turnedBook (now (calendar .entry)) book trades))
         × (tradesOf (now (table .exit)) ≡ tableBy cause trades (openedTable book trades))) ⌝ }
 {
     let nets = scalars.nets;
@@ -93,14 +95,15 @@ fn terminated(calendar: &[u32], scalars: Scalars, table: &mut [u64], after: Stan
     done::answered(0, next)
 }
 
-pub fn open(calendar: &[u32], scalars: Scalars, table: &mut [u64]) -> Done
+// The day opened, with what was posted before.
+fn turned(calendar: &[u32], scalars: Scalars, table: &mut [u64]) -> Done
     requires { ⌜ Fits (now calendar) scalars (tradesOf (now table)) ⌝ }
     ensures { λ r.
         let trades = tradesOf (now (table .entry)) in
         ⌜ ((rows : Rows) →
         let book = bookOf scalars rows in
         let cause = firstOf (openCauses (now (calendar .entry)) book trades) in
-        (appliedAt r rows ≡ appliedBy cause book (openedBook (now (calendar .entry)) book trades))
+        (appliedAt r rows ≡ appliedBy cause book (turnedBook (now (calendar .entry)) book trades))
         × (tradesOf (now (table .exit)) ≡ tableBy cause trades (openedTable book trades))) ⌝ }
 {
     let standing = scalars.standing;
@@ -119,4 +122,23 @@ pub fn open(calendar: &[u32], scalars: Scalars, table: &mut [u64]) -> Done
     let mut next = scalars;
     next.standing = after;
     done::answered(0, next)
+}
+
+// What was posted is forgotten, unless Open is refused.
+pub fn open(calendar: &[u32], scalars: Scalars, held: &mut [u64], table: &mut [u64]) -> Done
+    requires { ⌜ FitsHeld (now calendar) scalars (now held) (tradesOf (now table)) ⌝ }
+    ensures { λ r.
+        let trades = tradesOf (now (table .entry)) in
+        ⌜ ((kinds units : List ℕ) →
+        let book = bookOf scalars (rowsOf (now (held .entry)) kinds units) in
+        let cause = firstOf (openCauses (now (calendar .entry)) book trades) in
+        (appliedAt r (rowsOf (now (held .exit)) kinds units) ≡ appliedBy cause book (openedBook (now (calendar .entry)) book trades))
+        × (tradesOf (now (table .exit)) ≡ tableBy cause trades (openedTable book trades))) ⌝ }
+{
+    let opened = turned(calendar, scalars, table);
+    let answer = opened.answer;
+    if answer.number == 0 {
+        postings::forget(held);
+    }
+    opened
 }

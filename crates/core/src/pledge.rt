@@ -9,7 +9,7 @@ ghost use Rattle.money.specs.Causes.{firstOf, numberOf};
 ghost use Rattle.money.specs.Collateral.{cashKind};
 ghost use Rattle.rules.specs.Fit.{cashFit, securitiesFit};
 ghost use Rattle.rules.specs.Pledge.{pledgeCauses, pledged, arrived, cashArrived};
-ghost use Rattle.core.specs.Flat.{securityIn, securitiesOf, vaultOf, rowsOf, bookOf, appliedBy, appliedAt, heldLength};
+ghost use Rattle.core.specs.Flat.{securityIn, securitiesOf, postingsOf, vaultOf, rowsOf, bookOf, appliedBy, appliedAt, heldLength};
 use crate::held;
 use money::limits::CASH_KIND;
 use money::limits::UNIT_LIMIT;
@@ -61,8 +61,9 @@ fn pledge_refusal(scalars: Scalars, held: &[u64], kind: u8, units: u64) -> u8
 fn put_arrived(held: &mut [u64], kind: u8, units: u64)
     requires { ⌜ (kind < cashKind) × (length (now held) ≡ heldLength) × (securityIn (now held) kind .arriving + units ≤ unitLimit) ⌝ }
     ensures { λ _.
-        ⌜ securitiesOf (now (held .exit))
-        ≡ set (securitiesOf (now (held .entry))) kind (arrived units (securityIn (now (held .entry)) kind)) ⌝ }
+        ⌜ (securitiesOf (now (held .exit))
+        ≡ set (securitiesOf (now (held .entry))) kind (arrived units (securityIn (now (held .entry)) kind)))
+        × (postingsOf (now (held .exit)) ≡ postingsOf (now (held .entry))) ⌝ }
 {
     let at = kind as usize;
     let mut security = held::security_at(&*held, at);

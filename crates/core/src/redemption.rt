@@ -33,7 +33,7 @@ pub fn redeemed_for(table: &[u64], place: usize, count: Sheets, price: Ticks, pa
     answer.fen
 }
 
-fn maturing_at(table: &[u64], place: usize, today: u32) -> Sheets
+pub fn maturing_at(table: &[u64], place: usize, today: u32) -> Sheets
     requires { ⌜ HasSlot (now table) place ⌝ }
     ensures { λ r. ⌜ r ≡ sheets (maturing today (tradeAt (now (table .entry)) place)) ⌝ }
 {
@@ -85,7 +85,7 @@ pub fn termination_plan(table: &[u64], count: usize, payment: u32) -> Redeemed
     }
 }
 
-fn redeem_one(table: &mut [u64], place: usize, by: u32)
+pub fn redeem_one(table: &mut [u64], place: usize, by: u32)
     requires { ⌜ HasSlot (now table) place ⌝ }
     ensures { λ _.
         ⌜ tradesOf (now (table .exit)) ≡ set (tradesOf (now (table .entry))) place (matured by (tradeAt (now (table .entry)) place)) ⌝ }

@@ -1,15 +1,19 @@
 // A book taken apart into scalars and rows, and put together again: once a call, not once an event.
 ghost use mathlib.Core.Path.{_≡_};
 ghost use lib.ListN.{length};
-ghost use Rattle.core.specs.Flat.{securitiesOf, scalarsOf, rowsOf, bookOf, heldLength};
+ghost use Rattle.core.specs.Flat.{securitiesOf, postingsOf, scalarsOf, rowsOf, bookOf, heldLength};
 use crate::held;
 use crate::layout::HELD_LENGTH;
+use crate::postings;
 use money::limits::SECURITIES;
+use money::units::Ticks;
 use rules::book::Book;
+use rules::book::Posting;
 use rules::book::Security;
 use rules::book::Vault;
 use rules::book::Withdrawals;
 use rules::limits::APPLICATION_LIMIT;
+use rules::limits::PRODUCT_LIMIT;
 use scalars::state::Scalars;
 
 pub fn scalars_of(book: Book) -> Scalars
@@ -33,7 +37,7 @@ pub fn scalars_of(book: Book) -> Scalars
     }
 }
 
-fn fill_held(vault: Vault, held: &mut [u64])
+fn fill_securities(vault: Vault, held: &mut [u64])
     requires { ⌜ length (now held) ≡ heldLength ⌝ }
     ensures { λ _. ⌜ securitiesOf (now (held .exit)) ≡ vault .securities ⌝ }
 {
@@ -44,11 +48,23 @@ fn fill_held(vault: Vault, held: &mut [u64])
     }
 }
 
-pub fn held_of(vault: Vault) -> [u64; HELD_LENGTH]
-    ensures { λ r. ⌜ securitiesOf r ≡ vault .securities ⌝ }
+fn fill_postings(posted: [Posting; PRODUCT_LIMIT], held: &mut [u64])
+    requires { ⌜ length (now held) ≡ heldLength ⌝ }
+    ensures { λ _. ⌜ (postingsOf (now (held .exit)) ≡ posted) × (securitiesOf (now (held .exit)) ≡ securitiesOf (now (held .entry))) ⌝ }
+{
+    let mut number = 0;
+    while number < PRODUCT_LIMIT {
+        postings::put_posting(held, number, posted[number]);
+        number += 1;
+    }
+}
+
+pub fn held_of(vault: Vault, posted: [Posting; PRODUCT_LIMIT]) -> [u64; HELD_LENGTH]
+    ensures { λ r. ⌜ (securitiesOf r ≡ vault .securities) × (postingsOf r ≡ posted) ⌝ }
 {
     let mut held = [0; HELD_LENGTH];
-    fill_held(vault, &mut held);
+    fill_securities(vault, &mut held);
+    fill_postings(posted, &mut held);
     held
 }
 
@@ -81,6 +97,22 @@ fn securities_from(held: &[u64; HELD_LENGTH]) -> [Security; SECURITIES]
     securities
 }
 
+fn postings_from(held: &[u64; HELD_LENGTH]) -> [Posting; PRODUCT_LIMIT]
+    ensures { λ r. ⌜ r ≡ postingsOf (now (held .entry)) ⌝ }
+{
+    let mut posted = [Posting {
+        term: 0,
+        price: Ticks(0),
+        fallback: Ticks(0),
+    }; PRODUCT_LIMIT];
+    let mut number = 0;
+    while number < PRODUCT_LIMIT {
+        posted[number] = postings::posting_at(held, number);
+        number += 1;
+    }
+    posted
+}
+
 pub fn book_of(
     scalars: Scalars,
     held: &[u64; HELD_LENGTH],
@@ -110,6 +142,7 @@ pub fn book_of(
             units,
             count: scalars.applications,
         },
+        postings: postings_from(held),
         trades: scalars.trades,
     }
 }

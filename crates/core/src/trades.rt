@@ -15,6 +15,7 @@ use money::limits::PRICE_LIMIT;
 use money::limits::TRADE_LIMIT;
 use money::units::Sheets;
 use rules::limits::CAPACITY_LIMIT;
+use rules::limits::PRODUCT_LIMIT;
 use rules::trade::Contract;
 use sort::order;
 
@@ -27,6 +28,9 @@ const SOME: usize = 1_024;
 const SOME_BUCKETS: usize = 8_191;
 
 const MANY_BUCKETS: usize = 32_749;
+
+// A trade's product is 0, or a number below this one plus 1.
+const PRODUCTS: u64 = PRODUCT_LIMIT as u64;
 
 // O, the sheets left on the table.
 pub fn outstanding_of(table: &[u64], count: usize) -> Sheets
@@ -163,7 +167,10 @@ fn trade_fits(table: &[u64], place: usize) -> bool
         return false;
     }
     let fallback = flat::fallback_at(table, place);
-    fallback.0 <= PRICE_LIMIT
+    if fallback.0 > PRICE_LIMIT {
+        return false;
+    }
+    flat::product_at(table, place) <= PRODUCTS
 }
 
 fn later(a: u32, b: u32) -> u32

@@ -76,7 +76,7 @@ module _ {M : Type 1} (𝓤 : URA M) (H : Heap 𝓤) (A : Atoms 𝓤) (W : Given
   abbrev to : Put 𝓤 H A mem run .Ghost
   to = (((ν ∷ [], tt), (fullShare, tt), tt, (slice-at b o δ us, (k, (t, tt))), (sliceVal (b, o) m ∷ [], (vint w64 k ∷ [], (tv t ∷ [], tt)))), tt)
 
-  goes : k * width + 3 < length us → k < 2 ^ 64 → Is T.the-row t (tv t ∷ []) → ent 𝓤 (⋆ 𝓤 H A (‵ (Slice u64 (ν ∷ []) b o m δ us) ∷ ‵ (flft (ν ∷ []) fullShare) ∷ [])) (Put 𝓤 H A mem run .pre to)
+  goes : k * width + 4 < length us → k < 2 ^ 64 → Is T.the-row t (tv t ∷ []) → ent 𝓤 (⋆ 𝓤 H A (‵ (Slice u64 (ν ∷ []) b o m δ us) ∷ ‵ (flft (ν ∷ []) fullShare) ∷ [])) (Put 𝓤 H A mem run .pre to)
   goes fits gk gt =
       qed W (‵ (Slice u64 (ν ∷ []) b o m δ us) ∷ ‵ (flft (ν ∷ []) fullShare) ∷ []) ∵ says ! fits $ nothing ! $ move ! (2 ∷ 0 ∷ []) $ join ! $ frame ! $
       nothing ! $ owned ! T.the-row (Is T.the-row) (LL.makes T.the-type T′.the-plain 𝓤 H A) t _ gt $ fjoin ! $ owned ! usize (Is usize) (uint-makes 𝓤 H A W w64) k _ (refl, gk) $ fjoin ! $ move ! (1 ∷ 0 ∷ []) $ fjoin ! $ done !
@@ -185,7 +185,7 @@ module _ {M : Type 1} (𝓤 : URA M) (H : Heap 𝓤) (A : Atoms 𝓤) (W : Given
         assigns ! (agg ! (and-then ! (loads ! (from ! (stop !)) (look ! 12 refl)) (and-then ! (loads ! (from ! (fld ! refl (stop !))) (look-in ! 22 (sub ! 1 refl (whole !)))) (no-more !)))) (from ! (stop !)) (init ! 10 refl (tt, (tt, (record { fits = flat-room .0 }, tt)))) $
         assigns ! (bin ! (loads ! (from ! (stop !)) (look ! 18 refl)) (lit ! tt) (record { fits = place-fits small (room .1) })) (from ! (stop !)) (init ! 8 refl (tt, record { fits = place-fits small (room .1) })) $
         assigns ! (bin ! (loads ! (from ! (fld ! refl (stop !))) (look-in ! 24 (sub ! 0 refl (whole !)))) (loads ! (from ! (stop !)) (look ! 8 refl)) tt) (from ! (stop !)) (init ! 6 refl (tt, tt)) $
-        rewrite ! 6 (λ (p : ℕ). ‵ (fat fullShare tyPtr l₁₀ 0 (vptr (tab .ptr .0) p))) (sym (place-is 32 (tab .ptr .1) k)) refl $
+        rewrite ! 6 (λ (p : ℕ). ‵ (fat fullShare tyPtr l₁₀ 0 (vptr (tab .ptr .0) p))) (sym (place-is 40 (tab .ptr .1) k)) refl $
         -- what the table owns is had twice, and one copy is taken apart for the fractured borrow in it
         move ! (3 ∷ []) $ use1 W (‵ Own ⊛ ‵ Own) (shr-slice-copy 𝓤 H A W (named 0) κ T.the-row .twice tab (cv ∷ [])) $ split ! $ fsplit ! $ drop ! $ fsplit ! $ drop ! $ move ! (0 ∷ 4 ∷ []) $
         looks-slice ! tt T.the-row (Is T.the-row) (shows 𝓤 H A T.the-row) (LL.vals T.the-type T′.the-laws) (LL.tells T.the-type T′.the-laws) (LL.copy T.the-type T′.the-copy 𝓤 H A W) ts (tab .ptr .0) (tab .ptr .1) (λ q″.
@@ -209,8 +209,8 @@ module _ {M : Type 1} (𝓤 : URA M) (H : Heap 𝓤) (A : Atoms 𝓤) (W : Given
         elem : Trade
         elem = getD ts k noTrade
 
-        words : k * width + 3 < length us
-        words = subst (λ (j : ℕ). k * width + 3 < j) (sym (c .long)) (words-fit small fit)
+        words : k * width + 4 < length us
+        words = subst (λ (j : ℕ). k * width + 4 < j) (sym (c .long)) (words-fit small fit)
 
         k-fits : k < 2 ^ 64
         k-fits = omega (arith, small, room .0)

@@ -117,7 +117,7 @@ module _ {M : Type 1} (𝓤 : URA M) (H : Heap 𝓤) (A : Atoms 𝓤) (W : Given
   abbrev to-get : ℕ → Get 𝓤 H A mem run .Ghost
   to-get k = (((κ, tt), (q, tt), tt, (flat, (k, tt)), (cv ∷ [], (vint w64 k ∷ [], tt))), tt)
 
-  goes-get : (k : ℕ) → k < 2 ^ 64 → k * width + 3 < length (now flat) → ent 𝓤 (sep 𝓤 (A .lft κ q) (sem 𝓤 H A Own)) (sep 𝓤 (Get 𝓤 H A mem run .pre (to-get k)) (sem 𝓤 H A Own))
+  goes-get : (k : ℕ) → k < 2 ^ 64 → k * width + 4 < length (now flat) → ent 𝓤 (sep 𝓤 (A .lft κ q) (sem 𝓤 H A Own)) (sep 𝓤 (Get 𝓤 H A mem run .pre (to-get k)) (sem 𝓤 H A Own))
   goes-get k gk fits =
       qed W (‵ (flft κ q) ∷ ‵ Own ∷ []) ∵ move ! (1 ∷ []) $ use1 W (‵ Own ⊛ ‵ Own) (shr-slice-copy 𝓤 H A W (named 0) κ u64 .twice flat (cv ∷ [])) $ split ! $
       nothing ! $ owned ! usize (Is usize) (uint-makes 𝓤 H A W w64) k _ (refl, gk) $ fjoin ! $ move ! (1 ∷ 0 ∷ []) $ fjoin ! $
@@ -177,7 +177,7 @@ module _ {M : Type 1} (𝓤 : URA M) (H : Heap 𝓤) (A : Atoms 𝓤) (W : Given
         -- as before the call
         assigns ! (bin ! (loads ! (from ! (stop !)) (look ! 14 refl)) (lit ! tt) (record { fits = place-fits small (room .1) })) (from ! (stop !)) (init ! 8 refl (tt, record { fits = place-fits small (room .1) })) $
         assigns ! (bin ! (loads ! (from ! (fld ! refl (stop !))) (look-in ! 18 (sub ! 0 refl (whole !)))) (loads ! (from ! (stop !)) (look ! 8 refl)) tt) (from ! (stop !)) (init ! 6 refl (tt, tt)) $
-        rewrite ! 6 (λ (p : ℕ). ‵ (fat fullShare tyPtr l₈ 0 (vptr b p))) (sym (place-is 32 o k)) refl $
+        rewrite ! 6 (λ (p : ℕ). ‵ (fat fullShare tyPtr l₈ 0 (vptr b p))) (sym (place-is 40 o k)) refl $
         elem-out ! T.the-row (Is T.the-row) (shows 𝓤 H A T.the-row) (LL.vals T.the-type T′.the-laws) (LL.tells T.the-type T′.the-laws) fullShare (z k) k noTrade b o within (λ _.
         assigns ! (of-opd ! (loads ! (from ! (stop !)) (look ! 14 refl))) (from ! (hop ! (look ! 8 refl) (stop !))) (store-raw ! 0 refl (LL.lawful T.the-type T′.the-laws 𝓤 H A W .typed r _ (good r u is) .0)) $
         move ! (1 ∷ []) $ drop ! $ owned ! T.the-row (Is T.the-row) (LL.makes T.the-type T′.the-plain 𝓤 H A) r _ (good r u is) $ move ! (1 ∷ 0 ∷ []) $ elem-put ! T.the-row fullShare (z k) k r (tv r ∷ []) b o within $

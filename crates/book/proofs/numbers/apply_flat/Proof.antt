@@ -1,5 +1,6 @@
-use mathlib.Core.Path.{ap, _∙_}
+use mathlib.Core.Path.{_≡_, ap, _∙_}
 use borrow.Author.Needs.{needs}
+use lib.ListN.{length}
 use Rattle.rules.specs.Step.{Outcome, step}
 use Rattle.book.specs.Types.{Book}
 use Rattle.core.specs.Flat.{tradesOf, appliedOf}
@@ -46,8 +47,24 @@ applied c = search needs
 abbrev units-made : tie.After-apply → tie.After-units-of
 units-made c = search needs
 
+abbrev held-made : tie.After-units-of → tie.After-held-of
+held-made c = search needs
+
+abbrev scalars-made : tie.After-held-of → tie.After-scalars-of
+scalars-made c = search needs
+
 abbrev from : tie.After-units-of → tie.Start
 from c = search needs
+
+-- the rows are as long as the arrays that they were made as
+held-long : (c : tie.After-held-of) → length (c .held-of .result) ≡ 160
+held-long c = search needs
+
+kinds-long : (c : tie.After-kinds-of) → length (c .kinds-of .result) ≡ 128
+kinds-long c = search needs
+
+units-long : (c : tie.After-units-of) → length (c .units-of .result) ≡ 128
+units-long c = search needs
 
 returns : tie.Need-returns
 returns c =
@@ -55,13 +72,14 @@ returns c =
     let made = units-made done in
     let units-row = made .units-of in
     let kinds-row = made .before .kinds-of in
-    let held-row = made .before .before .held-of in
-    let scalars = made .before .before .before .scalars-of in
+    let lent-held = held-made made in
+    let held-row = lent-held .held-of in
+    let scalars = scalars-made lent-held .scalars-of in
     let start = from made in
     let a = start .args in
     let l : Lent = lent (scalars .result) (held-row .result) (kinds-row .result) (units-row .result) (a .table .now) in
-    let long : Lengths l = record { held = search needs; kinds = search needs; units = search needs; table = start .pre } in
-    let same = whole (a .book) (held-row .result) (scalars .ensures) (held-row .ensures) (kinds-row .ensures) (units-row .ensures) in
+    let long : Lengths l = record { held = held-long lent-held; kinds = kinds-long (made .before); units = units-long made; table = start .pre } in
+    let same = whole (a .book) (held-row .result) (scalars .ensures) (held-row .ensures .0) (held-row .ensures .1) (kinds-row .ensures) (units-row .ensures) in
     let lent-step = done .apply .ensures .0 ∙ by-step (a .calendar .now) l (all-whole l long) (a .entry) in
     let told = lent-step ∙ ap (λ (book : Book). step (a .calendar .now) book (tradesOf (a .table .now)) (a .entry)) same in
     (rw (c .book-of .ensures) (ap (λ (o : Outcome). appliedOf o) told), ap (λ (o : Outcome). o .table) told)

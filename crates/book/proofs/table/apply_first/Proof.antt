@@ -5,7 +5,7 @@ use borrow.Author.Needs.{needs}
 use lib.ListN.{length, take, drop}
 use lib.Seq.{length-take-le}
 use Rattle.core.specs.Flat.{width, tradesTo, tradesOf}
-use Rattle.book.proofs.TableLaws.{fours, trades-of-front, trades-before}
+use Rattle.book.proofs.TableLaws.{whole-trades, trades-of-front, trades-before}
 use Rattle.book.proofs.table.apply_first.Statement.{statement}
 use Rattle.book.proofs.table.apply_first.Tie as tie
 
@@ -23,7 +23,7 @@ slice-aggregate-apply-flat c =
 apply-flat-requires : tie.Need-apply-flat-requires
 apply-flat-requires c κs =
     let a = c .before .before .before in
-    ap (λ (n : ℕ). n % width) (length-take-le (a .args .count * width) (a .args .flat .now) (a .pre)) ∙ fours (a .args .count)
+    ap (λ (n : ℕ). n % width) (length-take-le (a .args .count * width) (a .args .flat .now) (a .pre)) ∙ whole-trades (a .args .count)
 
 same-length : tie.Need-same-length
 same-length c = search needs

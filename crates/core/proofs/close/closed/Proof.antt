@@ -1,17 +1,19 @@
+use Prim.Native.Nat.{ℕ}
 use mathlib.Core.Path.{_≡_, ap, _∙_}
 use mathlib.Core.List.{List}
+use native.Mathlib.Omega.{arith}
 use borrow.Author.Needs.{needs}
 use lib.ListN.{length}
-use Rattle.money.specs.Days.{Calendar}
-use Rattle.rules.specs.Trades.{outstanding, remaining}
-use Rattle.rules.specs.Close.{maturedTrades, unpaidAtClose, claimsAtClose, evening}
+use Rattle.rules.specs.Trades.{remaining}
+use Rattle.rules.specs.Close.{leftTrades, unpaidAtClose, claimsAtClose, evening}
 use Rattle.core.specs.Types.{Book, Trade}
 use Rattle.core.specs.Flat.{tradesTo, tradesOf, securitiesOf, rowsOf, bookOf, eveningAt}
-use Rattle.core.proofs.CloseLaws.{redeemed-kept, trades-after-maturity, packed-after-maturity, claims-joined, rows-cleared, close-done}
+use Rattle.core.specs.NextTerm.{Planned}
+use Rattle.core.proofs.CloseLaws.{trades-left, packed-left, claims-joined, rows-cleared, close-done}
 use Rattle.core.proofs.close.closed.Statement.{statement}
 use Rattle.core.proofs.close.closed.Tie as tie
 
--- the definitions at the arguments: the book, and the trades after maturity
+-- the definitions at the arguments: the book, and its trades as (b) begins
 module _ (s : tie.Start) where
   abbrev book : Book
   book = bookOf (s .args .scalars) (rowsOf (s .args .held .now) (s .args .kinds .now) (s .args .units .now))
@@ -20,7 +22,10 @@ module _ (s : tie.Start) where
   trades = tradesOf (s .args .table .now)
 
   abbrev left-of : List Trade
-  left-of = maturedTrades book trades
+  left-of = leftTrades (s .args .calendar .now) book trades
+
+  abbrev AsPlanned : Type 0
+  AsPlanned = Planned (s .args .calendar .now) book (s .args .held .now) trades (s .args .plan)
 
 -- back from the end, a few steps at a time: a search looks so far and no further
 abbrev ended : tie.After-clear → tie.After-evening-end
@@ -32,49 +37,46 @@ cleared c = search needs
 abbrev packed : tie.After-evening-end → tie.After-pack
 packed c = search needs
 
-abbrev counted : tie.After-evening-end → tie.After-outstanding-of
-counted c = search needs
+abbrev settled : tie.After-pack → tie.After-settle
+settled c = search needs
 
-abbrev redeemed : tie.After-outstanding-of → tie.After-redeem-due
-redeemed c = search needs
+abbrev from-settle : tie.After-settle → tie.Start
+from-settle c = search needs
 
--- those stand in the table, and O counts their sheets
-module _ (c : tie.After-outstanding-of) where
-  abbrev from-count : tie.Start
-  from-count = search needs
+abbrev from-pack : tie.After-pack → tie.Start
+from-pack c = from-settle (settled c)
 
-  trades-left : tradesTo (redeemed c .redeem-due .last .0) (from-count .args .scalars .trades) ≡ left-of from-count
-  trades-left =
-      let due = redeemed c in
-      trades-after-maturity (book from-count) _ _ _ (due .before .day-number .ensures) (from-count .pre .1) (due .redeem-due .kept .0) (due .redeem-due .ensures)
+-- the slots are settled as planned
+module _ (c : tie.After-settle) where
+  abbrev s : tie.Start
+  s = from-settle c
 
-  sheets-left : c .outstanding-of .result .0 ≡ outstanding (left-of from-count)
-  sheets-left = c .outstanding-of .ensures ∙ ap outstanding trades-left
+  abbrev after : List ℕ
+  after = c .settle .last .1 .1 .0
+
+  in-slots : AsPlanned s → tradesTo after (s .args .scalars .trades) ≡ left-of s
+  in-slots plan =
+      trades-left (s .args .calendar .now) (book s) (s .args .table .now) after (s .args .plan .outstanding .0) (plan .outstanding) (s .pre .2) (c .settle .kept .1 .1 .0) (c .settle .ensures (book s) (plan .met))
 
 -- the evening's end
 module _ (c : tie.After-evening-end) where
   abbrev from-evening : tie.Start
-  from-evening = from-count (counted c)
+  from-evening = from-pack (packed c)
 
-  evening-over : (calendar : Calendar) → from-evening .args .unpaid ≡ unpaidAtClose calendar (book from-evening) (trades from-evening)
-      → eveningAt (c .evening-end .result) (securitiesOf (c .evening-end .last .1 .0)) ≡ evening (book from-evening) (claimsAtClose calendar (book from-evening) (left-of from-evening) (trades from-evening))
-  evening-over calendar unpaid =
-      c .evening-end .ensures .0 ∙ ap (evening (book from-evening)) (claims-joined calendar (book from-evening) (left-of from-evening) (trades from-evening) _ (from-evening .args .unpaid) (sheets-left (counted c)) unpaid)
+  evening-over : AsPlanned from-evening → from-evening .args .unpaid ≡ unpaidAtClose (from-evening .args .calendar .now) (book from-evening) (trades from-evening)
+      → eveningAt (c .evening-end .result) (securitiesOf (c .evening-end .last .1 .0)) ≡ evening (book from-evening) (claimsAtClose (from-evening .args .calendar .now) (book from-evening) (left-of from-evening) (trades from-evening))
+  evening-over plan unpaid =
+      c .evening-end .ensures .0
+      ∙ ap (evening (book from-evening)) (claims-joined (from-evening .args .calendar .now) (book from-evening) (left-of from-evening) (trades from-evening) _ (from-evening .args .unpaid) (plan .left) unpaid)
 
-day-number-requires : tie.Need-day-number-requires
-day-number-requires c κs = search needs
-
-redeem-due-requires : tie.Need-redeem-due-requires
-redeem-due-requires c κs = search needs
-
-outstanding-of-requires : tie.Need-outstanding-of-requires
-outstanding-of-requires c κs =
-    let s : tie.Start = search needs in
-    let due : tie.After-redeem-due = search needs in
-    redeemed-kept _ _ _ _ (s .pre .1) (due .redeem-due .kept .0) (due .redeem-due .ensures)
+settle-requires : tie.Need-settle-requires
+settle-requires c κs = search needs
 
 pack-requires : tie.Need-pack-requires
-pack-requires c κs = search needs
+pack-requires c κs =
+    let q : tie.After-settle = search needs in
+    let start = from-settle q in
+    omega (arith, start .pre .2 .room, q .settle .kept .1 .1 .0)
 
 evening-end-requires : tie.Need-evening-end-requires
 evening-end-requires c κs = search needs
@@ -101,33 +103,31 @@ same-length-3 c = search needs
 
 same-length-4 : tie.Need-same-length-4
 same-length-4 c =
-    let end = ended (cleared c) in packed end .pack .kept .0 ∙ redeemed (counted end) .redeem-due .kept .0
+    let pack = packed (ended (cleared c)) in pack .pack .kept .0 ∙ settled pack .settle .kept .1 .1 .0
 
 returns : tie.Need-returns
-returns c =
+returns c plan nets unpaid =
     let clear = cleared c .clear in
     let end = ended (cleared c) in
-    let pack = packed end .pack in
-    let count = counted end in
-    let due = redeemed count in
-    let s = from-count count in
-    let scalars = c .before .closed-scalars in (
-      (λ calendar matured nets unpaid.
-          let kept = pack .ensures .0 ∙ ap (λ l. length (remaining l)) (trades-left count) in
-          let next = scalars .ensures calendar _ _ (left-of s) (trades s) nets unpaid (evening-over end calendar unpaid) (end .evening-end .ensures .1) (sheets-left count) kept in
-          rw (c .of-close .ensures)
-          (close-done calendar (book s) (left-of s) (trades s) (s .args .matured) (end .evening-end .result) (securitiesOf (end .evening-end .last .1 .0))
-          (scalars .result) (rowsOf (end .evening-end .last .1 .0) (clear .last .0) (clear .last .1 .0)) matured (evening-over end calendar unpaid) (rows-cleared _ _ (clear .ensures .0) (clear .ensures .1) next))),
-      pack .ensures .1 ∙ packed-after-maturity (book s) _ _ _ (due .before .day-number .ensures) (s .pre .1) (due .redeem-due .kept .0) (due .redeem-due .ensures),
+    let pack = packed end in
+    let done = settled pack in
+    let start = from-settle done in
+    let scalars = c .before .closed-scalars in
+    let calendar = start .args .calendar .now in
+    let kept = pack .pack .ensures .0 ∙ ap (λ l. length (remaining l)) (in-slots done plan) in
+    let next = scalars .ensures calendar _ _ (left-of start) (trades start) nets unpaid (evening-over end plan unpaid) (end .evening-end .ensures .1) (plan .left) kept (end .evening-end .ensures .2) in (
+      rw (c .of-close .ensures)
+          (close-done calendar (book start) (left-of start) (trades start) (start .args .plan .matured) (end .evening-end .result) (securitiesOf (end .evening-end .last .1 .0))
+          (scalars .result) (rowsOf (end .evening-end .last .1 .0) (clear .last .0) (clear .last .1 .0)) (plan .matured) (evening-over end plan unpaid) (rows-cleared _ _ (clear .ensures .0) (clear .ensures .1) next)),
+      pack .pack .ensures .1
+          ∙ packed-left calendar (book start) (start .args .table .now) (after done) (start .args .plan .outstanding .0) (plan .outstanding) (start .pre .2) (done .settle .kept .1 .1 .0) (done .settle .ensures (book start) (plan .met)),
     )
 
 pub closed-spec : {M : Type 1} → statement M
 closed-spec =
     tie.close
     (tie.spec
-    day-number-requires
-    redeem-due-requires
-    outstanding-of-requires
+    settle-requires
     pack-requires
     evening-end-requires
     clear-requires

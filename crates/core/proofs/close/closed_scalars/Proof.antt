@@ -21,8 +21,8 @@ unfolding closedBook isShortClose
 returns c =
     let at-is-short : tie.After-is-short = search needs in
     let set : tie.After-with-unpaid = search needs in
-    λ calendar rows held trades table nets unpaid end valued left kept.
-    rw (c .closed-standing .ensures, c .before .short-at-close .ensures, at-is-short .is-short .ensures, set .with-unpaid .ensures, valued, nets, unpaid, sym end, left, kept)
+    λ calendar rows held trades table nets unpaid end valued left kept posted.
+    rw (c .closed-standing .ensures, c .before .short-at-close .ensures, at-is-short .is-short .ensures, set .with-unpaid .ensures, valued, nets, unpaid, sym end, left, kept, posted)
 
 pub closed-scalars-spec : {M : Type 1} → statement M
 closed-scalars-spec =

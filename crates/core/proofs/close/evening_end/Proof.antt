@@ -28,7 +28,7 @@ value-of-requires c κs =
     let s : tie.Start = search needs in
     let sound = sound-of (begun (book s)) (evening-begins (book s) (s .pre .securities) (s .pre .cash)) in
     let at-guarantee-arrived : tie.After-guarantee-arrived = search needs in
-    rw (at-guarantee-arrived .guarantee-arrived .ensures, at-all-arrived .all-arrived .ensures)
+    rw (at-guarantee-arrived .guarantee-arrived .ensures, at-all-arrived .all-arrived .ensures .0)
     (at-all-arrived .all-arrived .kept .0 ∙ s .pre .held-long, sound .0, sound .1, sound .2)
 
 is-served-requires : tie.Need-is-served-requires
@@ -46,7 +46,7 @@ applications-requires c κs =
     let at-value-of : tie.After-value-of = search needs in
     let cash = at-guarantee-arrived .guarantee-arrived .ensures in (
       (s .pre .kinds-long, s .pre .units-long, arrived .kept .0 ∙ s .pre .held-long, s .pre .withdrawals),
-      (rw (cash, arrived .ensures) (sound .0), rw cash (sound .1), rw cash (sound .2), rw cash (kept .cash), at-value-of .value-of .ensures, refl, refl),
+      (rw (cash, arrived .ensures .0) (sound .0), rw cash (sound .1), rw cash (sound .2), rw cash (kept .cash), at-value-of .value-of .ensures, refl, refl),
     )
 
 same-length : tie.Need-same-length
@@ -59,7 +59,7 @@ returns c =
     let at-guarantee-arrived : tie.After-guarantee-arrived = search needs in
     let at-all-arrived : tie.After-all-arrived = search needs in
     let end : tie.After-applications = search needs in
-    (rw (end .applications .ensures .0, at-is-served .is-served .ensures, at-guarantee-arrived .guarantee-arrived .ensures, at-all-arrived .all-arrived .ensures), end .applications .ensures .1)
+    (rw (end .applications .ensures .0, at-is-served .is-served .ensures, at-guarantee-arrived .guarantee-arrived .ensures, at-all-arrived .all-arrived .ensures .0), end .applications .ensures .1, end .applications .ensures .2 ∙ at-all-arrived .all-arrived .ensures .1)
 
 pub evening-end-spec : {M : Type 1} → statement M
 evening-end-spec =

@@ -47,7 +47,7 @@ enum-told c = search needs
 open-requires : tie.Need-open-requires
 open-requires c κs =
     let s : tie.Start = search needs in
-    record { rows = rows s; few = s .pre .book .few; fits = s .pre .book .fits }
+    record { kinds = s .args .kinds .now; units = s .args .units .now; held-long = s .pre .book .held-long; few = s .pre .book .few; fits = s .pre .book .fits }
 
 enum-known-event : tie.Need-enum-known-event
 enum-known-event c = search needs
@@ -142,10 +142,21 @@ enum-told-3 c = search needs
 close-requires : tie.Need-close-requires
 close-requires c κs =
     let s : tie.Start = search needs in
-    s .pre .book
+    s .pre
+
+enum-known-event-10 : tie.Need-enum-known-event-10
+enum-known-event-10 c = search needs
+
+post-requires : tie.Need-post-requires
+post-requires c κs =
+    let s : tie.Start = search needs in
+    s .pre .book .held-long
 
 same-length : tie.Need-same-length
 same-length c = search needs
+
+same-length-2 : tie.Need-same-length-2
+same-length-2 c = search needs
 
 returns : tie.Need-returns
 unfolding eventCauses act
@@ -153,7 +164,7 @@ returns c =
     let at-open : tie.After-open = search needs in
     let at-enum-told : tie.After-enum-told = search needs in
     let s : tie.Start = search needs in
-    rw (at-enum-told .enum-told .given .1) (changes-table _ (book s) (table s) (s .pre .book .fits) (s .pre .book .few) _ _ _ refl _ _ (at-open .«open» .ensures (rows s)))
+    rw (at-enum-told .enum-told .given .1) (changes-table _ (book s) (table s) (s .pre .book .fits) (s .pre .book .few) _ _ _ refl _ _ (at-open .«open» .ensures (s .args .kinds .now) (s .args .units .now)))
 
 returns-2 : tie.Need-returns-2
 unfolding eventCauses act
@@ -176,8 +187,8 @@ returns-4 c =
     let s : tie.Start = search needs in
     rw (at-event3 .event3 .given .1) (leaves-table _ (book s) (table s) (s .pre .book .fits) (s .pre .book .few) _ _ refl _ (c .set-size .ensures (rows s) (table s) (s .pre .sheets)))
 
-same-length-2 : tie.Need-same-length-2
-same-length-2 c = search needs
+same-length-3 : tie.Need-same-length-3
+same-length-3 c = search needs
 
 returns-5 : tie.Need-returns-5
 unfolding eventCauses act
@@ -187,8 +198,8 @@ returns-5 c =
     let s : tie.Start = search needs in
     rw (at-event4 .event4 .given .1) (leaves-table _ (book s) (table s) (s .pre .book .fits) (s .pre .book .few) _ _ refl _ (at-set-rate .set-rate .ensures (s .args .kinds .now) (s .args .units .now)))
 
-same-length-3 : tie.Need-same-length-3
-same-length-3 c = search needs
+same-length-4 : tie.Need-same-length-4
+same-length-4 c = search needs
 
 returns-6 : tie.Need-returns-6
 unfolding eventCauses act
@@ -198,8 +209,8 @@ returns-6 c =
     let s : tie.Start = search needs in
     rw (at-event5 .event5 .given .1) (leaves-table _ (book s) (table s) (s .pre .book .fits) (s .pre .book .few) _ _ refl _ (at-pledge .pledge .ensures (s .args .kinds .now) (s .args .units .now)))
 
-same-length-4 : tie.Need-same-length-4
-same-length-4 c = search needs
+same-length-5 : tie.Need-same-length-5
+same-length-5 c = search needs
 
 returns-7 : tie.Need-returns-7
 unfolding eventCauses act
@@ -209,14 +220,14 @@ returns-7 c =
     let s : tie.Start = search needs in
     rw (at-event6 .event6 .given .1) (leaves-table _ (book s) (table s) (s .pre .book .fits) (s .pre .book .few) _ _ refl _ (at-freeze .freeze .ensures (s .args .kinds .now) (s .args .units .now)))
 
-same-length-5 : tie.Need-same-length-5
-same-length-5 c = search needs
-
 same-length-6 : tie.Need-same-length-6
 same-length-6 c = search needs
 
 same-length-7 : tie.Need-same-length-7
 same-length-7 c = search needs
+
+same-length-8 : tie.Need-same-length-8
+same-length-8 c = search needs
 
 returns-8 : tie.Need-returns-8
 unfolding eventCauses act
@@ -226,11 +237,11 @@ returns-8 c =
     let s : tie.Start = search needs in
     rw (at-event7 .event7 .given .1) (leaves-table _ (book s) (table s) (s .pre .book .fits) (s .pre .book .few) _ _ refl _ (at-withdraw .withdraw .ensures))
 
-same-length-8 : tie.Need-same-length-8
-same-length-8 c = search needs
-
 same-length-9 : tie.Need-same-length-9
 same-length-9 c = search needs
+
+same-length-10 : tie.Need-same-length-10
+same-length-10 c = search needs
 
 returns-9 : tie.Need-returns-9
 unfolding eventCauses act
@@ -240,8 +251,8 @@ returns-9 c =
     let s : tie.Start = search needs in
     rw (at-event8 .event8 .given .1) (changes-table _ (book s) (table s) (s .pre .book .fits) (s .pre .book .few) _ _ _ refl _ _ (at-initial .initial .ensures (s .args .kinds .now) (s .args .units .now)))
 
-same-length-10 : tie.Need-same-length-10
-same-length-10 c = search needs
+same-length-11 : tie.Need-same-length-11
+same-length-11 c = search needs
 
 returns-10 : tie.Need-returns-10
 unfolding eventCauses act
@@ -257,9 +268,6 @@ returns-11 c =
     let s : tie.Start = search needs in
     rw (c .before .enum-told2 .given .1) (leaves-table _ (book s) (table s) (s .pre .book .fits) (s .pre .book .few) _ _ refl _ (c .pay .ensures (rows s)))
 
-same-length-11 : tie.Need-same-length-11
-same-length-11 c = search needs
-
 same-length-12 : tie.Need-same-length-12
 same-length-12 c = search needs
 
@@ -269,6 +277,9 @@ same-length-13 c = search needs
 same-length-14 : tie.Need-same-length-14
 same-length-14 c = search needs
 
+same-length-15 : tie.Need-same-length-15
+same-length-15 c = search needs
+
 returns-12 : tie.Need-returns-12
 unfolding eventCauses act
 returns-12 c =
@@ -276,6 +287,17 @@ returns-12 c =
     let at-close : tie.After-close = search needs in
     let s : tie.Start = search needs in
     rw (at-enum-told3 .enum-told3 .given .1) (changes-table _ (book s) (table s) (s .pre .book .fits) (s .pre .book .few) _ _ _ refl _ _ (at-close .close .ensures))
+
+same-length-16 : tie.Need-same-length-16
+same-length-16 c = search needs
+
+returns-13 : tie.Need-returns-13
+unfolding eventCauses act
+returns-13 c =
+    let at-post : tie.After-post = search needs in
+    let at-event10 : tie.After-event10 = search needs in
+    let s : tie.Start = search needs in
+    rw (at-event10 .event10 .given .1) (leaves-table _ (book s) (table s) (s .pre .book .fits) (s .pre .book .few) _ _ refl _ (at-post .post .ensures (s .args .kinds .now) (s .args .units .now)))
 
 pub event-on-spec : {M : Type 1} → statement M
 event-on-spec =
@@ -305,29 +327,34 @@ event-on-spec =
     pay-requires
     enum-told-3
     close-requires
+    enum-known-event-10
+    post-requires
     same-length
+    same-length-2
     returns
     returns-2
     returns-3
     returns-4
-    same-length-2
-    returns-5
     same-length-3
-    returns-6
+    returns-5
     same-length-4
-    returns-7
+    returns-6
     same-length-5
+    returns-7
     same-length-6
     same-length-7
-    returns-8
     same-length-8
+    returns-8
     same-length-9
-    returns-9
     same-length-10
+    returns-9
+    same-length-11
     returns-10
     returns-11
-    same-length-11
     same-length-12
     same-length-13
     same-length-14
-    returns-12)
+    same-length-15
+    returns-12
+    same-length-16
+    returns-13)

@@ -6,7 +6,7 @@ use lib.ListN.{length, getD}
 use Rattle.rules.specs.Book.{noSecurity}
 use Rattle.rules.specs.Close.{securityArrived}
 use Rattle.rules.proofs.FitParts.{securities-fit}
-use Rattle.core.specs.Flat.{securitiesOf}
+use Rattle.core.specs.Flat.{securitiesOf, postingsOf}
 use Rattle.core.proofs.HeldLaws.{length-securities, security-below}
 use Rattle.core.proofs.EveningLaws.{mapBelow, map-none, map-more, map-all, still-there}
 use Rattle.core.proofs.evening.all_arrived.Statement.{statement}
@@ -14,13 +14,13 @@ use Rattle.core.proofs.evening.all_arrived.Tie as tie
 
 abbrev Inv-loop : tie.InvT-loop
 Inv-loop held₀ kind₀ held kind =
-    (kind ≤ 32) × (length held ≡ length held₀) × (securitiesOf held ≡ mapBelow securityArrived kind (securitiesOf held₀))
+    (kind ≤ 32) × (length held ≡ length held₀) × (securitiesOf held ≡ mapBelow securityArrived kind (securitiesOf held₀)) × (postingsOf held ≡ postingsOf held₀)
 
 abbrev μ-loop : tie.MeasureT-loop
 μ-loop held₀ kind₀ held kind = 32 - kind
 
 loop-holds : tie.Need-loop-holds Inv-loop μ-loop
-loop-holds c = (omega arith, refl, sym (map-none securityArrived _))
+loop-holds c = (omega arith, refl, sym (map-none securityArrived _), refl)
 
 security-at-requires : tie.Need-security-at-requires Inv-loop μ-loop
 security-at-requires c κs = search needs
@@ -55,7 +55,8 @@ loop-again c =
     let l = securitiesOf (s .args .held .now) in (
       search needs,
       put .put-security .kept .0 ∙ loop .inv .1,
-      put .put-security .ensures ∙ rw (put .before .security-arrived .ensures, at-hand at, loop .inv .2) (map-more securityArrived (loop .kind) l noSecurity (omega (arith, length-securities (s .args .held .now) 32))),
+      put .put-security .ensures .0 ∙ rw (put .before .security-arrived .ensures, at-hand at, loop .inv .2) (map-more securityArrived (loop .kind) l noSecurity (omega (arith, length-securities (s .args .held .now) 32))),
+      put .put-security .ensures .1 ∙ loop .inv .3,
     )
 
 same-length : tie.Need-same-length Inv-loop μ-loop
@@ -65,7 +66,7 @@ returns : tie.Need-returns Inv-loop μ-loop
 returns c =
     let l = securitiesOf (c .before .before .before .args .held .now) in
     let e : c .before .loop .kind ≡ length l = omega (arith, length-securities (c .before .before .before .args .held .now) 32) in
-    c .before .loop .inv .2 ∙ ap (λ n. mapBelow securityArrived n l) e ∙ map-all securityArrived l
+    (c .before .loop .inv .2 ∙ ap (λ n. mapBelow securityArrived n l) e ∙ map-all securityArrived l, c .before .loop .inv .3)
 
 pub all-arrived-spec : {M : Type 1} → statement M
 all-arrived-spec =

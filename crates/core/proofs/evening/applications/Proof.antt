@@ -14,7 +14,7 @@ use Rattle.rules.specs.Vault.{securityAt, isCash, effectiveOf, value as valueOf
 use Rattle.rules.specs.Close.{Evening, takenOut, claimsOf, mayGo, settled, applications}
 use Rattle.rules.proofs.FitParts.{ApplicationFits, securities-fit, withdrawals-fit}
 use Rattle.core.specs.Types.{Security, Guarantee, Vault, Withdrawals}
-use Rattle.core.specs.Flat.{securitiesOf, vaultOf, eveningAt}
+use Rattle.core.specs.Flat.{securitiesOf, postingsOf, vaultOf, eveningAt}
 use Rattle.core.proofs.SumLaws.{turn-none, turn-more}
 use Rattle.core.proofs.HeldLaws.{length-securities, security-at-row}
 use Rattle.core.proofs.EveningLaws.{Kept, Held, held-security, held-cash, held-fits, security-taken, cash-taken, sound-of, turn, turns-keep, turns-count, unfrozen}
@@ -51,6 +51,7 @@ Inv-loop served outstanding unpaid kinds units count held₀ guarantee₀ own₀
     × (length held ≡ length held₀)
     × (made own (vaultFrom held guarantee) done dropped ≡ inTurn i (turn served (claimsOf (outstanding .0) (unpaid .0)) (asked kinds units count)) (made own₀ (vaultFrom held₀ guarantee₀) done₀ dropped₀))
     × (value ≡ valueOf (vaultFrom held guarantee))
+    × (postingsOf held ≡ postingsOf held₀)
 
 abbrev μ-loop : tie.MeasureT-loop
 μ-loop served outstanding unpaid kinds units count held₀ guarantee₀ own₀ value₀ done₀ dropped₀ i₀ held guarantee own value done dropped i =
@@ -59,7 +60,7 @@ abbrev μ-loop : tie.MeasureT-loop
 loop-holds : tie.Need-loop-holds Inv-loop μ-loop
 loop-holds c =
     let s : tie.Start Inv-loop μ-loop = search needs in
-    (omega arith, refl, sym (turn-none _ _), s .pre .1 .4)
+    (omega arith, refl, sym (turn-none _ _), s .pre .1 .4, refl)
 
 -- the turn at hand: the application, and the evening before it
 module _ (c : tie.In-loop Inv-loop μ-loop) where
@@ -236,7 +237,7 @@ module _ (c : tie.Joined2 Inv-loop μ-loop) where
       inl (
         a .0 .taken,
         rw (ne-eqb (kind here) 32 (λ q. omega arith)) (a .9),
-        same-vault (a .8) (ap securitiesOf (a .7) ∙ a .4 .ensures) ∙ security-taken (vault here) (kind here) (c .before .before .if1 .had) (units here) h (had-security (c .before .before) h),
+        same-vault (a .8) (ap securitiesOf (a .7) ∙ a .4 .ensures .0) ∙ security-taken (vault here) (kind here) (c .before .before .if1 .had) (units here) h (had-security (c .before .before) h),
         a .10,
         a .11,
       ))
@@ -261,6 +262,9 @@ module _ (c : tie.Joined2 Inv-loop μ-loop) where
   as-long : length (c .if2 .held) ≡ length (here .before .loop .held)
   as-long = ⊎-elim (λ a. ap length (a .7) ∙ a .4 .kept .0) (⊎-elim (λ a. ap length (a .4)) (λ a. ap length (a .1))) (c .if2 .came)
 
+  as-posted : postingsOf (c .if2 .held) ≡ postingsOf (here .before .loop .held)
+  as-posted = ⊎-elim (λ a. ap postingsOf (a .7) ∙ a .4 .ensures .1) (⊎-elim (λ a. ap postingsOf (a .4)) (λ a. ap postingsOf (a .1))) (c .if2 .came)
+
   settled-so : made (c .if2 .own) (next) (c .if2 .done) (c .if2 .dropped) ≡ turns here (i here) (before here)
   settled-so =
       let so = sym (judgement (c .before) .0) in
@@ -275,7 +279,13 @@ module _ (c : tie.Joined2 Inv-loop μ-loop) where
 loop-again : tie.Need-loop-again Inv-loop μ-loop
 loop-again c =
     let at = turn-at (c .before) in
-    (omega (arith, at .loop-test .taken), as-long c ∙ at .before .loop .inv .1, settled-so c ∙ ap (turns at (i at)) (at .before .loop .inv .2) ∙ sym (turn-more (turns at) (first at) (i at)), valued-so c)
+    let inv = at .before .loop .inv in (
+      omega (arith, at .loop-test .taken),
+      as-long c ∙ inv .1,
+      settled-so c ∙ ap (turns at (i at)) (inv .2) ∙ sym (turn-more (turns at) (first at) (i at)),
+      valued-so c,
+      as-posted c ∙ inv .4,
+    )
 
 same-length : tie.Need-same-length Inv-loop μ-loop
 same-length c = c .before .loop .inv .1
@@ -289,6 +299,7 @@ returns c =
       c .before .loop .inv .2
           ∙ ap (λ n. inTurn n (turn (s .args .served) (claimsOf (s .args .outstanding .0) (s .args .unpaid .0)) (asked (s .args .kinds .now) (s .args .units .now) (s .args .count))) first) e,
       c .before .loop .inv .3,
+      c .before .loop .inv .4,
     )
 
 pub applications-spec : {M : Type 1} → statement M

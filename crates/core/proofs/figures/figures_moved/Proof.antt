@@ -90,6 +90,9 @@ enum-told-10 c = search needs
 figures-of-requires : tie.Need-figures-of-requires
 figures-of-requires c κs = let s : tie.Start = search needs in s .pre .0
 
+enum-told-11 : tie.Need-enum-told-11
+enum-told-11 c = search needs
+
 returns : tie.Need-returns
 returns c =
     let s : tie.Start = search needs in
@@ -146,6 +149,11 @@ returns-11 c =
 returns-12 : tie.Need-returns-12
 returns-12 c = c .figures-of .ensures
 
+returns-13 : tie.Need-returns-13
+returns-13 c =
+    let s : tie.Start = search needs in
+    sym (told s (c .enum-told11 .given .1))
+
 pub figures-moved-spec : {M : Type 1} → statement M
 figures-moved-spec =
     tie.close
@@ -169,6 +177,7 @@ figures-moved-spec =
     enum-told-9
     enum-told-10
     figures-of-requires
+    enum-told-11
     returns
     returns-2
     returns-3
@@ -180,4 +189,5 @@ figures-moved-spec =
     returns-9
     returns-10
     returns-11
-    returns-12)
+    returns-12
+    returns-13)

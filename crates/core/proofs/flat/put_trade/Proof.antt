@@ -56,14 +56,28 @@ mul-table-8 c = search needs
 slice-write-table-4 : tie.Need-slice-write-table-4
 slice-write-table-4 c = simp length-set (omega arith)
 
+mul-table-9 : tie.Need-mul-table-9
+mul-table-9 c = search needs
+
+add-table-4 : tie.Need-add-table-4
+add-table-4 c = search needs
+
+mul-table-10 : tie.Need-mul-table-10
+mul-table-10 c = search needs
+
+slice-write-table-5 : tie.Need-slice-write-table-5
+slice-write-table-5 c = simp length-set (omega arith)
+
 same-length : tie.Need-same-length
 same-length c = simp length-set
 
 returns : tie.Need-returns
 returns c =
-    let prices = c .before .paired .ensures in
-    let days = c .paired2 .ensures in
-    let start = c .before .before .before in
+    let at-prices : tie.After-paired = search needs in
+    let at-days : tie.After-paired2 = search needs in
+    let start : tie.Start = search needs in
+    let prices = at-prices .paired .ensures in
+    let days = at-days .paired2 .ensures in
     rw (prices .0, days .0)
     (trade-put (start .args .table .now) (start .args .place) (start .args .trade) (start .pre) (record { price = prices .1; fallback = prices .2; first = days .1; due = days .2 }), behind (start .args .table .now) (start .args .place) (start .args .trade))
 
@@ -88,5 +102,9 @@ put-trade-spec =
     add-table-3
     mul-table-8
     slice-write-table-4
+    mul-table-9
+    add-table-4
+    mul-table-10
+    slice-write-table-5
     same-length
     returns)

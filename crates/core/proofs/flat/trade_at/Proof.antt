@@ -20,11 +20,26 @@ first-at-requires c κs = search needs
 due-at-requires : tie.Need-due-at-requires
 due-at-requires c κs = search needs
 
+product-at-requires : tie.Need-product-at-requires
+product-at-requires c κs = search needs
+
 returns : tie.Need-returns
 returns c =
     let at-contract-at : tie.After-contract-at = search needs in
     let at-sheets-at : tie.After-sheets-at = search needs in
-    rw (at-contract-at .contract-at .ensures, at-sheets-at .sheets-at .ensures, c .before .before .before .price-at .ensures, c .before .before .fallback-at .ensures, c .before .first-at .ensures, c .due-at .ensures)
+    let at-price-at : tie.After-price-at = search needs in
+    let at-fallback-at : tie.After-fallback-at = search needs in
+    let at-first-at : tie.After-first-at = search needs in
+    let at-due-at : tie.After-due-at = search needs in
+    rw (
+      at-contract-at .contract-at .ensures,
+      at-sheets-at .sheets-at .ensures,
+      at-price-at .price-at .ensures,
+      at-fallback-at .fallback-at .ensures,
+      at-first-at .first-at .ensures,
+      at-due-at .due-at .ensures,
+      c .product-at .ensures,
+    )
 
 pub trade-at-spec : {M : Type 1} → statement M
 trade-at-spec =
@@ -36,4 +51,5 @@ trade-at-spec =
     fallback-at-requires
     first-at-requires
     due-at-requires
+    product-at-requires
     returns)

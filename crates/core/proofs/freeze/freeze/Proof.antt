@@ -76,7 +76,7 @@ returns-3 c kinds amounts =
     let a = start (q .before) .args in
     let row = security-at-row (a .held .now) (a .scalars .guarantee) (a .kind) (security-kind q) in
     carried-out _ _ (rowsOf (a .held .now) kinds amounts) _ _ (none-applies (q .before) kinds amounts) (c .answered3 .ensures)
-    (rw (c .before .before .before .put-frozen .ensures, ne-eqb _ _ (q .if2 .left), row))
+    (rw (c .before .before .before .put-frozen .ensures .0, c .before .before .before .put-frozen .ensures .1, ne-eqb _ _ (q .if2 .left), row))
 
 pub freeze-spec : {M : Type 1} → statement M
 freeze-spec =

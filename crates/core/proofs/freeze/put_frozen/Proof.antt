@@ -15,7 +15,8 @@ same-length c = search needs
 returns : tie.Need-returns
 returns c =
     let at-security-at : tie.After-security-at = search needs in
-    c .before .before .put-security .ensures ∙ rw (at-security-at .security-at .ensures)
+    let put = c .before .before .put-security .ensures in
+    (put .0 ∙ rw (at-security-at .security-at .ensures), put .1)
 
 pub put-frozen-spec : {M : Type 1} → statement M
 put-frozen-spec = tie.close (tie.spec security-at-requires put-security-requires same-length returns)

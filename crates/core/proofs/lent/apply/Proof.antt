@@ -48,6 +48,12 @@ same-length-7 c = search needs
 same-length-8 : tie.Need-same-length-8
 same-length-8 c = search needs
 
+abbrev table-known : tie.Else1 → tie.After-slice-known4
+table-known c = search needs
+
+abbrev held-known : tie.After-slice-known4 → tie.After-slice-known
+held-known c = search needs
+
 returns-2 : tie.Need-returns-2
 returns-2 c =
     let at-entry-on : tie.After-entry-on = search needs in
@@ -57,9 +63,12 @@ returns-2 c =
     let left = step-parts _ _ _ (done .0) (done .1) in
     let held : tie.After-held = search needs in
     let table : tie.After-table = search needs in
-    let known : tie.After-slice-known4 = search needs in (
+    let held-after : tie.After-slice-known5 = search needs in
+    let table-before = table-known passed in
+    let held-before = held-known table-before in (
       left ∙ sym (by-step _ _ (found .whole) _),
-      refused-keeps-all _ _ (found .long) (held .held .given) (table .table .given) (λ k. known .slice-known4 .given k .fits) (λ k. c .slice-known8 .given k .fits) _ _ left,
+      refused-keeps-all _ _ (found .long) (held .held .given) (table .table .given) (λ k. held-before .slice-known .given k .fits) (λ k. held-after .slice-known5 .given k .fits)
+          (λ k. table-before .slice-known4 .given k .fits) (λ k. c .slice-known8 .given k .fits) _ _ left,
     )
 
 pub apply-spec : {M : Type 1} → statement M

@@ -7,7 +7,7 @@ use Rattle.money.specs.declared.units.Fen.{Fen}
 use Rattle.money.specs.Units.{signedFen}
 use Rattle.rules.specs.Unpaid.{passes, clearedPlus}
 use Rattle.rules.specs.Fit.{netFit}
-use Rattle.rules.specs.Open.{fallbackSum, netWithFallbacks, openedBook, openedTable}
+use Rattle.rules.specs.Open.{fallbackSum, netWithFallbacks, openedTable}
 use Rattle.rules.proofs.FitParts.{fit-parts}
 use Rattle.scalars.specs.Scalars.{withUnpaid, unlessPast}
 use Rattle.scalars.proofs.UnpaidLaws.{not-past}
@@ -128,7 +128,7 @@ abbrev asked : tie.Else2 → tie.After-passes
 asked c = search needs
 
 returns-3 : tie.Need-returns-3
-unfolding openedBook openedTable
+unfolding openedTable
 returns-3 c rows =
     let set : tie.After-with-unpaid = search needs in
     let grown : tie.After-cleared-plus2 = search needs in

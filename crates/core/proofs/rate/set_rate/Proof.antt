@@ -58,7 +58,7 @@ returns-2 c kinds units =
     let a = q .before .before .before .args in
     let here = security-at-row (a .held .now) (a .scalars .guarantee) (a .kind) (security-kind _ _ (none-applies q)) in
     carried-out _ _ (rowsOf (a .held .now) kinds units) _ _ (none-applies q) (c .answered2 .ensures)
-    (rw (c .before .before .before .put-security .ensures, at-security-at .security-at .ensures, here))
+    (rw (c .before .before .before .put-security .ensures .0, c .before .before .before .put-security .ensures .1, at-security-at .security-at .ensures, here))
 
 pub set-rate-spec : {M : Type 1} → statement M
 set-rate-spec =

@@ -44,7 +44,7 @@ module _ (c : tie.After-entry-on) where
   still-fit : fit (start .args .calendar .now) (bookOf (c .entry-on .result .scalars) rows) (tradesOf (c .entry-on .last .1 .1 .1 .1 .1 .0)) ≡ true
   still-fit = fit-after _ _ _ _ (start .pre .0 .fits) (appliedAt (c .entry-on .result) rows) _ (c .entry-on .ensures .0) (c .entry-on .ensures .1)
 
-  still-long : length (c .entry-on .last .1 .1 .0) ≡ 128
+  still-long : length (c .entry-on .last .1 .1 .0) ≡ 160
   still-long = c .entry-on .kept .1 .1 .0 ∙ start .pre .0 .held-long
 
 decode-requires : tie.Need-decode-requires

@@ -12,7 +12,7 @@ use Rattle.core.proofs.run.run_events.Tie as tie
 abbrev Inv-loop : tie.InvT-loop
 Inv-loop calendar held₀ kinds₀ units₀ table₀ events lines₀ count turn₀ k₀ held kinds units table lines turn k =
     RunTo calendar (bookOf (turn₀ .scalars) (rowsOf held₀ kinds₀ units₀)) events table₀ lines₀ count table lines (bookOf (turn .scalars) (rowsOf held kinds units)) k
-    × (length held ≡ 128) × (length kinds ≡ 128) × (length units ≡ 128) × (turn .figures ≡ figuresAt (turn .scalars) held (tradesOf table))
+    × (length held ≡ 160) × (length kinds ≡ 128) × (length units ≡ 128) × (turn .figures ≡ figuresAt (turn .scalars) held (tradesOf table))
 
 abbrev μ-loop : tie.MeasureT-loop
 μ-loop calendar held₀ kinds₀ units₀ table₀ events lines₀ count turn₀ k₀ held kinds units table lines turn k = count - k

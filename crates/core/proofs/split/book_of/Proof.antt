@@ -5,8 +5,13 @@ use Rattle.core.proofs.split.book_of.Tie as tie
 securities-from-requires : tie.Need-securities-from-requires
 securities-from-requires c κs = search needs
 
+postings-from-requires : tie.Need-postings-from-requires
+postings-from-requires c κs = search needs
+
 returns : tie.Need-returns
-returns c = rw (c .securities-from .ensures)
+returns c =
+    let securities : tie.After-securities-from = search needs in
+    rw (securities .securities-from .ensures, c .postings-from .ensures)
 
 pub book-of-spec : {M : Type 1} → statement M
-book-of-spec = tie.close (tie.spec securities-from-requires returns)
+book-of-spec = tie.close (tie.spec securities-from-requires postings-from-requires returns)

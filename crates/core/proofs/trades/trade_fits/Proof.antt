@@ -3,7 +3,7 @@ use mathlib.Core.Path.{_≡_, refl}
 use borrow.Author.Needs.{needs}
 use borrow.Author.Tests.{le-leb, lt-leb}
 use lib.Dec.{leb}
-use Rattle.money.specs.Limits.{tradeLimit}
+use Rattle.money.specs.Limits.{tradeLimit, priceLimit}
 use Rattle.rules.specs.Folds.{every}
 use Rattle.core.specs.Flat.{tradeAt}
 use Rattle.core.proofs.trades.trade_fits.Statement.{statement}
@@ -11,6 +11,9 @@ use Rattle.core.proofs.trades.trade_fits.Tie as tie
 
 abbrev start : tie.Else1 → tie.Start
 start c = search needs
+
+abbrev first : tie.Else2 → tie.Else1
+first c = search needs
 
 few : (c : tie.Else1) → leb (tradeAt (start c .args .table .now) (start c .args .place) .sheets .0) tradeLimit ≡ true
 few c =
@@ -44,13 +47,30 @@ returns-2 c =
 fallback-at-requires : tie.Need-fallback-at-requires
 fallback-at-requires c κs = search needs
 
+-- past the first two tests
+cheap : (c : tie.Else2) → leb (tradeAt (start (first c) .args .table .now) (start (first c) .args .place) .price .0) priceLimit ≡ true
+cheap c =
+    let read : tie.After-price-at = search needs in
+    le-leb _ _ (rw (read .price-at .ensures) at (c .if2 .left))
+
 returns-3 : tie.Need-returns-3
 unfolding every
 returns-3 c =
-    let at-price-at : tie.After-price-at = search needs in
-    let past1 : tie.Else1 = search needs in
-    let cheap = rw (at-price-at .price-at .ensures) at (c .before .before .if2 .left) in
-    rw (few past1, le-leb _ _ cheap, c .before .fallback-at .ensures) (only _)
+    let past2 : tie.Else2 = search needs in
+    let read : tie.After-fallback-at = search needs in
+    rw (few (first past2), cheap past2, lt-leb _ _ (rw (read .fallback-at .ensures) at (c .if3 .taken)))
+
+product-at-requires : tie.Need-product-at-requires
+product-at-requires c κs = search needs
+
+returns-4 : tie.Need-returns-4
+unfolding every
+returns-4 c =
+    let past2 : tie.Else2 = search needs in
+    let past3 : tie.Else3 = search needs in
+    let read : tie.After-fallback-at = search needs in
+    let fallback = rw (read .fallback-at .ensures) at (past3 .if3 .left) in
+    rw (few (first past2), cheap past2, le-leb _ _ fallback, c .product-at .ensures) (only _)
 
 pub trade-fits-spec : {M : Type 1} → statement M
 trade-fits-spec =
@@ -61,4 +81,6 @@ trade-fits-spec =
     price-at-requires
     returns-2
     fallback-at-requires
-    returns-3)
+    returns-3
+    product-at-requires
+    returns-4)

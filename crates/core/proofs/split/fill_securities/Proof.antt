@@ -7,8 +7,8 @@ use Rattle.rules.specs.Book.{noSecurity}
 use Rattle.core.specs.Flat.{securitiesOf}
 use Rattle.core.proofs.HeldLaws.{length-securities}
 use Rattle.core.proofs.RowLaws.{Filled, none-filled, one-filled, all-filled}
-use Rattle.core.proofs.split.fill_held.Statement.{statement}
-use Rattle.core.proofs.split.fill_held.Tie as tie
+use Rattle.core.proofs.split.fill_securities.Statement.{statement}
+use Rattle.core.proofs.split.fill_securities.Tie as tie
 
 abbrev Inv-loop : tie.InvT-loop
 Inv-loop held₀ vault kind₀ held kind = (kind ≤ 32) × (length held ≡ length held₀) × Filled noSecurity (securitiesOf held) (vault .securities) kind
@@ -40,7 +40,7 @@ loop-again : tie.Need-loop-again Inv-loop μ-loop
 loop-again c =
     let at : tie.At-loop Inv-loop μ-loop = search needs in
     let put = c .before .before .put-security in
-    (search needs, put .kept .0 ∙ at .loop .inv .1, rw (put .ensures) (one-filled noSecurity _ _ _ _ (omega (arith, length-securities (at .loop .held) 32)) (at .loop .inv .2) refl))
+    (search needs, put .kept .0 ∙ at .loop .inv .1, rw (put .ensures .0) (one-filled noSecurity _ _ _ _ (omega (arith, length-securities (at .loop .held) 32)) (at .loop .inv .2) refl))
 
 same-length : tie.Need-same-length Inv-loop μ-loop
 same-length c = c .before .loop .inv .1
@@ -50,8 +50,8 @@ returns c =
     let e : c .before .loop .kind ≡ 32 = omega arith in
     all-filled noSecurity _ _ 32 (length-securities _ 32) (simp length-map at (c .before .before .before .good .0 .1 .1 .1 .0 .1 .0 .1)) (rw e at (c .before .loop .inv .2))
 
-pub fill-held-spec : {M : Type 1} → statement M
-fill-held-spec =
+pub fill-securities-spec : {M : Type 1} → statement M
+fill-securities-spec =
     tie.close
     (tie.spec
     Inv-loop

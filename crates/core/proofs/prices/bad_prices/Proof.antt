@@ -1,7 +1,7 @@
 use mathlib.Core.Path.{refl}
 use borrow.Author.Tests.{lt-ltb, le-ltb}
-use Rattle.core.proofs.initial.bad_prices.Statement.{statement}
-use Rattle.core.proofs.initial.bad_prices.Tie as tie
+use Rattle.core.proofs.prices.bad_prices.Statement.{statement}
+use Rattle.core.proofs.prices.bad_prices.Tie as tie
 
 returns : tie.Need-returns
 returns c = rw (lt-ltb _ _ (c .if1 .taken)) refl
