@@ -20,7 +20,7 @@ use Rattle.cases.specs.Ledger.{ledgerOf}
 use Rattle.cases.specs.Journal.{endsWith}
 
 abbrev terms : Terms
-terms = record { contract = record { 0 = 7 }; sheets = record { 0 = 100 }; price = record { 0 = 3650 }; fallback = record { 0 = 1000 }; due = 4 }
+terms = record { contract = record { 0 = 7 }; sheets = record { 0 = 100 }; price = record { 0 = 3650 }; fallback = record { 0 = 1000 }; due = 4; product = 0 }
 
 abbrev pub events : List Event
 events = Size (record { 0 = 1000 }) ∷ Rate 0 9000 ∷ Open ∷ Pledge 0 200 ∷ Pay ∷ Close ∷ Open ∷ Initial terms ∷ []
@@ -53,7 +53,7 @@ accepted (suc (suc (suc (suc (suc (suc (suc (suc k)))))))) h = absurd (omega (ar
 
 -- traded on day 2, so paid first on day 3
 abbrev pub asked : Trade
-asked = record { contract = record { 0 = 7 }; sheets = record { 0 = 100 }; price = record { 0 = 3650 }; fallback = record { 0 = 1000 }; first = 3; due = 4 }
+asked = record { contract = record { 0 = 7 }; sheets = record { 0 = 100 }; price = record { 0 = 3650 }; fallback = record { 0 = 1000 }; first = 3; due = 4; product = 0 }
 
 pub first-slot : getD (reached 8 .table) 0 noTrade ≡ asked
 unfolding endsWith reached

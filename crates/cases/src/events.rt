@@ -1,5 +1,5 @@
-// An event's 40 bytes as five numbers of eight, the least byte first: its code with the kind or account, the amount (or rate, or
-// size), the contract, the price with the fallback price, and the due day.
+// An event's 40 bytes as five numbers of eight, the least byte first: its code with the kind, account or product, the amount (or rate,
+// size or term), the contract, the price with the fallback price, and the due day.
 
 // The codes.
 pub const OPEN: u64 = 1;
@@ -24,7 +24,9 @@ pub const PAY: u64 = 11;
 
 pub const CLOSE: u64 = 12;
 
-// The byte beside the code: an account, or as often a kind as its number says. Kind 32 is guarantee cash.
+pub const POST: u64 = 13;
+
+// The byte beside the code: an account, or as often a kind, or the product of a Post, as its number says. Kind 32 is guarantee cash.
 pub const OWN: u64 = 0;
 
 pub const CLIENT: u64 = 256;
@@ -32,6 +34,9 @@ pub const CLIENT: u64 = 256;
 pub const KIND: u64 = 256;
 
 pub const CASH: u64 = 32 * KIND;
+
+// The byte after it, of an initial trade: once more than the product's number says.
+pub const PRODUCT: u64 = 65_536;
 
 // A tick of the fallback price, four bytes above the price.
 pub const FALLBACK: u64 = 4_294_967_296;

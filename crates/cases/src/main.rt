@@ -27,6 +27,9 @@ mod rehearsals;
 // Evenings with unpaid redemptions.
 mod unpaid;
 
+// Next terms that start by themselves.
+mod next_terms;
+
 // A table of structs, lent to the book.
 mod structs;
 
@@ -49,5 +52,12 @@ fn main() {
     rehearsals::second();
     rehearsals::pledge_alone_late();
     unpaid::evenings();
+    next_terms::twice();
+    next_terms::too_large();
+    next_terms::redeemed_early();
+    next_terms::due_on_a_holiday();
+    next_terms::posted_for_the_day();
+    next_terms::not_normal();
+    next_terms::turned_down();
     structs::first_trade();
 }

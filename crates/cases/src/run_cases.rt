@@ -3,7 +3,10 @@ use crate::events::CLIENT;
 use crate::events::FALLBACK;
 use crate::events::FUND_IN;
 use crate::events::INITIAL;
+use crate::events::KIND;
 use crate::events::PAY;
+use crate::events::POST;
+use crate::events::PRODUCT;
 use crate::events::RATE;
 use crate::journal;
 use crate::worked::ACCOUNTS;
@@ -49,16 +52,21 @@ pub fn due_within_a_year() {
     journal::expect_lines(&YEAR, &ACCOUNTS, &COVER, &TERMS, &TERMS_LINES);
 }
 
-// Pay with an amount, a third account and a thirteenth code: the decoder's 2, and the run goes on.
+// Pay with an amount, a third account, a product where only the other event has one (Post in byte 1, an initial trade in byte 2), and a
+// fourteenth code: the decoder's 2, and the run goes on.
 #[rattlefmt::skip]
-const UNDECODABLE: [u64; 3 * 5] = [
+const UNDECODABLE: [u64; 5 * 5] = [
     PAY, 1, 0, 0, 0,
     FUND_IN + 2 * CLIENT, 1, 0, 0, 0,
-    13, 0, 0, 0, 0,
+    POST + PRODUCT, 1, 0, 3_650 + 1_000 * FALLBACK, 0,
+    INITIAL + KIND, 10, 7, 3_650 + 1_000 * FALLBACK, 4,
+    14, 0, 0, 0, 0,
 ];
 
 #[rattlefmt::skip]
-const UNDECODABLE_LINES: [u64; 3 * 7] = [
+const UNDECODABLE_LINES: [u64; 5 * 7] = [
+    2, 0, 180, 0, 5_000_000, 3_000_000, 0,
+    2, 0, 180, 0, 5_000_000, 3_000_000, 0,
     2, 0, 180, 0, 5_000_000, 3_000_000, 0,
     2, 0, 180, 0, 5_000_000, 3_000_000, 0,
     2, 0, 180, 0, 5_000_000, 3_000_000, 0,

@@ -47,6 +47,7 @@ pub fn first_trade() {
         price: Ticks(3_650),
         fallback: Ticks(1_000),
         due: 4,
+        product: 0,
     };
     let none = Trade {
         contract: Contract(0),
@@ -55,6 +56,7 @@ pub fn first_trade() {
         fallback: Ticks(0),
         first: 0,
         due: 0,
+        product: 0,
     };
     let events = [
         Event::Size(Sheets(1_000)),
