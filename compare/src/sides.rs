@@ -120,6 +120,7 @@ pub fn fill_spare_slots(ledger: &mut Ledger) {
             fallback: u32::MAX,
             first_payment: u32::MAX,
             due: 1,
+            product: u64::MAX - place,
         };
     }
 }

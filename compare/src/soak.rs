@@ -9,6 +9,7 @@ use std::ops::Range;
 use std::panic::{catch_unwind, AssertUnwindSafe};
 
 use model::coverage::evenings::Evenings;
+use model::coverage::terms::NextTerms;
 
 /// What is compared for each seed, and shown as the figures of all.
 pub trait Trial: Display {
@@ -18,11 +19,14 @@ pub trait Trial: Display {
     /// Pairs of event and answer that were never met, of how many.
     fn missing_pairs(&self) -> (Vec<(u8, u32)>, usize);
 
-    /// Pairs that were met, by both sides, although document 01 does not allow them.
+    /// Pairs that were met, by both sides, although the papers do not allow them.
     fn unexpected_pairs(&self) -> Vec<(u8, u32)>;
 
     /// How applications fared on evenings with unpaid redemptions.
     fn evenings(&self) -> Evenings;
+
+    /// Which next terms started, and why others did not.
+    fn next_terms(&self) -> NextTerms;
 }
 
 /// Compares for each seed in turn, and gives the first seed that failed; why,

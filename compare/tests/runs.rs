@@ -4,6 +4,7 @@
 use compare::{judge, proved, BAD_LENGTHS, UNWRITTEN};
 use model::cases::ledger::{Ledger, Step};
 use model::coverage::evenings::Evenings;
+use model::coverage::terms::NextTerms;
 use model::coverage::Coverage;
 use model::event::EVENT_BYTES;
 use model::generator::{corpus, generate_as, Profile};
@@ -14,16 +15,21 @@ use model::journal::{parse, Journal, Line};
 struct Met {
     coverage: Coverage,
     evenings: Evenings,
+    next_terms: NextTerms,
 }
 
 /// What the model says of each event.
 fn expected(journal: &Journal, met: &mut Met) -> Vec<Line> {
     let mut lines = Vec::with_capacity(journal.events.len());
-    Ledger::fresh(&journal.calendar).run(journal.events, |Step { event, answer, before, after, table }| {
-        met.coverage.record(event, answer.number);
-        met.evenings.record(before, after, table);
-        lines.push(Line::after(answer, after, table));
-    });
+    Ledger::fresh(&journal.calendar).run(
+        journal.events,
+        |Step { event, answer, before, trades, after, table }| {
+            met.coverage.record(event, answer.number);
+            met.evenings.record(before, after, table);
+            met.next_terms.record(&journal.calendar, before, trades, event, answer.number);
+            lines.push(Line::after(answer, after, table));
+        },
+    );
     lines
 }
 
@@ -45,8 +51,9 @@ fn generated_journals_agree_and_meet_every_allowed_answer() {
         assert_eq!(got.len(), wanted.len(), "{name}");
         events += got.len();
     }
-    judge(&format!("{events} events run\n{}", met.evenings), &met.coverage);
+    judge(&format!("{events} events run\n{}{}", met.evenings, met.next_terms), &met.coverage);
     assert!(met.evenings.rarer_than(50).is_empty(), "{}", met.evenings);
+    assert!(met.next_terms.rarer_than(50).is_empty(), "{}", met.next_terms);
 }
 
 #[test]

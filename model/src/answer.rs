@@ -23,6 +23,7 @@ pub enum Refusal {
     ApplicationsFull = 17,
     MalformedJournal = 18,
     NoDate = 19,
+    NoProduct = 20,
 }
 
 impl Refusal {

@@ -1,8 +1,8 @@
 //! The book, the records of its lent table, and what makes them fit.
 
 use crate::limits::{
-    APPLICATIONS, APPLICATION_UNITS, CALENDAR_WORDS, CAPACITY, CASH, FAILED_PAYMENTS, NET, PRICE, RATE,
-    SECURITY_UNITS, SHORT_CLOSES, SIZE, TRADE_SHEETS, UNPAID,
+    APPLICATIONS, APPLICATION_UNITS, CALENDAR_WORDS, CAPACITY, CASH, DAYS_AHEAD, FAILED_PAYMENTS, NET,
+    PRICE, PRODUCTS, RATE, SECURITY_UNITS, SHORT_CLOSES, SIZE, TRADE_SHEETS, UNPAID,
 };
 use crate::money::{next_after, redemption_amount, sheets_worth, trades, CASH_KIND, KINDS};
 
@@ -32,6 +32,8 @@ pub struct Trade {
     pub fallback: u32,
     pub first_payment: u32,
     pub due: u32,
+    /// "0, or the product number plus 1".
+    pub product: u64,
 }
 
 impl Trade {
@@ -40,6 +42,14 @@ impl Trade {
         let days = payment_day - self.first_payment;
         redemption_amount(sheets, price.into(), days.into())
     }
+}
+
+/// What is posted of a product today: a term of 0 days is none posted.
+#[derive(Clone, Copy, Debug, Default, PartialEq, Eq)]
+pub struct Posting {
+    pub term: u64,
+    pub price: u32,
+    pub fallback: u32,
 }
 
 /// The units of one kind.
@@ -71,6 +81,7 @@ pub struct Book {
     pub cleared_unpaid: u64,
     pub failed_run: u8,
     pub short_run: u8,
+    pub postings: [Posting; PRODUCTS],
     /// Slots of the lent table in use; the others are spare.
     pub trades: usize,
     /// Applications that stand; slots past them are free content.
@@ -98,6 +109,7 @@ impl Book {
             cleared_unpaid: 0,
             failed_run: 0,
             short_run: 0,
+            postings: [Posting::default(); PRODUCTS],
             trades: 0,
             applications: 0,
             application_kinds: [0; APPLICATIONS],
@@ -174,6 +186,12 @@ impl Book {
         kinds.zip(units).take(self.applications)
     }
 
+    /// What is posted today of a trade's product; nothing where it has none.
+    pub(crate) fn posted(&self, product: u64) -> Option<Posting> {
+        let number = product.checked_sub(1)? as usize;
+        self.postings.get(number).copied().filter(|posting| posting.term > 0)
+    }
+
     /// Where `contract` stands on the table; spare slots are never searched.
     pub fn find(&self, table: &[Trade], contract: u64) -> Option<usize> {
         table[..self.trades].iter().position(|trade| trade.contract == contract)
@@ -193,6 +211,7 @@ impl Book {
             && self.cash_is_fit()
             && self.nets_and_runs_are_fit()
             && within(self.todays_unpaid, self.cleared_unpaid, UNPAID)
+            && self.postings_are_fit()
             && self.applications_are_fit()
             && self.trades_are_fit(&table[..self.trades])
             && self.day_is_fit(calendar, &table[..self.trades])
@@ -218,6 +237,14 @@ impl Book {
             && self.short_run <= SHORT_CLOSES
     }
 
+    /// "A book with a product or posting out of range is unfit." Prices have
+    /// their range where nothing is posted, too.
+    fn postings_are_fit(&self) -> bool {
+        self.postings.iter().all(|&Posting { term, price, fallback }| {
+            term <= DAYS_AHEAD.into() && u64::from(price) <= PRICE && u64::from(fallback) <= PRICE
+        })
+    }
+
     fn applications_are_fit(&self) -> bool {
         self.applications <= APPLICATIONS
             && self
@@ -230,6 +257,7 @@ impl Book {
             trade.sheets <= TRADE_SHEETS
                 && u64::from(trade.price) <= PRICE
                 && u64::from(trade.fallback) <= PRICE
+                && trade.product <= PRODUCTS as u64
         };
         self.size <= SIZE
             && trades.iter().all(within_limits)

@@ -6,7 +6,9 @@ pub mod evenings;
 pub mod ledger;
 pub mod longest;
 pub mod nets;
+pub mod rolling;
 pub mod standings;
+pub mod terms;
 pub mod unfit;
 pub mod unpaid;
 

@@ -1,20 +1,22 @@
-//! Which (event, answer) pairs were met, and which document 01 allows; in
-//! `evenings`, how applications fared.
+//! Which (event, answer) pairs were met, and which the papers allow; in
+//! `evenings`, how applications fared, in `terms`, which next terms started.
 //!
 //! An event that cannot be decoded counts under its code byte where that is 1
-//! to 12, and else under "other code".
+//! to 13, and else under "other code".
 
 pub mod evenings;
+pub mod terms;
 
 use std::fmt;
 
 use crate::event::EVENT_BYTES;
 
-/// Row of codes that are not 1 to 12.
+/// Row of codes that are not 1 to 13.
 pub const OTHER_CODE: u8 = 0;
-const CODES: usize = 13;
-/// Answers 0 to 17, then 99. A malformed journal (18) answers no event.
-const ANSWERS: [u32; 19] = [0, 1, 2, 3, 4, 5, 6, 7, 8, 9, 10, 11, 12, 13, 14, 15, 16, 17, 99];
+const CODES: usize = 14;
+/// Answers 0 to 17, 20 and 99. A malformed journal (18) and a date that is none
+/// (19) answer no event.
+const ANSWERS: [u32; 20] = [0, 1, 2, 3, 4, 5, 6, 7, 8, 9, 10, 11, 12, 13, 14, 15, 16, 17, 20, 99];
 
 const NAMES: [&str; CODES] = [
     "other code",
@@ -30,6 +32,7 @@ const NAMES: [&str; CODES] = [
     "Early",
     "Pay",
     "Close",
+    "Post",
 ];
 
 /// The answers that a journal on a fresh book can meet, row by row.
@@ -43,25 +46,27 @@ const ALLOWED: [&[u32]; CODES] = [
     &[0, 2, 3, 4, 7, 13, 14],
     &[0, 2, 3, 13],
     &[0, 2, 3, 4, 5, 7, 13, 17],
-    &[0, 2, 4, 5, 6, 7, 8, 9, 10, 11, 12],
+    &[0, 2, 20, 4, 5, 6, 7, 8, 9, 10, 11, 12],
     &[0, 2, 4, 5, 7, 8, 9, 10, 13],
     &[0, 2, 4, 5, 99],
     &[0, 2, 4],
+    &[0, 2, 20, 4, 5, 8, 9],
 ];
 
 /// The rows of the table of causes that no journal can meet, with the reason.
 pub const OUT_OF_REACH: [(&[u8], u32, &str); 3] = [
     (
-        &[0, 1, 2, 3, 4, 5, 6, 7, 8, 9, 10, 11, 12],
+        &[0, 1, 2, 3, 4, 5, 6, 7, 8, 9, 10, 11, 12, 13],
         1,
         "a fresh book is fit and every event keeps it fit; a calendar above 1,200 words is a malformed journal",
     ),
     (
         &[1, 10, 12],
         14,
-        "at most 1,500 trades of 10^8 sheets are begun, each sheet brings less than 1,070,000 fen once \
-         (10,000 and 100,000 ticks over 38,399 days), so neither a net nor U passes 1.61×10^17, \
-         far from 4×10^18",
+        "O is at most 10^10 sheets, which bring less than 1.06×10^16 fen of income over all 38,399 days \
+         at 100,000 ticks; the principal of 1,500 trades of 10^8 sheets, and of 10^10 sheets that start \
+         again at each of 500 Closes, is 5.15×10^16: so neither a net nor U passes 6.21×10^16, far from \
+         4×10^18",
     ),
     (
         &[9],
@@ -79,7 +84,7 @@ pub struct Coverage {
 
 impl Coverage {
     pub fn record(&mut self, event: &[u8; EVENT_BYTES], number: u32) {
-        let code = if (1..=12).contains(&event[0]) { event[0] } else { OTHER_CODE };
+        let code = if (1..=13).contains(&event[0]) { event[0] } else { OTHER_CODE };
         match column(number) {
             Some(column) => self.counts[usize::from(code)][column] += 1,
             None => self.strangers.push((code, number)),

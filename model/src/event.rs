@@ -1,4 +1,4 @@
-//! The twelve events and their 40 bytes.
+//! The thirteen events and their 40 bytes.
 
 use crate::answer::Refusal;
 
@@ -10,8 +10,9 @@ pub enum Account {
     Client,
 }
 
-/// "An event is one of twelve, and fund events name an account." A kind is
-/// kept as its byte: one above 32 is the book's to refuse, with 3.
+/// "An event is one of twelve, and fund events name an account"; Post is one more.
+/// A kind and a product are kept as their bytes: one that is none is the book's to
+/// refuse, with 3 and with 20.
 #[derive(Clone, Copy, Debug, PartialEq, Eq)]
 pub enum Event {
     Open,
@@ -26,6 +27,7 @@ pub enum Event {
     Early { contract: u64, sheets: u64, price: u32 },
     Pay,
     Close,
+    Post { product: u8, term: u64, price: u32, fallback: u32 },
 }
 
 /// What an initial trade is agreed on.
@@ -36,15 +38,19 @@ pub struct Terms {
     pub price: u32,
     pub fallback: u32,
     pub due: u32,
+    /// "0, or the product number plus 1".
+    pub product: u8,
 }
 
 /// The fields of the 40 bytes; those that an event does not use are 0.
 #[derive(Default)]
 struct Fields {
     code: u8,
-    /// Kind or account.
+    /// Kind, account or a posted product.
     selector: u8,
-    /// Amount, rate or size.
+    /// An initial trade's product.
+    product: u8,
+    /// Amount, rate, size or term.
     amount: u64,
     contract: u64,
     price: u32,
@@ -67,7 +73,7 @@ impl Event {
 
     /// The event that the used fields say, whatever the unused ones hold.
     fn from_fields(fields: &Fields) -> Option<Event> {
-        let &Fields { code, selector: kind, amount, contract, price, fallback, due } = fields;
+        let &Fields { code, selector: kind, product, amount, contract, price, fallback, due } = fields;
         Some(match code {
             1 => Event::Open,
             2 => Event::FundIn { account: account(fields.selector)?, fen: amount },
@@ -77,10 +83,11 @@ impl Event {
             6 => Event::Pledge { kind, units: amount },
             7 => Event::Freeze { kind, units: amount },
             8 => Event::Withdraw { kind, units: amount },
-            9 => Event::Initial(Terms { contract, sheets: amount, price, fallback, due }),
+            9 => Event::Initial(Terms { contract, sheets: amount, price, fallback, due, product }),
             10 => Event::Early { contract, sheets: amount, price },
             11 => Event::Pay,
             12 => Event::Close,
+            13 => Event::Post { product: fields.selector, term: amount, price, fallback },
             _ => return None,
         })
     }
@@ -98,14 +105,17 @@ impl Event {
             Event::Pledge { kind, units } => of_kind(6, kind, units),
             Event::Freeze { kind, units } => of_kind(7, kind, units),
             Event::Withdraw { kind, units } => of_kind(8, kind, units),
-            Event::Initial(Terms { contract, sheets, price, fallback, due }) => {
-                Fields { amount: sheets, contract, price, fallback, due, ..bare(9) }
+            Event::Initial(Terms { contract, sheets, price, fallback, due, product }) => {
+                Fields { product, amount: sheets, contract, price, fallback, due, ..bare(9) }
             }
             Event::Early { contract, sheets, price } => {
                 Fields { amount: sheets, contract, price, ..bare(10) }
             }
             Event::Pay => bare(11),
             Event::Close => bare(12),
+            Event::Post { product, term, price, fallback } => {
+                Fields { selector: product, amount: term, price, fallback, ..bare(13) }
+            }
         }
     }
 }
@@ -123,6 +133,7 @@ impl Fields {
         Fields {
             code: bytes[0],
             selector: bytes[1],
+            product: bytes[2],
             amount: u64::from_le_bytes(field(bytes, 8)),
             contract: u64::from_le_bytes(field(bytes, 16)),
             price: u32::from_le_bytes(field(bytes, 24)),
@@ -135,6 +146,7 @@ impl Fields {
         let mut bytes = [0; EVENT_BYTES];
         bytes[0] = self.code;
         bytes[1] = self.selector;
+        bytes[2] = self.product;
         bytes[8..16].copy_from_slice(&self.amount.to_le_bytes());
         bytes[16..24].copy_from_slice(&self.contract.to_le_bytes());
         bytes[24..28].copy_from_slice(&self.price.to_le_bytes());

@@ -5,8 +5,9 @@
 //! 10^12, size, rates, trades and prices at theirs, a table of 1,024 trades,
 //! 128 applications. The nets and U cannot come near 4×10^18: O is at most 10^10
 //! sheets, and even these, at 100,000 ticks over all 38,399 days, bring some
-//! 1.06×10^16 fen. That is more than all the cash a book may hold, so a payment
-//! that nobody can make is within reach.
+//! 1.06×10^16 fen, to which terms that start again add 10^14 of principal at each
+//! Close. That is more than all the cash a book may hold, so a payment that nobody
+//! can make is within reach.
 
 pub mod calendars;
 mod draft;
@@ -34,6 +35,9 @@ pub enum Profile {
     Troubled,
     /// Trouble that is not mended: the firm is soon terminated.
     Doomed,
+    /// Trades that begin again and again by themselves, for weeks, on evenings
+    /// with room for some of them.
+    Rolling,
     /// 1,024 trades on the table.
     FullTable,
     /// 128 applications in one day.
@@ -51,10 +55,11 @@ pub enum Profile {
 }
 
 impl Profile {
-    pub const ALL: [Profile; 10] = [
+    pub const ALL: [Profile; 11] = [
         Profile::Healthy,
         Profile::Troubled,
         Profile::Doomed,
+        Profile::Rolling,
         Profile::FullTable,
         Profile::ManyApplications,
         Profile::Limits,
@@ -66,7 +71,7 @@ impl Profile {
 
     /// The profile of a seed: the cheap and telling ones more often.
     pub fn of(seed: u64) -> Profile {
-        match seed % 20 {
+        match seed % 22 {
             0 | 9 => Profile::Healthy,
             1 | 7 | 10 | 16 => Profile::Troubled,
             2 | 11 => Profile::Careless,
@@ -76,6 +81,7 @@ impl Profile {
             6 | 15 => Profile::Limits,
             8 => Profile::ManyApplications,
             17 => Profile::EmptyCalendar,
+            20 | 21 => Profile::Rolling,
             _ => Profile::FullTable,
         }
     }
@@ -109,6 +115,16 @@ impl Profile {
                 let (drained, shrunk, mending) = random.pick(&[(70, 5, 15), (0, 90, 5)]);
                 Habits { events: random.between(60, 200) as usize, drained, shrunk, mending, ..usual }
             }
+            Profile::Rolling => Habits {
+                events: random.between(200, 700) as usize,
+                day_length: 4,
+                posting: 85,
+                rolling: 85,
+                tight: 30,
+                drained: 6,
+                shrunk: 6,
+                ..usual
+            },
             Profile::Limits => Habits {
                 events: random.between(150, 500) as usize,
                 largest_trade: u64::MAX,
@@ -119,7 +135,8 @@ impl Profile {
             Profile::Careless => Habits { slips: 40, noise: 15, bold: 35, ..usual },
             Profile::EmptyCalendar => Habits { events: random.below(40) as usize, slips: 60, ..usual },
             Profile::Damaged => Habits { events: random.below(20) as usize, ..usual },
-            Profile::FullTable | Profile::ManyApplications | Profile::ThinCalendar => usual,
+            Profile::ThinCalendar => Habits { posting: 60, rolling: 70, ..usual },
+            Profile::FullTable | Profile::ManyApplications => usual,
         }
     }
 }
@@ -173,9 +190,9 @@ pub fn event_for(random: &mut Random, ledger: &Ledger) -> [u8; EVENT_BYTES] {
         return noise::undecodable(&mut draft);
     }
     let codes: &[u8] = match ledger.book.phase {
-        _ if random.percent(15) => &[1, 2, 3, 4, 5, 6, 7, 8, 9, 10, 11, 12],
+        _ if random.percent(15) => &[1, 2, 3, 4, 5, 6, 7, 8, 9, 10, 11, 12, 13],
         Phase::Closed => &[1, 1, 1, 2, 3, 4, 5, 7],
-        Phase::Trading => &[2, 3, 4, 5, 6, 6, 7, 8, 8, 9, 9, 9, 9, 10, 10, 10, 11, 11, 12],
+        Phase::Trading => &[2, 3, 4, 5, 6, 6, 7, 8, 8, 9, 9, 9, 9, 10, 10, 10, 11, 11, 12, 13, 13],
         Phase::Paid => &[2, 4, 7, 12, 12, 12],
     };
     let code = random.pick(codes);

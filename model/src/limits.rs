@@ -11,6 +11,8 @@ pub const JOURNAL_CAPACITY: usize = 1_024;
 
 /// Slots of any lent table.
 pub const CAPACITY: usize = 4_096;
+/// Products that may be posted.
+pub const PRODUCTS: usize = 16;
 /// Applications that may stand for the evening.
 pub const APPLICATIONS: usize = 128;
 /// Units of one security, effective and arriving together.

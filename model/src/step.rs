@@ -1,4 +1,4 @@
-//! One event on one book: the causes in rising order, then the action.
+//! One event on one book: the causes in their order, then the action.
 //!
 //! Every event is a column of early returns that can be laid beside the
 //! paper's table, and changes nothing before the last of them; so a refused
@@ -6,10 +6,11 @@
 
 mod collateral;
 mod day;
-mod trading;
+mod terms;
+pub(crate) mod trading;
 
 use crate::answer::{Answer, Refusal};
-use crate::book::{Book, Phase, Trade};
+use crate::book::{Book, Phase, Posting, Trade};
 use crate::event::{Event, EVENT_BYTES};
 use crate::limits::{NET, UNPAID};
 
@@ -59,7 +60,15 @@ fn act(calendar: &[u32], book: &mut Book, table: &mut [Trade], event: Event) -> 
         }
         Event::Pay => day::pay(book),
         Event::Close => day::close(calendar, book, table),
+        Event::Post { product, term, price, fallback } => {
+            trading::post(book, product.into(), Posting { term, price, fallback })
+        }
     }
+}
+
+/// The records that a Close on a fit book would start, in table order.
+pub fn started_terms(calendar: &[u32], book: &Book, table: &[Trade]) -> Vec<Trade> {
+    terms::started(calendar, book, table).into_iter().map(|(_, record)| record).collect()
 }
 
 /// Today, if the book is in Trading; a fit book then has a day.

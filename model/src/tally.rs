@@ -1,5 +1,6 @@
 //! The tally of demand 3: a second account of the same list, "told only the
-//! calendar, the events, their answers' numbers and, at an Open, the status".
+//! calendar, the events, their answers' numbers and, at an Open, the status";
+//! and at a Close "which ones started, with their records".
 
 use crate::book::{Status, Trade};
 use crate::event::{Event, Terms};
@@ -19,8 +20,16 @@ pub struct Tally {
 }
 
 impl Tally {
-    /// "Only answer 0 changes it." `status` is looked at for an Open alone.
-    pub fn record(&mut self, calendar: &[u32], event: Event, number: u32, status: Status) {
+    /// "Only answer 0 changes it." `status` is looked at for an Open alone, the
+    /// records of `started` terms for a Close.
+    pub fn record(
+        &mut self,
+        calendar: &[u32],
+        event: Event,
+        number: u32,
+        status: Status,
+        started: &[Trade],
+    ) {
         if number != 0 {
             return;
         }
@@ -35,12 +44,13 @@ impl Tally {
                 self.running += amount;
             }
             Event::Pay => self.paid = self.cleared,
-            Event::Close => self.close(calendar),
+            Event::Close => self.close(calendar, started),
             Event::Size { .. }
             | Event::Rate { .. }
             | Event::Pledge { .. }
             | Event::Freeze { .. }
-            | Event::Withdraw { .. } => {}
+            | Event::Withdraw { .. }
+            | Event::Post { .. } => {}
         }
         self.rows.retain(|row| row.sheets > 0);
     }
@@ -56,16 +66,27 @@ impl Tally {
     }
 
     fn begin(&mut self, calendar: &[u32], terms: Terms) {
-        let Terms { contract, sheets, price, fallback, due } = terms;
+        let Terms { contract, sheets, price, fallback, due, .. } = terms;
+        let product = u64::from(terms.product);
         let first_payment = self.payment_day(calendar);
-        self.rows.push(Trade { contract, sheets, price, fallback, first_payment, due });
+        self.rows.push(Trade { contract, sheets, price, fallback, first_payment, due, product });
         self.begun += i128::from(sheets);
         self.running -= i128::from(initial_amount(sheets));
     }
 
-    fn close(&mut self, calendar: &[u32]) {
+    /// "A started term counts as an initial trade in every total": its row stands
+    /// where the matured one stood.
+    fn start(&mut self, record: &Trade) {
+        let row = self.rows.iter_mut().find(|row| row.contract == record.contract);
+        *row.expect("a term starts where one matured") = *record;
+        self.begun += i128::from(record.sheets);
+        self.running -= i128::from(initial_amount(record.sheets));
+    }
+
+    fn close(&mut self, calendar: &[u32], started: &[Trade]) {
         let day = self.day.expect("a Close follows an Open");
         self.running += self.take(calendar, |row| (row.due <= day).then_some((row.sheets, row.price)));
+        started.iter().for_each(|record| self.start(record));
         self.cleared += std::mem::take(&mut self.running);
     }
 

@@ -8,16 +8,20 @@
 //!
 //! open
 //! pledge 0 200                   # and freeze, withdraw: kind and units
+//! post 3 term 7 price 3650 fallback 1000
 //! initial 100 contract 7 price 3650 fallback 1000 due 4
+//! initial 100 contract 8 price 3650 fallback 1000 due 4 product 3
 //! early 50 contract 7 price 3000
 //! pay
 //! close
-//! bytes 0d00000000000000 0000000000000000 0000000000000000 0000000000000000 0000000000000000
+//! bytes 0e00000000000000 0000000000000000 0000000000000000 0000000000000000 0000000000000000
 //! ```
 //!
 //! The calendar comes first and may go on over several lines. `bytes` is any
-//! event as its 40 bytes, so that every well-formed journal has a text. A day
-//! may be a date wherever it stands:
+//! event as its 40 bytes, so that every well-formed journal has a text. An initial
+//! trade's product is the number that is posted, 0 to 254 as far as the text goes;
+//! its byte is the number plus 1, or 0 without one. A day may be a date wherever
+//! it stands:
 //!
 //! ```text
 //! calendar days 2026-11-16..2026-11-20 2026-11-23

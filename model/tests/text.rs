@@ -26,7 +26,7 @@ fn shown_with(bytes: &[u8], days: DaysAs) -> String {
 
 #[test]
 fn each_event_has_its_line() {
-    let terms = Terms { sheets: 100, contract: 7, price: 3_650, fallback: 1_000, due: 4 };
+    let terms = Terms { sheets: 100, contract: 7, price: 3_650, fallback: 1_000, due: 4, product: 0 };
     let lines = [
         ("open", Event::Open),
         ("in own 5000000", Event::FundIn { account: Account::Own, fen: 5_000_000 }),
@@ -40,9 +40,29 @@ fn each_event_has_its_line() {
         ("freeze 255 1", Event::Freeze { kind: 255, units: 1 }),
         ("withdraw 1 18446744073709551615", Event::Withdraw { kind: 1, units: u64::MAX }),
         ("initial 100 contract 7 price 3650 fallback 1000 due 4", Event::Initial(terms)),
+        (
+            "initial 100 contract 7 price 3650 fallback 1000 due 4 product 3",
+            Event::Initial(Terms { product: 4, ..terms }),
+        ),
+        (
+            "initial 100 contract 7 price 3650 fallback 1000 due 4 product 0",
+            Event::Initial(Terms { product: 1, ..terms }),
+        ),
+        (
+            "initial 100 contract 7 price 3650 fallback 1000 due 4 product 254",
+            Event::Initial(Terms { product: 255, ..terms }),
+        ),
         ("early 50 contract 7 price 3000", Event::Early { sheets: 50, contract: 7, price: 3_000 }),
         ("pay", Event::Pay),
         ("close", Event::Close),
+        (
+            "post 3 term 7 price 3650 fallback 1000",
+            Event::Post { product: 3, term: 7, price: 3_650, fallback: 1_000 },
+        ),
+        (
+            "post 255 term 18446744073709551615 price 4294967295 fallback 0",
+            Event::Post { product: 255, term: u64::MAX, price: u32::MAX, fallback: 0 },
+        ),
     ];
     for (line, event) in lines {
         assert_eq!(alone(line), Ok(of_event(event)), "{line}");
@@ -98,8 +118,8 @@ fn calendars_are_shown_in_days_where_these_say_all() {
 #[test]
 fn an_event_that_is_none_is_shown_as_its_bytes() {
     let mut bytes = [0; EVENT_BYTES];
-    (bytes[0], bytes[39]) = (13, 0xab);
-    let line = "bytes 0d00000000000000 0000000000000000 0000000000000000 0000000000000000 00000000000000ab";
+    (bytes[0], bytes[39]) = (14, 0xab);
+    let line = "bytes 0e00000000000000 0000000000000000 0000000000000000 0000000000000000 00000000000000ab";
     assert_eq!(shown(&write(&[], &[bytes])).lines().last(), Some(line));
     assert_eq!(alone(line), Ok(write(&[], &[bytes])));
     assert_eq!(alone(&line.to_uppercase().replace("BYTES", "bytes")), Ok(write(&[], &[bytes])));
@@ -109,7 +129,7 @@ fn an_event_that_is_none_is_shown_as_its_bytes() {
 #[test]
 fn a_refused_line_is_named_with_what_was_expected() {
     let refused = [
-        ("opne", "expected calendar, open, in, out, size, rate, pledge, freeze, withdraw, initial, early, pay, close or bytes, found `opne`"),
+        ("opne", "expected calendar, open, in, out, size, rate, pledge, freeze, withdraw, initial, early, pay, close, post or bytes, found `opne`"),
         ("initial 100 contract 7 price 3650 fallback 1000", "initial needs a due day"),
         ("initial 100 contract 7 price 3650 due 4", "initial needs a fallback price, found `due`"),
         ("initial 100 contract", "initial needs a contract number"),
@@ -125,6 +145,18 @@ fn a_refused_line_is_named_with_what_was_expected() {
         ("size 18,446,744,073,709,551,616", "a number of sheets is at most 18446744073709551615, found 18446744073709551616"),
         ("early 5 contract 7 price 4294967296", "a price is at most 4294967295, found 4294967296"),
         ("initial 5 contract 7 price 1 fallback 1 due 4294967296", "a due day is at most 4294967295, found 4294967296"),
+        ("initial 5 contract 7 price 1 fallback 1 due 4 product", "initial needs a product"),
+        ("initial 5 contract 7 price 1 fallback 1 due 4 product none", "initial needs a product, found `none`"),
+        ("initial 5 contract 7 price 1 fallback 1 due 4 product 255", "a product is at most 254, found 255"),
+        ("initial 5 contract 7 price 1 fallback 1 due 4 product 3 4", "initial takes nothing more, found `4`"),
+        ("initial 5 contract 7 price 1 fallback 1 due 4 term 3", "initial takes nothing more, found `term`"),
+        ("initial 5 contract 7 price 1 fallback 1 product 3", "initial needs a due day, found `product`"),
+        ("post", "post needs a product"),
+        ("post 256 term 7 price 1 fallback 1", "a product is at most 255, found 256"),
+        ("post 3 price 1 fallback 1", "post needs a term in days, found `price`"),
+        ("post 3 term 7 price 1", "post needs a fallback price"),
+        ("post 3 term week price 1 fallback 1", "post needs a term in days, found `week`"),
+        ("post 3 term 7 price 1 fallback 1 due 4", "post takes nothing more, found `due`"),
         ("pay now", "pay takes nothing more, found `now`"),
         ("size 5 6", "size takes nothing more, found `6`"),
         ("bytes 0d", "bytes needs 80 hexadecimal digits, found 2"),
@@ -247,8 +279,9 @@ fn days_are_shown_as_dates_where_they_have_one() {
     let mut late = vec![0; 1_142];
     late[1_141] = 0xf0 | 1 << 12 | 1 << 31; // day 32 × 1,141 is 36,512
     assert_eq!(dated(&late), "calendar days 2099-12-23..2099-12-26 2099-12-31 36543\n\n");
-    let initial =
-        |due| Event::Initial(Terms { sheets: 100, contract: 7, price: 3_650, fallback: 1_000, due });
+    let initial = |due| {
+        Event::Initial(Terms { sheets: 100, contract: 7, price: 3_650, fallback: 1_000, due, product: 0 })
+    };
     for (due, said) in [
         (0, "2000-01-01"),
         (9_823, "2026-11-23"),

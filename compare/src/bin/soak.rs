@@ -88,7 +88,7 @@ fn judge(trial: &impl Trial) -> Result<(), String> {
     println!();
     match trial.unexpected_pairs() {
         unexpected if unexpected.is_empty() => Ok(()),
-        unexpected => Err(format!("met, and not allowed by document 01: {}", names(unexpected))),
+        unexpected => Err(format!("met, and not allowed by the papers: {}", names(unexpected))),
     }
 }
 

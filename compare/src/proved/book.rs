@@ -60,6 +60,7 @@ pub struct Trade {
     fallback: Ticks,
     first: u32,
     due: u32,
+    product: u64,
 }
 
 #[repr(C)]
@@ -112,9 +113,9 @@ pub(super) fn codes(book: &Book) -> Codes {
 
 impl From<&book::Trade> for Trade {
     fn from(trade: &book::Trade) -> Trade {
-        let &book::Trade { contract, sheets, price, fallback, first_payment, due } = trade;
+        let &book::Trade { contract, sheets, price, fallback, first_payment, due, product } = trade;
         let (price, fallback) = (Ticks(price), Ticks(fallback));
-        Trade { contract, sheets: Sheets(sheets), price, fallback, first: first_payment, due }
+        Trade { contract, sheets: Sheets(sheets), price, fallback, first: first_payment, due, product }
     }
 }
 

@@ -1,15 +1,23 @@
 //! A book in lent numbers, changed in place, as the archive lays it out, and
-//! the calls on it. A slot of the table is four numbers in memory.
+//! the calls on it. A slot of the table is five numbers in memory.
 
 use model::answer;
-use model::book::{Book, Holding};
+use model::book::{Book, Holding, Posting};
 use model::event::EVENT_BYTES;
 use model::journal::Line;
-use model::limits::APPLICATIONS;
+use model::limits::{APPLICATIONS, PRODUCTS};
 use model::money::CASH_KIND;
 
 use super::book::{codes, guarantee, sums, Answer, Cash, Codes, Cover, Guarantee, Nets, Sums, Trade};
 use super::{lines_of, Fen, Sheets};
+
+/// Numbers of a trade, of a security and of a posting.
+const TRADE: usize = 5;
+const SECURITY: usize = 4;
+const POSTING: usize = 2;
+/// The securities, and what is posted behind them, are one row.
+const SECURITIES: usize = CASH_KIND * SECURITY;
+const HELD: usize = SECURITIES + PRODUCTS * POSTING;
 
 /// A book's scalars: what is no row of numbers.
 #[repr(C)]
@@ -41,7 +49,7 @@ struct RawEnded {
 #[derive(Clone, Copy, Debug, PartialEq, Eq)]
 pub struct Rows {
     raw: RawScalars,
-    held: [u64; CASH_KIND * 4],
+    held: [u64; HELD],
     kinds: [u8; APPLICATIONS],
     units: [u64; APPLICATIONS],
 }
@@ -54,12 +62,25 @@ impl Rows {
     /// Fails on what differs, part by part.
     pub fn assert_same(&self, wanted: &Rows) {
         assert_eq!(self.raw, wanted.raw);
-        for (kind, (got, wanted)) in self.held.chunks(4).zip(wanted.held.chunks(4)).enumerate() {
+        let (got, wanted_held) = (self.held.split_at(SECURITIES), wanted.held.split_at(SECURITIES));
+        for (kind, (got, wanted)) in in_pairs(got.0, wanted_held.0, SECURITY) {
             assert_eq!(got, wanted, "effective, arriving, frozen and rate of kind {kind}");
+        }
+        for (product, (got, wanted)) in in_pairs(got.1, wanted_held.1, POSTING) {
+            assert_eq!(got, wanted, "term and prices posted of product {product}");
         }
         assert_eq!(self.kinds, wanted.kinds, "kinds of the applications");
         assert_eq!(self.units, wanted.units, "units of the applications");
     }
+}
+
+/// Two rows, so many numbers of each at a time, from place 0 on.
+fn in_pairs<'a>(
+    got: &'a [u64],
+    wanted: &'a [u64],
+    numbers: usize,
+) -> impl Iterator<Item = (usize, (&'a [u64], &'a [u64]))> {
+    got.chunks(numbers).zip(wanted.chunks(numbers)).enumerate()
 }
 
 extern "C" {
@@ -122,7 +143,7 @@ pub struct Lengths {
 impl Lengths {
     /// All of them.
     pub fn whole(table: &[Trade]) -> Lengths {
-        Lengths { held: CASH_KIND * 4, kinds: APPLICATIONS, units: APPLICATIONS, table: table.len() * 4 }
+        Lengths { held: HELD, kinds: APPLICATIONS, units: APPLICATIONS, table: table.len() * TRADE }
     }
 
     /// Fails where more is lent than there is.
@@ -257,11 +278,6 @@ pub fn run(calendar: &[u32], rows: &mut Rows, table: &mut [Trade], events: &[u8]
 
 impl From<&Book> for Rows {
     fn from(book: &Book) -> Rows {
-        let mut held = [0; CASH_KIND * 4];
-        for (kind, row) in held.chunks_exact_mut(4).enumerate() {
-            let Holding { effective, arriving, frozen } = book.holdings[kind];
-            row.copy_from_slice(&[effective, arriving, frozen, book.rates[kind]]);
-        }
         Rows {
             raw: RawScalars {
                 nets: Nets { today: book.todays_net, cleared: book.cleared_net },
@@ -273,9 +289,23 @@ impl From<&Book> for Rows {
                 applications: book.applications,
                 trades: book.trades,
             },
-            held,
+            held: held(book),
             kinds: book.application_kinds,
             units: book.application_units,
         }
     }
+}
+
+fn held(book: &Book) -> [u64; HELD] {
+    let mut held = [0; HELD];
+    let (securities, postings) = held.split_at_mut(SECURITIES);
+    for (kind, row) in securities.chunks_exact_mut(SECURITY).enumerate() {
+        let Holding { effective, arriving, frozen } = book.holdings[kind];
+        row.copy_from_slice(&[effective, arriving, frozen, book.rates[kind]]);
+    }
+    for (row, posting) in postings.chunks_exact_mut(POSTING).zip(&book.postings) {
+        let &Posting { term, price, fallback } = posting;
+        row.copy_from_slice(&[term, u64::from(price) | u64::from(fallback) << 32]);
+    }
+    held
 }

@@ -7,6 +7,7 @@ use std::hash::{DefaultHasher, Hash, Hasher};
 
 use model::cases::ledger::{Ledger, Step};
 use model::coverage::evenings::Evenings;
+use model::coverage::terms::NextTerms;
 use model::coverage::{allowed, Coverage};
 use model::generator::generate;
 use model::generator::random::Random;
@@ -35,6 +36,7 @@ pub struct Journals {
     fullest_table: usize,
     coverage: Coverage,
     evenings: Evenings,
+    next_terms: NextTerms,
 }
 
 impl Trial for Journals {
@@ -65,6 +67,10 @@ impl Trial for Journals {
 
     fn evenings(&self) -> Evenings {
         self.evenings
+    }
+
+    fn next_terms(&self) -> NextTerms {
+        self.next_terms
     }
 }
 
@@ -99,6 +105,8 @@ impl Journals {
             let watch = |step: Step| {
                 self.fullest_table = self.fullest_table.max(step.after.trades);
                 self.evenings.record(step.before, step.after, step.table);
+                let Step { before, trades, event, answer, .. } = step;
+                self.next_terms.record(&journal.calendar, before, trades, event, answer.number);
             };
             both_run_watched(&mut ledger, events, watch).expect("the book is fit");
         }
@@ -132,6 +140,6 @@ impl fmt::Display for Journals {
         writeln!(f, "longest listing       {} lines, {} bytes", self.most_lines, self.most_bytes)?;
         writeln!(f, "fullest table         {} trades", self.fullest_table)?;
         writeln!(f, "headroom              {}", self.headroom)?;
-        write!(f, "{}{}", self.evenings, self.coverage)
+        write!(f, "{}{}{}", self.evenings, self.next_terms, self.coverage)
     }
 }

@@ -67,18 +67,20 @@ fn what_lies_past_the_lines_is_as_it_was() {
     assert!(exact == Lent::of(&ledger));
 }
 
-/// Rows of securities or of applications, or a table, that end too soon.
-fn cuts(table: &[book::Trade]) -> [Lengths; 8] {
+/// Rows of securities and postings or of applications, or a table, that end too soon.
+fn cuts(table: &[book::Trade]) -> [Lengths; 10] {
     let whole = Lengths::whole(table);
     [
         Lengths { held: 0, ..whole },
         Lengths { held: whole.held - 1, ..whole },
+        Lengths { held: whole.held - 32, ..whole },
         Lengths { kinds: 0, ..whole },
         Lengths { kinds: whole.kinds - 1, ..whole },
         Lengths { units: 0, ..whole },
         Lengths { units: whole.units - 1, ..whole },
         Lengths { table: whole.table - 1, ..whole },
-        Lengths { table: whole.table - 3, ..whole },
+        Lengths { table: whole.table - 4, ..whole },
+        Lengths { table: whole.table - 6, ..whole },
     ]
 }
 

@@ -6,7 +6,9 @@
 mod lengths;
 mod limits;
 mod malformed;
+mod rolling;
 mod standings;
+mod terms;
 mod unfit;
 
 use compare::sides::{both, both_run, fill_spare_slots};

@@ -2,12 +2,12 @@
 //! and tables that no journal brings together.
 
 use super::ledger::Ledger;
-use crate::book::{Book, Holding, Phase, Status, Trade};
+use crate::book::{Book, Holding, Phase, Posting, Status, Trade};
 use crate::generator::calendars::{calendar, Sort};
 use crate::generator::random::Random;
 use crate::limits::{
-    APPLICATIONS, APPLICATION_UNITS, CAPACITY, CASH, DAYS_AHEAD, FAILED_PAYMENTS, NET, PRICE, RATE,
-    SECURITY_UNITS, SHORT_CLOSES, SIZE, TRADE_SHEETS, UNPAID,
+    APPLICATIONS, APPLICATION_UNITS, CAPACITY, CASH, DAYS_AHEAD, FAILED_PAYMENTS, NET, PRICE, PRODUCTS,
+    RATE, SECURITY_UNITS, SHORT_CLOSES, SIZE, TRADE_SHEETS, UNPAID,
 };
 use crate::money::{first_from, next_after, CASH_KIND, FEN_PER_SHEET, KINDS};
 
@@ -23,9 +23,13 @@ pub fn drawn(random: &mut Random) -> Ledger {
     let outstanding = ledger.book.outstanding(&ledger.table);
     ledger.book.size = random.pick(&[outstanding, SIZE, outstanding + (SIZE - outstanding) / 2]);
     draw_holdings(random, &mut ledger.book, outstanding);
+    if random.percent(20) {
+        cover_some_of_the_due(random, &mut ledger);
+    }
     draw_cash_and_nets(random, &mut ledger.book);
     draw_unpaid(random, &mut ledger.book, outstanding);
     draw_applications(random, &mut ledger.book);
+    draw_postings(random, &mut ledger.book);
     ledger
 }
 
@@ -83,6 +87,7 @@ fn trades(random: &mut Random, day: u32, payment_day: u32) -> Vec<Trade> {
             fallback: up_to(random, PRICE) as u32,
             first_payment: payment_day - up_to(random, payment_day.into()) as u32,
             due: due_day(random, day),
+            product: product(random),
         })
         .collect()
 }
@@ -98,6 +103,15 @@ fn due_day(random: &mut Random, day: u32) -> u32 {
     }
 }
 
+/// None, or any of them.
+fn product(random: &mut Random) -> u64 {
+    if random.percent(30) {
+        0
+    } else {
+        random.between(1, PRODUCTS as u64)
+    }
+}
+
 /// None, a few, or as many as may be, each with content of its own.
 fn add_spare_slots(random: &mut Random, table: &mut Vec<Trade>) {
     let room = (CAPACITY - table.len()) as u64;
@@ -109,6 +123,7 @@ fn add_spare_slots(random: &mut Random, table: &mut Vec<Trade>) {
         fallback: random.any() as u32,
         first_payment: random.any() as u32,
         due: random.any() as u32,
+        product: random.any(),
     }));
 }
 
@@ -121,6 +136,19 @@ fn draw_holdings(random: &mut Random, book: &mut Book, outstanding: u64) {
         book.holdings[kind] = Holding { effective, arriving, frozen: frozen(random, effective) };
         book.rates[kind] = random.pick(&[0, 1, 9_000, 9_999, 10_000, RATE]);
     }
+}
+
+/// Units of kind 0 worth what stays after today and some of what is due, so that
+/// not all of these can begin a next term; next to nothing of other securities.
+fn cover_some_of_the_due(random: &mut Random, Ledger { book, table, .. }: &mut Ledger) {
+    let (due, staying): (Vec<&Trade>, Vec<&Trade>) =
+        table[..book.trades].iter().partition(|trade| Some(trade.due) <= book.day);
+    let [due, staying] = [due, staying].map(|trades| trades.iter().map(|trade| trade.sheets).sum::<u64>());
+    for kind in 0..CASH_KIND {
+        book.holdings[kind] = Holding { effective: random.below(3), arriving: random.below(3), frozen: 0 };
+    }
+    book.holdings[0].effective = staying + random.below(due + 1);
+    book.rates[0] = 10_000;
 }
 
 fn frozen(random: &mut Random, effective: u64) -> u64 {
@@ -172,13 +200,25 @@ fn draw_applications(random: &mut Random, book: &mut Book) {
     }
 }
 
+/// Most products posted; what is not may have prices, too.
+fn draw_postings(random: &mut Random, book: &mut Book) {
+    for posting in &mut book.postings {
+        *posting = Posting {
+            term: if random.percent(30) { 0 } else { up_to(random, DAYS_AHEAD.into()) },
+            price: up_to(random, PRICE) as u32,
+            fallback: up_to(random, PRICE) as u32,
+        };
+    }
+}
+
 /// Replaces one number by any other, whatever its order. Most books are unfit
 /// afterwards.
 pub fn replace_a_number(random: &mut Random, Ledger { calendar, book, table }: &mut Ledger) {
     let number = random.any() >> random.below(64);
     let held = &mut book.holdings[random.below(KINDS as u64) as usize];
     let place = random.below(APPLICATIONS as u64) as usize;
-    match random.below(19) {
+    let posting = &mut book.postings[place % PRODUCTS];
+    match random.below(22) {
         0 => book.own = number,
         1 => book.client = number,
         2 => held.effective = number,
@@ -197,6 +237,9 @@ pub fn replace_a_number(random: &mut Random, Ledger { calendar, book, table }: &
         15 => book.applications = number as usize,
         16 => book.application_kinds[place] = number as u8,
         17 => book.application_units[place] = number,
+        18 => posting.term = number,
+        19 => posting.price = number as u32,
+        20 => posting.fallback = number as u32,
         _ if calendar.is_empty() || random.percent(70) => replace_in_a_slot(random, table, number),
         _ => {
             let word = random.below(calendar.len() as u64) as usize;
@@ -211,11 +254,12 @@ fn replace_in_a_slot(random: &mut Random, table: &mut [Trade], number: u64) {
     }
     let contract = random.pick(table).contract;
     let slot = &mut table[random.below(table.len() as u64) as usize];
-    match random.below(5) {
+    match random.below(6) {
         0 => slot.contract = contract,
         1 => slot.sheets = number,
         2 => slot.price = number as u32,
         3 => slot.fallback = number as u32,
+        4 => slot.product = number,
         _ => slot.first_payment = number as u32,
     }
 }

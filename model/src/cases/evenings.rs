@@ -3,7 +3,7 @@
 
 use super::ledger::Ledger;
 use super::Case;
-use crate::book::{Book, Holding, Phase, Trade};
+use crate::book::{Book, Holding, Phase, Posting, Trade};
 use crate::event::Event;
 use crate::generator::random::Random;
 use crate::limits::{APPLICATIONS, RATE, SIZE};
@@ -27,12 +27,14 @@ pub fn evening(random: &mut Random) -> Ledger {
     ledger
 }
 
-/// Some of the sheets mature tonight, the others were redeemed and are in U, in
-/// its two parts; with income or without.
+/// Some of the sheets mature tonight, and may begin a next term; the others were
+/// redeemed and are in U, in its two parts; with income or without.
 fn redeem(random: &mut Random, book: &mut Book, maturing: &mut Trade, redeemed: u64) {
     let sheets = random.below(redeemed + 1);
     let (price, income) = random.pick(&[(0, 0), (0, 0), (3_650, 1), (100_000, 9_999)]);
-    *maturing = Trade { contract: 2, sheets, price, due: 1, ..Trade::default() };
+    let product = random.below(2);
+    *maturing = Trade { contract: 2, sheets, price, due: 1, product, ..Trade::default() };
+    book.postings[0] = Posting { term: 7, price: 3_650, fallback: 0 };
     let unpaid = if redeemed == 0 { 0 } else { FEN_PER_SHEET * (redeemed - sheets) + income };
     book.todays_unpaid = random.below(unpaid + 1);
     book.cleared_unpaid = unpaid - book.todays_unpaid;

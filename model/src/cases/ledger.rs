@@ -16,11 +16,13 @@ pub struct Ledger {
     pub table: Vec<Trade>,
 }
 
-/// One event of a run, with the book before it and the book and table after it.
+/// One event of a run, with the book and its trades before it and the book and
+/// table after it.
 pub struct Step<'a> {
     pub event: &'a [u8; EVENT_BYTES],
     pub answer: Answer,
     pub before: &'a Book,
+    pub trades: &'a [Trade],
     pub after: &'a Book,
     pub table: &'a [Trade],
 }
@@ -60,9 +62,12 @@ impl Ledger {
     pub fn run(&mut self, events: &[[u8; EVENT_BYTES]], mut each: impl FnMut(Step)) {
         let Ledger { calendar, book, table } = self;
         let mut before = book.clone();
+        let mut trades: Vec<Trade> = table.iter().take(book.trades).copied().collect();
         step::run(calendar, book, table, events, |event, answer, after, table| {
-            each(Step { event, answer, before: &before, after, table });
+            each(Step { event, answer, before: &before, trades: &trades, after, table });
             before.clone_from(after);
+            trades.clear();
+            trades.extend(table.iter().take(after.trades));
         });
     }
 
@@ -98,5 +103,15 @@ pub const FIRST_DAY: [Event; 8] = [
 
 /// A trade at the prices of the worked example.
 pub fn trade(contract: u64, sheets: u64, due: u32) -> Event {
-    Event::Initial(Terms { contract, sheets, price: 3_650, fallback: 1_000, due })
+    trade_of(0, contract, sheets, due)
+}
+
+/// The same of a product, as its field has it.
+pub fn trade_of(product: u8, contract: u64, sheets: u64, due: u32) -> Event {
+    Event::Initial(Terms { contract, sheets, price: 3_650, fallback: 1_000, due, product })
+}
+
+/// A product for so many days, at prices of its own.
+pub fn post(product: u8, term: u64) -> Event {
+    Event::Post { product, term, price: 3_000, fallback: 900 }
 }

@@ -48,7 +48,7 @@ fn day_with_cash() -> Vec<Event> {
 
 /// A hundred of them bring O to 10^10.
 fn initial(contract: u64) -> Event {
-    Event::Initial(Terms { contract, sheets: TRADE_SHEETS, price: 1, fallback: 1, due: 300 })
+    Event::Initial(Terms { contract, sheets: TRADE_SHEETS, price: 1, fallback: 1, due: 300, product: 0 })
 }
 
 /// 10, 12, 13, 14 and 15.

@@ -1,19 +1,21 @@
 //! Each way of being unfit, alone; and books that are just fit.
 
-use super::ledger::{trade, Ledger};
-use crate::book::{Phase, Trade};
+use super::ledger::{post, trade, trade_of, Ledger};
+use crate::book::{Phase, Posting, Trade};
 use crate::event::{Account, Event, EVENT_BYTES};
 use crate::money::next_trading_day;
 
 /// What a change is called, and the change.
 pub type Change = (&'static str, fn(&mut Ledger));
 
-/// A book in the middle of a day with trades, cash, frozen units and applications.
+/// A book in the middle of a day with trades, cash, frozen units, applications
+/// and a product.
 pub fn busy_ledger() -> Ledger {
     let mut ledger = Ledger::second_day(&[0xffff_ff00; 1_200]);
     for event in [
         trade(7, 100, 20),
-        trade(8, 10, 30),
+        post(3, 7),
+        trade_of(4, 8, 10, 30),
         Event::Pledge { kind: 32, units: 5_000 },
         Event::Withdraw { kind: 0, units: 10 },
         Event::Freeze { kind: 0, units: 20 },
@@ -37,6 +39,7 @@ pub fn every_event() -> Vec<[u8; EVENT_BYTES]> {
         Event::Withdraw { kind: 0, units: 1 },
         trade(9, 10, 40),
         Event::Early { contract: 7, sheets: 1, price: 1 },
+        Event::Post { product: 15, term: 365, price: 1, fallback: 1 },
         Event::Pay,
         Event::Close,
     ];
@@ -44,7 +47,7 @@ pub fn every_event() -> Vec<[u8; EVENT_BYTES]> {
 }
 
 /// Each of them makes a fit book unfit that `can_be_changed`.
-pub const UNFIT: [Change; 56] = [
+pub const UNFIT: [Change; 70] = [
     ("calendar above 1,200 words", |l| l.calendar.resize(1_201, 0)),
     ("capacity above 4,096", |l| l.table.resize(4_097, Trade::default())),
     ("more trades than capacity", |l| l.table.truncate(l.book.trades - 1)),
@@ -114,7 +117,25 @@ pub const UNFIT: [Change; 56] = [
     ("no day, but Paid", |l| (l.book.day, l.book.phase, l.book.trades) = (None, Phase::Paid, 0)),
     ("failed run above 2", |l| l.book.failed_run = 3),
     ("short run above 3", |l| l.book.short_run = 4),
+    ("product of 17", |l| l.table[0].product = 17),
+    ("last product of 17", |l| l.table[l.book.trades - 1].product = 17),
+    ("product of 2^32", |l| l.table[1].product = 1 << 32),
+    ("product near 2^64", |l| l.table[0].product = u64::MAX),
+    ("first term of 366", |l| l.book.postings[0].term = 366),
+    ("last term of 366", |l| l.book.postings[15].term = 366),
+    ("term of 2^32", |l| l.book.postings[7].term = 1 << 32),
+    ("term near 2^64", |l| l.book.postings[15].term = u64::MAX),
+    ("first posted price above 100,000", |l| l.book.postings[0] = posting(7, 100_001, 0)),
+    ("last posted price above 100,000", |l| l.book.postings[15] = posting(7, u32::MAX, 0)),
+    ("first posted fallback above 100,000", |l| l.book.postings[0] = posting(7, 0, u32::MAX)),
+    ("last posted fallback above 100,000", |l| l.book.postings[15] = posting(7, 0, 100_001)),
+    ("price above 100,000 where none is posted", |l| l.book.postings[0] = posting(0, 100_001, 0)),
+    ("fallback above 100,000 where none is posted", |l| l.book.postings[15] = posting(0, 0, 100_001)),
 ];
+
+fn posting(term: u64, price: u32, fallback: u32) -> Posting {
+    Posting { term, price, fallback }
+}
 
 /// Whether a book has what the changes of `UNFIT` lay hands on: a day, two
 /// trades or more, and a sheet left.
@@ -138,7 +159,7 @@ fn todays_word(ledger: &mut Ledger) -> &mut u32 {
 }
 
 /// Of the busy ledger, which each of them leaves fit.
-pub const STILL_FIT: [Change; 17] = [
+pub const STILL_FIT: [Change; 20] = [
     ("capacity 4,096", |l| l.table.resize(4_096, Trade::default())),
     ("no spare slot", |l| l.table.truncate(2)),
     ("10^12 units", |l| (l.book.holdings[9].effective, l.book.holdings[9].arriving) = (1, 999_999_999_999)),
@@ -153,7 +174,12 @@ pub const STILL_FIT: [Change; 17] = [
     ("both unpaid", |l| (l.book.todays_unpaid, l.book.cleared_unpaid) = (10u64.pow(18), 3 * 10u64.pow(18))),
     ("runs", |l| (l.book.failed_run, l.book.short_run) = (2, 3)),
     ("due days of any sort", |l| (l.table[0].due, l.table[1].due) = (0, u32::MAX)),
-    ("spare slots of any content", |l| l.table[2] = Trade { contract: 7, sheets: u64::MAX, ..l.table[0] }),
+    ("spare slots of any content", |l| {
+        l.table[2] = Trade { contract: 7, sheets: u64::MAX, product: u64::MAX, ..l.table[0] }
+    }),
+    ("product of 16", |l| l.table[1].product = 16),
+    ("postings at their limits", |l| l.book.postings = [posting(365, 100_000, 100_000); 16]),
+    ("prices where none is posted", |l| l.book.postings = [posting(0, 100_000, 100_000); 16]),
     ("applications of 10^16 units", |l| {
         (l.book.applications, l.book.application_units) = (128, [10_000_000_000_000_000; 128])
     }),

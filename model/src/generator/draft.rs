@@ -5,10 +5,14 @@ use crate::book::{Book, Phase, Status, Trade};
 use crate::cases::ledger::Ledger;
 use crate::event::{Account, Event, Terms, EVENT_BYTES};
 use crate::limits::{
-    CASH, DAYS_AHEAD, JOURNAL_CAPACITY, JOURNAL_EVENTS, PRICE, RATE, SECURITY_UNITS, SIZE, TRADE_SHEETS,
+    CASH, DAYS_AHEAD, JOURNAL_CAPACITY, JOURNAL_EVENTS, PRICE, PRODUCTS, RATE, SECURITY_UNITS, SIZE,
+    TRADE_SHEETS,
 };
 use crate::money::CASH_KIND;
 use crate::step::step;
+
+/// The products that are posted without being bold.
+pub const POSTED: [u8; 4] = [0, 1, 2, 15];
 
 pub struct Draft {
     pub random: Random,
@@ -20,6 +24,8 @@ pub struct Draft {
     pub bold: u64,
     /// The largest trade offered without being bold.
     pub largest_trade: u64,
+    /// Chance, in percent, that an initial trade has a product where one is posted.
+    pub rolling: u64,
     contracts: Vec<u64>,
 }
 
@@ -31,8 +37,8 @@ impl Draft {
     /// Goes on from a fit book.
     pub fn on(random: Random, Ledger { calendar, book, table }: Ledger) -> Draft {
         let contracts = table[..book.trades].iter().map(|trade| trade.contract).collect();
-        let (events, bold, largest_trade) = (Vec::new(), 10, 10_000);
-        Draft { random, calendar, events, book, table, bold, largest_trade, contracts }
+        let (events, bold, largest_trade, rolling) = (Vec::new(), 10, 10_000, 50);
+        Draft { random, calendar, events, book, table, bold, largest_trade, rolling, contracts }
     }
 
     pub fn is_full(&self) -> bool {
@@ -70,7 +76,8 @@ impl Draft {
             9 => self.draw_initial(),
             10 => self.draw_early(),
             11 => Event::Pay,
-            _ => Event::Close,
+            12 => Event::Close,
+            _ => self.draw_post(),
         }
     }
 
@@ -197,14 +204,42 @@ impl Draft {
         } else {
             10 * self.random.of_any_order(headroom.min(self.largest_trade) / 10)
         };
-        let (price, fallback) = (self.price(), self.price());
-        Event::Initial(Terms {
-            contract: self.new_contract(),
-            sheets,
-            price,
-            fallback,
-            due: self.due_day(),
-        })
+        let (price, fallback, product) = (self.price(), self.price(), self.product_field());
+        let contract = self.new_contract();
+        let due = if product > 0 && self.random.percent(60) { self.soon() } else { self.due_day() };
+        Event::Initial(Terms { contract, sheets, price, fallback, due, product })
+    }
+
+    /// Plus 1, a product that is posted; or none. A bold one may be any.
+    fn product_field(&mut self) -> u8 {
+        if self.is_bold() {
+            return self.random.pick(&[0, 1, 2, 16, 17, 18, 128, 255]);
+        }
+        let is_posted = |&product: &u8| self.book.posted(product.into()).is_some();
+        let posted: Vec<u8> = (1..=PRODUCTS as u8).filter(is_posted).collect();
+        let rolling = self.rolling;
+        if posted.is_empty() || !self.random.percent(rolling) {
+            return 0;
+        }
+        self.random.pick(&posted)
+    }
+
+    /// Few products, so that they are posted again; a bold one may be none.
+    fn draw_post(&mut self) -> Event {
+        let bold = self.is_bold();
+        let product = self.random.pick(if bold { &[0, 3, 15, 16, 17, 255] } else { &POSTED });
+        self.draw_post_of(product)
+    }
+
+    pub fn draw_post_of(&mut self, product: u8) -> Event {
+        let term = if self.is_bold() {
+            let most = u64::from(DAYS_AHEAD);
+            self.random.pick(&[0, 1, most, most + 1, (1 << 32) + 7, u64::MAX])
+        } else {
+            let most = self.random.pick(&[10, 30, DAYS_AHEAD]);
+            self.random.of_any_order(most.into())
+        };
+        Event::Post { product, term, price: self.price(), fallback: self.price() }
     }
 
     fn draw_early(&mut self) -> Event {
@@ -237,6 +272,10 @@ impl Draft {
             _ if used_before => self.random.pick(&self.contracts),
             _ => 1 + self.contracts.len() as u64,
         }
+    }
+
+    fn soon(&mut self) -> u32 {
+        self.book.day.unwrap_or(0) + self.random.between(1, 6) as u32
     }
 
     fn due_day(&mut self) -> u32 {

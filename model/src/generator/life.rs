@@ -1,8 +1,8 @@
 //! How a firm lives through its days, from good habits to bad ones.
 
-use super::draft::Draft;
+use super::draft::{Draft, POSTED};
 use super::noise::undecodable;
-use crate::book::Phase;
+use crate::book::{Phase, Trade};
 use crate::cases::ledger::Ledger;
 use crate::event::{Account, Event, Terms};
 use crate::limits::{
@@ -31,6 +31,13 @@ pub struct Habits {
     pub edges: u64,
     /// Days that begin with the damage of earlier ones repaired.
     pub mending: u64,
+    /// Products that are posted in the morning.
+    pub posting: u64,
+    /// Trades with a product, where one is posted.
+    pub rolling: u64,
+    /// Closes before which the pledges come down to what stays and some of what
+    /// is due.
+    pub tight: u64,
     pub largest_trade: u64,
     /// Starts with cash, units and size at their limits.
     pub rich: bool,
@@ -47,6 +54,9 @@ impl Habits {
         shrunk: 15,
         edges: 15,
         mending: 80,
+        posting: 30,
+        rolling: 40,
+        tight: 8,
         largest_trade: 80_000,
         rich: false,
     };
@@ -56,6 +66,7 @@ impl Habits {
 pub fn set_up(draft: &mut Draft, habits: &Habits) {
     draft.bold = habits.bold;
     draft.largest_trade = habits.largest_trade;
+    draft.rolling = habits.rolling;
     let (fen, units) = if habits.rich { (CASH / 2, SECURITY_UNITS) } else { (3_000_000_000, 400_000) };
     draft.offer(Event::Size { sheets: if habits.rich { SIZE } else { 700_000 } });
     draft.offer(Event::FundIn { account: Account::Own, fen });
@@ -88,7 +99,7 @@ pub fn live(draft: &mut Draft, habits: &Habits) {
             continue;
         }
         if draft.random.percent(habits.slips) {
-            let code = draft.random.between(1, 12) as u8;
+            let code = draft.random.between(1, 13) as u8;
             let event = draft.draw(code);
             draft.offer(event);
             continue;
@@ -101,7 +112,8 @@ pub fn live(draft: &mut Draft, habits: &Habits) {
     }
 }
 
-/// Whether a day was opened; the firm may begin it by repairing damage.
+/// Whether a day was opened; the firm may begin it by repairing damage and by
+/// posting products.
 fn open_day(draft: &mut Draft, habits: &Habits) -> bool {
     let opened = draft.offer(Event::Open) == Some(0);
     let damaged = draft.book.failed_run > 0 || draft.book.headroom(&draft.table) < 0;
@@ -109,7 +121,18 @@ fn open_day(draft: &mut Draft, habits: &Habits) -> bool {
         restore_rates(draft);
         unfreeze(draft);
     }
+    post_products(draft, habits);
     opened
+}
+
+/// A suspended firm posts, too; a terminated one is turned down.
+fn post_products(draft: &mut Draft, habits: &Habits) {
+    for product in POSTED {
+        if draft.is_trading() && draft.random.percent(habits.posting) {
+            let event = draft.draw_post_of(product);
+            draft.offer(event);
+        }
+    }
 }
 
 fn unfreeze(draft: &mut Draft) {
@@ -122,7 +145,7 @@ fn unfreeze(draft: &mut Draft) {
 
 fn trade_or_pay(draft: &mut Draft, habits: &Habits) {
     if draft.random.below(habits.day_length) > 0 {
-        let code = draft.random.pick(&[2, 3, 4, 5, 6, 6, 7, 8, 8, 9, 9, 9, 9, 9, 10, 10]);
+        let code = draft.random.pick(&[2, 3, 4, 5, 6, 6, 7, 8, 8, 9, 9, 9, 9, 9, 10, 10, 13]);
         let event = draft.draw(code);
         draft.offer(event);
     } else if draft.is_terminated() {
@@ -187,8 +210,35 @@ fn prepare_payment(draft: &mut Draft, habits: &Habits) {
 fn close_day(draft: &mut Draft, habits: &Habits) {
     if draft.random.percent(habits.shrunk) {
         shrink_value(draft);
+    } else if draft.random.percent(habits.tight) {
+        return close_with_little_room(draft);
     }
     draft.offer(Event::Close);
+}
+
+/// Units are frozen until V covers what stays and some of what is due, so that not
+/// all next terms can start; afterwards they are free again.
+fn close_with_little_room(draft: &mut Draft) {
+    let (today, in_use) = (draft.book.day, &draft.table[..draft.book.trades]);
+    let sheets = |trade: &Trade| trade.sheets;
+    let due: u64 = in_use.iter().filter(|trade| Some(trade.due) <= today).map(sheets).sum();
+    let covered = in_use.iter().map(sheets).sum::<u64>() - draft.random.below(due + 1);
+    for kind in 0..KINDS {
+        freeze_down_to(draft, kind, covered);
+    }
+    draft.offer(Event::Close);
+    unfreeze(draft);
+}
+
+/// Freezes of a kind what V has above so many sheets.
+fn freeze_down_to(draft: &mut Draft, kind: usize, covered: u64) {
+    let book = &draft.book;
+    let of_kind = covered.saturating_sub(book.value() - book.value_of(kind));
+    let kept = (of_kind * RATE_DIVISOR).div_ceil(book.rate_of(kind).max(1));
+    let effective = book.holdings[kind].effective;
+    if effective > kept {
+        draft.offer(Event::Freeze { kind: kind as u8, units: effective - kept });
+    }
 }
 
 /// Units are frozen or rates fall (that of cash cannot: 3), whole or in part,
@@ -236,13 +286,17 @@ pub fn fill_table(draft: &mut Draft) {
 }
 
 /// A hundred trades that bring O to 10^10 sheets, at the highest price and due
-/// as late as may be.
+/// as late as may be, with a product or without.
 pub fn fill_size(draft: &mut Draft) {
     draft.offer(Event::Open);
+    let (term, prices) = (DAYS_AHEAD.into(), PRICE as u32);
+    draft.offer(Event::Post { product: 0, term, price: prices, fallback: prices });
+    let product = draft.random.below(2) as u8;
     for contract in 1_000..1_100 {
         let due = draft.book.day.unwrap_or(0) + DAYS_AHEAD;
         let price = PRICE as u32;
-        draft.offer(Event::Initial(Terms { contract, sheets: TRADE_SHEETS, price, fallback: price, due }));
+        let terms = Terms { contract, sheets: TRADE_SHEETS, price, fallback: price, due, product };
+        draft.offer(Event::Initial(terms));
     }
 }
 

@@ -10,13 +10,14 @@ use crate::limits::{CALENDAR_WORDS, JOURNAL_EVENTS};
 /// nonzero byte in an unused field, or any bytes at all.
 pub fn undecodable(draft: &mut Draft) -> [u8; EVENT_BYTES] {
     loop {
-        let code = draft.random.between(1, 12) as u8;
+        let code = draft.random.between(1, 13) as u8;
         let mut bytes = draft.draw(code).encode();
-        match draft.random.below(8) {
-            0 => bytes[0] = draft.random.pick(&[0, 13, 14, 77, 128, 255]),
+        match draft.random.below(9) {
+            0 => bytes[0] = draft.random.pick(&[0, 14, 15, 77, 128, 255]),
             1 => bytes[1] = draft.random.pick(&[2, 3, 32, 255]),
             2 => bytes = std::array::from_fn(|_| draft.random.any() as u8),
             3 => bytes = [0; EVENT_BYTES],
+            4 => bytes[2] = draft.random.pick(&[1, 4, 16, 17, 255]),
             _ => bytes[draft.random.between(1, 39) as usize] |= 1 << draft.random.below(8),
         }
         if Event::decode(&bytes).is_err() {

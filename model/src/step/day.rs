@@ -1,13 +1,14 @@
 //! The day's course: Open, Pay and Close, events 1, 11 and 12.
 
-use super::{net_within_limit, unpaid_within_limit};
+use super::{net_within_limit, terms, unpaid_within_limit};
 use crate::answer::{Answer, Refusal};
-use crate::book::{Book, Phase, Status, Trade};
-use crate::limits::{APPLICATIONS, FAILED_PAYMENTS, SHORT_CLOSES};
-use crate::money::{first_from, next_after, CASH_KIND, FEN_PER_SHEET};
+use crate::book::{Book, Phase, Posting, Status, Trade};
+use crate::limits::{APPLICATIONS, FAILED_PAYMENTS, PRODUCTS, SHORT_CLOSES};
+use crate::money::{first_from, initial_amount, next_after, CASH_KIND, FEN_PER_SHEET};
 
 /// "goes to the next trading day, at first the earliest", which needs another
 /// after it: "for Open, 14 doesn't apply where 16 does", so 16 is tested first.
+/// "Open forgets what was posted."
 pub fn open(calendar: &[u32], book: &mut Book, table: &mut [Trade]) -> Result<Answer, Refusal> {
     Refusal::WrongPhase.when(book.phase != Phase::Closed)?;
     let day = match book.day {
@@ -23,6 +24,7 @@ pub fn open(calendar: &[u32], book: &mut Book, table: &mut [Trade]) -> Result<An
     book.day = Some(day);
     book.status = status;
     book.phase = Phase::Trading;
+    book.postings = [Posting::default(); PRODUCTS];
     Ok(Answer::DONE)
 }
 
@@ -81,17 +83,21 @@ pub fn pay(book: &mut Book) -> Result<Answer, Refusal> {
 pub fn close(calendar: &[u32], book: &mut Book, table: &mut [Trade]) -> Result<Answer, Refusal> {
     let today = closing_day(book)?;
     let payment_day = next_after(calendar, today).expect("a fit book's day has a payment day");
-    // 14 looks at today's net as (b) begins, at the cleared net after it, and at U.
     let due = || table[..book.trades].iter().filter(|trade| trade.due <= today);
     let amount: u64 = due().map(|trade| trade.redeem(trade.sheets, trade.price, payment_day)).sum();
     let matured = due().map(|trade| trade.sheets).sum();
-    let todays_net = net_within_limit(book.todays_net + amount as i64)?;
+    let started = terms::started(calendar, book, table);
+    let principal: u64 = started.iter().map(|(_, record)| initial_amount(record.sheets)).sum();
+    // 14 looks at today's net as (b) begins, after the terms that start, at the
+    // cleared net after it, and at U, which is gross.
+    let todays_net = net_within_limit(book.todays_net + amount as i64 - principal as i64)?;
     let cleared_net = net_within_limit(book.cleared_net + todays_net)?;
     unpaid_within_limit(book, amount)?;
 
-    // (a), (b); of U, "Close adds the second to the first before it looks at applications"
+    // (a), what starts, (b); of U, "Close adds the second to the first before it looks at applications"
     let trades = &mut table[..book.trades];
     trades.iter_mut().filter(|trade| trade.due <= today).for_each(|trade| trade.sheets = 0);
+    started.into_iter().for_each(|(place, record)| trades[place] = record);
     book.todays_net = 0;
     book.cleared_net = cleared_net;
     book.cleared_unpaid = book.unpaid() + amount;

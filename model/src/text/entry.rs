@@ -7,6 +7,8 @@ use crate::event::{Account, Event, Terms, EVENT_BYTES};
 use crate::money::CASH_KIND;
 
 const CASH: u8 = CASH_KIND as u8;
+/// The largest product that an initial trade's byte has room for, being plus 1 there.
+const LAST_PRODUCT: u64 = 254;
 const HEX: &str = "80 hexadecimal digits";
 
 pub fn read(words: &mut Words) -> Result<[u8; EVENT_BYTES], Problem> {
@@ -32,6 +34,7 @@ fn read_event(words: &mut Words) -> Result<Event, Problem> {
             price: words.named("price", "a price")?,
             fallback: words.named("fallback", "a fallback price")?,
             due: words.named_day("due", "a due day")?,
+            product: product_field(words)?,
         }),
         "early" => Event::Early {
             sheets: words.number("a number of sheets")?,
@@ -40,6 +43,12 @@ fn read_event(words: &mut Words) -> Result<Event, Problem> {
         },
         "pay" => Event::Pay,
         "close" => Event::Close,
+        "post" => Event::Post {
+            product: words.number("a product")?,
+            term: words.named("term", "a term in days")?,
+            price: words.named("price", "a price")?,
+            fallback: words.named("fallback", "a fallback price")?,
+        },
         other => return Err(Problem::NoSuchEvent(other.to_string())),
     })
 }
@@ -59,6 +68,13 @@ fn kind(words: &mut Words) -> Result<u8, Problem> {
         "cash" => Ok(CASH),
         word => words.number_in(word, what),
     }
+}
+
+/// None, or a product, which the field has plus 1. Products above 15 are the
+/// book's to refuse, so that every field has a text.
+fn product_field(words: &mut Words) -> Result<u8, Problem> {
+    let product: Option<u8> = words.named_if_any("product", "a product", LAST_PRODUCT)?;
+    Ok(product.map_or(0, |number| number + 1))
 }
 
 /// The 40 bytes, in as many words as one likes.
@@ -93,15 +109,20 @@ fn show_event(event: Event, days: DaysAs) -> String {
         Event::Pledge { kind, units } => format!("pledge {} {units}", kind_name(kind)),
         Event::Freeze { kind, units } => format!("freeze {} {units}", kind_name(kind)),
         Event::Withdraw { kind, units } => format!("withdraw {} {units}", kind_name(kind)),
-        Event::Initial(Terms { contract, sheets, price, fallback, due }) => {
-            let due = days.show(due);
-            format!("initial {sheets} contract {contract} price {price} fallback {fallback} due {due}")
+        Event::Initial(Terms { contract, sheets, price, fallback, due, product }) => {
+            let (due, product) = (days.show(due), show_product_field(product));
+            format!(
+                "initial {sheets} contract {contract} price {price} fallback {fallback} due {due}{product}"
+            )
         }
         Event::Early { contract, sheets, price } => {
             format!("early {sheets} contract {contract} price {price}")
         }
         Event::Pay => "pay".to_string(),
         Event::Close => "close".to_string(),
+        Event::Post { product, term, price, fallback } => {
+            format!("post {product} term {term} price {price} fallback {fallback}")
+        }
     }
 }
 
@@ -116,6 +137,14 @@ fn kind_name(kind: u8) -> String {
     match kind {
         CASH => "cash".to_string(),
         security => security.to_string(),
+    }
+}
+
+/// Nothing for none.
+fn show_product_field(product: u8) -> String {
+    match product.checked_sub(1) {
+        None => String::new(),
+        Some(number) => format!(" product {number}"),
     }
 }
 

@@ -64,7 +64,7 @@ impl fmt::Display for Problem {
             Problem::NoSuchEvent(found) => write!(
                 f,
                 "expected calendar, open, in, out, size, rate, pledge, freeze, withdraw, initial, early, pay, \
-                 close or bytes, found `{found}`"
+                 close, post or bytes, found `{found}`"
             ),
             Problem::Needs { name, what, found: None } => write!(f, "{name} needs {what}"),
             Problem::Needs { name, what, found: Some(found) } => {

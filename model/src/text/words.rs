@@ -39,14 +39,38 @@ impl<'a> Words<'a> {
     }
 
     pub fn number_in<T: TryFrom<u64>>(&self, word: &str, what: &'static str) -> Result<T, Problem> {
+        self.number_up_to(word, what, u64::MAX >> (64 - 8 * size_of::<T>()))
+    }
+
+    fn number_up_to<T: TryFrom<u64>>(
+        &self,
+        word: &str,
+        what: &'static str,
+        most: u64,
+    ) -> Result<T, Problem> {
         let digits = in_thousands(word).ok_or_else(|| self.lacks(what, Some(word)))?;
-        at_most(&digits, what, u64::MAX >> (64 - 8 * size_of::<T>()))
+        at_most(&digits, what, most)
     }
 
     /// A number behind its own word.
     pub fn named<T: TryFrom<u64>>(&mut self, label: &str, what: &'static str) -> Result<T, Problem> {
         self.label(label, what)?;
         self.number(what)
+    }
+
+    /// A number of at most `most` behind its own word, if that is the next one.
+    pub fn named_if_any<T: TryFrom<u64>>(
+        &mut self,
+        label: &str,
+        what: &'static str,
+        most: u64,
+    ) -> Result<Option<T>, Problem> {
+        if self.rest.clone().next() != Some(label) {
+            return Ok(None);
+        }
+        self.label(label, what)?;
+        let word = self.needed(what)?;
+        self.number_up_to(word, what, most).map(Some)
     }
 
     /// A day behind its own word: a number, or a date.

@@ -1,6 +1,6 @@
 //! The paper's table of turned-down events, row by row and in no order: an
-//! event's answer is the smallest number that applies, and a refused event
-//! leaves everything untouched.
+//! event's answer is the first number that applies, and a refused event leaves
+//! everything untouched.
 
 use model::book::{Book, Phase, Status, Trade};
 use model::cases::drawn::drawn;
@@ -11,6 +11,8 @@ use model::generator::random::Random;
 use model::money::{earliest_trading_day, next_trading_day, redemption, trading_day_at_or_after};
 use model::{generator, journal};
 
+/// 20 is "placed after 3"; else the smallest comes first.
+const ORDER: [u32; 16] = [3, 20, 4, 5, 6, 7, 8, 9, 10, 11, 12, 13, 14, 15, 16, 17];
 const NET: i128 = 4_000_000_000_000_000_000;
 
 /// A row's number if it applies.
@@ -18,14 +20,15 @@ fn row(number: u32, applies: bool) -> Option<u32> {
     applies.then_some(number)
 }
 
-/// The smallest cause; where there is none, 99 for a Pay with "the payer
+/// The first cause; where there is none, 99 for a Pay with "the payer
 /// holding less than |N|", else 0.
 fn expected_number(ledger: &Ledger, event: Event) -> u32 {
     let Book { cleared_net, own, client, .. } = ledger.book;
     let payer_holds = if cleared_net < 0 { client } else { own };
     let unpaid = event == Event::Pay && payer_holds < cleared_net.unsigned_abs();
-    let smallest = all_causes(ledger, event).into_iter().min();
-    smallest.unwrap_or(if unpaid { 99 } else { 0 })
+    let causes = all_causes(ledger, event);
+    let first = ORDER.into_iter().find(|number| causes.contains(number));
+    first.unwrap_or(if unpaid { 99 } else { 0 })
 }
 
 fn all_causes(ledger: &Ledger, event: Event) -> Vec<u32> {
@@ -41,7 +44,7 @@ fn all_causes(ledger: &Ledger, event: Event) -> Vec<u32> {
     let terminated = book.status == Status::Terminated;
     let right_phase = match code {
         1 => book.phase == Phase::Closed,
-        6 | 8..=11 => book.phase == Phase::Trading,
+        6 | 8..=11 | 13 => book.phase == Phase::Trading,
         12 => book.phase == Phase::Paid || book.phase == Phase::Trading && terminated,
         _ => true,
     };
@@ -51,7 +54,7 @@ fn all_causes(ledger: &Ledger, event: Event) -> Vec<u32> {
     let mut rows = vec![
         row(3, kind > Some(32) || code == 5 && kind == Some(32)),
         row(4, !right_phase),
-        row(5, terminated && (8..=11).contains(&code)),
+        row(5, terminated && matches!(code, 8..=11 | 13)),
         row(6, book.status == Status::Suspended && code == 9),
         row(7, no_amount || code == 9 && (amount % 10 != 0 || amount > 100_000_000)),
         row(8, prices > Some(100_000)),
@@ -61,6 +64,9 @@ fn all_causes(ledger: &Ledger, event: Event) -> Vec<u32> {
         Event::Initial(terms) => initial_rows(ledger, terms),
         Event::Early { contract, sheets, price } => early_rows(ledger, contract, sheets, price),
         Event::Close => close_rows(ledger),
+        Event::Post { product, term, .. } => {
+            vec![row(20, product > 15), row(9, !(1..=365).contains(&term))]
+        }
         _ => amount_rows(ledger, event),
     });
     rows.into_iter().flatten().collect()
@@ -131,7 +137,13 @@ fn initial_rows(ledger: &Ledger, terms: Terms) -> Vec<Option<u32>> {
     let unpayable = number == 16 || next_trading_day(calendar, maturity).0 == 16;
     let on_table = in_use(book, table).iter().any(|trade| trade.contract == terms.contract);
     let sheets = i128::from(terms.sheets);
+    let posted = match terms.product {
+        0 => true,
+        1..=16 => book.postings[usize::from(terms.product) - 1].term > 0,
+        _ => false,
+    };
     vec![
+        row(20, !posted),
         row(9, !(1..=365).contains(&ahead) || unpayable),
         row(10, on_table),
         row(11, book.trades == table.len()),
@@ -155,14 +167,33 @@ fn close_rows(ledger: &Ledger) -> Vec<Option<u32>> {
     let Some(today) = book.day else { return vec![] };
     let due = in_use(book, &ledger.table).iter().filter(|trade| trade.due <= today);
     let amounts: i128 = due.map(|trade| amount(ledger, today, trade, trade.sheets, trade.price)).sum();
-    let todays = i128::from(book.todays_net) + amounts;
+    let todays = i128::from(book.todays_net) + amounts - 10_000 * started_sheets(ledger, today);
     let cleared = i128::from(book.cleared_net) + todays;
     vec![row(14, todays.abs() > NET || cleared.abs() > NET || unpaid(book) + amounts > NET)]
 }
 
+/// The sheets of the terms that a Close starts by itself.
+fn started_sheets(ledger: &Ledger, today: u32) -> i128 {
+    let Ledger { calendar, book, table } = ledger;
+    let trades = in_use(book, table);
+    let stays = trades.iter().filter(|trade| trade.due > today).map(|trade| i128::from(trade.sheets));
+    let (outstanding, most) = (stays.sum::<i128>(), i128::from(book.size.min(book.value())));
+    let mut started = 0;
+    for trade in trades.iter().filter(|trade| trade.due <= today && trade.product > 0) {
+        let term = book.postings[trade.product as usize - 1].term as u32;
+        let (number, maturity) = trading_day_at_or_after(calendar, today + term);
+        let payable = number == 0 && next_trading_day(calendar, maturity).0 == 0;
+        let fits = outstanding + started + i128::from(trade.sheets) <= most;
+        if book.status == Status::Normal && term > 0 && payable && fits {
+            started += i128::from(trade.sheets);
+        }
+    }
+    started
+}
+
 /// Books that no journal leads to: the limits of the nets and of U among them.
 #[test]
-fn the_smallest_cause_answers_on_drawn_books() {
+fn the_first_cause_answers_on_drawn_books() {
     for seed in 0..20_000 {
         let mut random = Random::new(seed);
         let mut ledger = drawn(&mut random);
@@ -173,7 +204,7 @@ fn the_smallest_cause_answers_on_drawn_books() {
 }
 
 #[test]
-fn the_smallest_cause_answers_and_refusals_leave_everything_untouched() {
+fn the_first_cause_answers_and_refusals_leave_everything_untouched() {
     for seed in 0..300 {
         let bytes = generator::generate(seed);
         let Ok(journal) = journal::parse(&bytes) else { continue };

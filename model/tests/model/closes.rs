@@ -96,12 +96,15 @@ fn a_terminated_book_closes_from_trading_and_from_paid() {
 
 /// How many applications a Close does, and the book after them: V is counted
 /// anew after each, over all 33 kinds. Of an evening's two trades the second
-/// matures, over the two days from 0 to the payment day.
+/// matures, over the two days from 0 to the payment day, and goes on where it
+/// has a product and V, before units arrive, covers both.
 fn settled(before: &Ledger) -> (u32, Book) {
     let mut book = before.book.clone();
     let [stays, matures] = [before.table[0], before.table[1]];
     let (_, amount) = redemption(matures.sheets, matures.price.into(), 2);
-    let claims = 10_000 * stays.sheets + book.todays_unpaid + book.cleared_unpaid + amount;
+    let goes_on = matures.product > 0 && stays.sheets + matures.sheets <= book.value();
+    let outstanding = stays.sheets + if goes_on { matures.sheets } else { 0 };
+    let claims = 10_000 * outstanding + book.todays_unpaid + book.cleared_unpaid + amount;
     for held in &mut book.holdings {
         held.effective += std::mem::take(&mut held.arriving);
     }

@@ -1,11 +1,12 @@
 //! What the generated journals reach.
 
-use std::collections::{BTreeMap, HashSet};
+use std::collections::{BTreeMap, HashMap, HashSet};
 
 use model::answer::Answer;
-use model::book::{Phase, Status};
+use model::book::{Phase, Status, Trade};
 use model::cases::ledger::{Ledger, Step};
 use model::coverage::evenings::Evenings;
+use model::coverage::terms::NextTerms;
 use model::coverage::{allowed, Coverage, OUT_OF_REACH};
 use model::event::Event;
 use model::generator::{self, Profile};
@@ -15,13 +16,15 @@ use model::{journal, money, step};
 #[test]
 fn two_thousand_journals_meet_every_allowed_pair() {
     let (mut coverage, mut evenings, mut done) = (Coverage::default(), Evenings::default(), 0);
+    let mut next_terms = NextTerms::default();
     for seed in 0..2_000 {
         let bytes = generator::generate(seed);
         let Ok(journal) = journal::parse(&bytes) else { continue };
         let mut ledger = Ledger::fresh(&journal.calendar);
-        ledger.run(journal.events, |Step { event, answer, before, after, table }| {
+        ledger.run(journal.events, |Step { event, answer, before, trades, after, table }| {
             coverage.record(event, answer.number);
             evenings.record(before, after, table);
+            next_terms.record(&journal.calendar, before, trades, event, answer.number);
             done += if after.unpaid() > 0 { u64::from(answer.done) } else { 0 };
         });
     }
@@ -30,6 +33,7 @@ fn two_thousand_journals_meet_every_allowed_pair() {
     let rare: Vec<_> = allowed().filter(|&(code, number)| coverage.count(code, number) < 50).collect();
     assert_eq!(rare, [], "met, but seldom\n{coverage}");
     assert!(evenings.rarer_than(50).is_empty(), "{evenings}");
+    assert!(next_terms.rarer_than(50).is_empty(), "{next_terms}");
     assert_eq!(evenings.done, done, "applications done by their answers");
 }
 
@@ -60,7 +64,7 @@ fn damaged_journals_are_refused_and_no_others() {
 /// States that are worth meeting, and how often they were.
 type Sightings = BTreeMap<&'static str, u32>;
 
-const DEEP_STATES: [&str; 28] = [
+const DEEP_STATES: [&str; 34] = [
     "application done",
     "application dropped: failed run",
     "application dropped: frozen",
@@ -72,19 +76,25 @@ const DEEP_STATES: [&str; 28] = [
     "early in part",
     "early whole",
     "failed payment made good",
+    "five next terms in a row",
     "full table",
     "initial at the whole headroom",
     "maturity on a holiday",
     "maturity years late",
     "net above all cash",
+    "next term due on a holiday",
+    "next term of no multiple of 10",
     "outstanding at 10^10",
     "pay of a negative net",
     "pay of a positive net",
     "pay of nothing",
+    "posted while suspended",
+    "posting replaced",
     "recovered from suspension",
     "security at 10^12",
     "second failure in a row",
     "short close",
+    "start past a failed payment",
     "table emptied after being full",
     "terminated by failed payments with trades",
     "terminated by short closes with trades",
@@ -98,7 +108,7 @@ fn deep_states_are_met() {
         let bytes = generator::generate(seed);
         let Ok(journal) = journal::parse(&bytes) else { continue };
         let mut ledger = Ledger::fresh(&journal.calendar);
-        let mut contracts = HashSet::new();
+        let (mut contracts, mut rolls) = (HashSet::new(), Rolls::new());
         for bytes in journal.events {
             let before = ledger.clone();
             let answer = step::step(&ledger.calendar, &mut ledger.book, &mut ledger.table, bytes);
@@ -114,7 +124,10 @@ fn deep_states_are_met() {
             match event {
                 Event::Open => look_at_open(&mut see, &before, &ledger),
                 Event::Pay => look_at_pay(&mut see, &before, answer),
-                Event::Close => look_at_close(&mut see, &before, &ledger, answer),
+                Event::Close => {
+                    look_at_close(&mut see, &before, &ledger, answer);
+                    look_at_next_terms(&mut see, &mut rolls, &before, &ledger);
+                }
                 _ => look_at_trading(&mut see, &before, &ledger, event),
             }
         }
@@ -171,6 +184,27 @@ fn look_at_close(see: &mut See, before: &Ledger, after: &Ledger, answer: Answer)
     assert!(after.book.phase == Phase::Closed);
 }
 
+/// How often in a row each contract has begun a next term.
+type Rolls = HashMap<u64, u32>;
+
+fn look_at_next_terms(see: &mut See, rolls: &mut Rolls, before: &Ledger, after: &Ledger) {
+    let mut begun_anew = Vec::new();
+    for trade in &before.table[..before.book.trades] {
+        let place = after.book.find(&after.table, trade.contract);
+        match place.map(|place| after.table[place]) {
+            Some(left) if Some(trade.due) <= before.book.day => begun_anew.push(left),
+            Some(_) => {}
+            None => drop(rolls.remove(&trade.contract)),
+        }
+    }
+    begun_anew.iter().for_each(|trade| *rolls.entry(trade.contract).or_default() += 1);
+    let any = |test: &dyn Fn(&Trade) -> bool| begun_anew.iter().any(test);
+    see("five next terms in a row", any(&|trade| rolls[&trade.contract] >= 5));
+    see("next term due on a holiday", any(&|trade| !money::trades(&after.calendar, trade.due)));
+    see("next term of no multiple of 10", any(&|trade| trade.sheets % 10 != 0));
+    see("start past a failed payment", before.book.failed_run > 0 && !begun_anew.is_empty());
+}
+
 fn look_at_trading(see: &mut See, before: &Ledger, after: &Ledger, event: Event) {
     let left = |contract| before.table[before.book.find(&before.table, contract).unwrap()].sheets;
     match event {
@@ -183,6 +217,10 @@ fn look_at_trading(see: &mut See, before: &Ledger, after: &Ledger, event: Event)
             see("trade of 10^8 sheets", terms.sheets == 100_000_000);
             see("outstanding at 10^10", after.book.outstanding(&after.table) == 10_000_000_000);
             see("full table", after.book.trades == JOURNAL_CAPACITY);
+        }
+        Event::Post { product, .. } => {
+            see("posted while suspended", before.book.status == Status::Suspended);
+            see("posting replaced", before.book.postings[usize::from(product)].term > 0);
         }
         Event::FundIn { .. } => see("cash at 10^16", after.book.all_cash() == 10_000_000_000_000_000),
         Event::Pledge { kind, .. } if kind < 32 => {

@@ -11,6 +11,8 @@ mod journals;
 mod limits;
 mod money;
 mod pencil;
+mod rolling;
 mod standings;
+mod terms;
 mod unpaid;
 mod worked_example;

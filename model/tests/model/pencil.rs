@@ -217,7 +217,7 @@ fn other_spare_slots_keep_their_content() {
     let mut ledger = Ledger::second_day(&WORKED_CALENDAR);
     let stray = model::book::Trade { contract: 99, sheets: 5, ..Default::default() };
     ledger.table[1..].fill(stray);
-    let terms = Terms { contract: 99, sheets: 10, price: 0, fallback: 0, due: 3 };
+    let terms = Terms { contract: 99, sheets: 10, price: 0, fallback: 0, due: 3, product: 0 };
     assert_eq!(ledger.does(Event::Initial(terms)).number, 0);
     ledger.does(Event::Initial(Terms { contract: 100, due: 6, ..terms }));
     ledger.next_day();

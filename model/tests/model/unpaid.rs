@@ -3,8 +3,9 @@
 
 use model::answer::Answer;
 use model::book::{Book, Status};
-use model::cases::ledger::{trade, Ledger};
+use model::cases::ledger::{trade, Ledger, Step};
 use model::event::{Account, Event};
+use model::step::started_terms;
 use model::{generator, journal};
 
 fn early(contract: u64, sheets: u64) -> Event {
@@ -114,8 +115,10 @@ fn parts(book: &Book) -> (i128, i128) {
 }
 
 /// What an accepted event redeems, gross, is what it adds to the nets: so U
-/// grows as they do, but for an initial trade and for Pay.
-fn check_growth(event: Event, number: u32, before: &Book, after: &Book) {
+/// grows as they do, but for initial trades, those that start by themselves
+/// included, and for Pay.
+fn check_growth(calendar: &[u32], event: Event, step: &Step) {
+    let Step { before, after, trades, answer: Answer { number, .. }, .. } = *step;
     let of_nets = growth(nets(before), nets(after));
     let of_unpaid = growth(parts(before), parts(after));
     match event {
@@ -123,7 +126,9 @@ fn check_growth(event: Event, number: u32, before: &Book, after: &Book) {
         Event::Pay if number == 0 => assert_eq!(parts(after), (parts(before).0, 0)),
         Event::Close if number == 0 => {
             assert_eq!(parts(after).0, 0);
-            assert_eq!(of_unpaid.0 + of_unpaid.1, of_nets.0 + of_nets.1);
+            let started = started_terms(calendar, before, trades);
+            let begun: i128 = started.iter().map(|record| 10_000 * i128::from(record.sheets)).sum();
+            assert_eq!(of_unpaid.0 + of_unpaid.1, of_nets.0 + of_nets.1 + begun);
         }
         _ => assert_eq!(of_unpaid, of_nets, "{event:?}, answer {number}"),
     }
@@ -136,7 +141,7 @@ fn unpaid_grows_by_what_is_redeemed() {
         let Ok(journal) = journal::parse(&bytes) else { continue };
         Ledger::fresh(&journal.calendar).run(journal.events, |step| {
             if let Ok(event) = Event::decode(step.event) {
-                check_growth(event, step.answer.number, step.before, step.after);
+                check_growth(&journal.calendar, event, &step);
             }
         });
     }

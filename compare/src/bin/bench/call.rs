@@ -9,7 +9,7 @@ use model::answer::Answer;
 use model::book::{Book, Trade};
 use model::event::{Account, Event, EVENT_BYTES};
 use model::generator::random::Random;
-use model::limits::{CAPACITY, DAYS_AHEAD};
+use model::limits::{CAPACITY, DAYS_AHEAD, PRODUCTS};
 use model::step;
 
 use crate::loads;
@@ -29,6 +29,8 @@ pub struct Shape {
     pub slots: usize,
     /// Contracts in rising order: easier to sort than drawn ones.
     rising: bool,
+    /// Every trade has a product that is posted, and what is due begins again.
+    rolling: bool,
 }
 
 /// All single calls, those of one event together.
@@ -37,18 +39,20 @@ pub fn shapes() -> impl Iterator<Item = Shape> {
         let tight = [16, 256, 1_024, CAPACITY].map(|trades| Shape::tight(kind, trades));
         let roomy = [16, 256].map(|trades| Shape { slots: CAPACITY, ..Shape::tight(kind, trades) });
         let rising = [Shape { rising: true, ..Shape::tight(kind, CAPACITY) }];
-        tight.into_iter().chain(roomy).chain(rising)
+        let rolling = [256, CAPACITY].map(|trades| Shape { rolling: true, ..Shape::tight(kind, trades) });
+        let rolling = rolling.into_iter().filter(move |_| kind == Kind::Close);
+        tight.into_iter().chain(roomy).chain(rising).chain(rolling)
     })
 }
 
 impl Shape {
     /// A table with one slot to spare, where one may be so large.
     fn tight(kind: Kind, trades: usize) -> Shape {
-        Shape { kind, trades, slots: CAPACITY.min(trades + 1), rising: false }
+        Shape { kind, trades, slots: CAPACITY.min(trades + 1), rising: false, rolling: false }
     }
 
     fn is_tight(&self) -> bool {
-        self.slots <= self.trades + 1 && !self.rising
+        self.slots <= self.trades + 1 && !self.rising && !self.rolling
     }
 
     /// Whether the two differ in their trades alone.
@@ -64,6 +68,7 @@ impl Shape {
         };
         let more = match self {
             Shape { rising: true, .. } => "-rising".to_string(),
+            Shape { rolling: true, .. } => "-rolling".to_string(),
             _ if self.is_tight() => String::new(),
             _ => format!("-of-{}", self.slots),
         };
@@ -76,6 +81,12 @@ impl Shape {
             Kind::Initial => self.trades.min(self.slots - 1),
             Kind::FundIn | Kind::Close => self.trades,
         }
+    }
+
+    /// All products in the morning, if trades have one.
+    fn posts(&self) -> impl Iterator<Item = Event> {
+        let products = if self.rolling { PRODUCTS as u8 } else { 0 };
+        (0..products).map(|product| Event::Post { product, term: 7, price: 2_000, fallback: 300 })
     }
 
     fn event(&self) -> Event {
@@ -92,12 +103,15 @@ impl Shape {
         let mut random = Random::new(4);
         let mut events = loads::set_up(1_000_000_000);
         events.push(Event::Open);
+        events.extend(self.posts());
         events.extend((0..self.in_use()).map(|place| {
             let due = if place % 4 == 0 { loads::day(2) } else { loads::day(1) + DAYS_AHEAD };
             let contract = if self.rising { place as u64 } else { random.any() };
-            loads::trade(&mut random, contract, due)
+            let product = if self.rolling { 1 + (place / 4 % PRODUCTS) as u8 } else { 0 };
+            loads::trade_of(product, &mut random, contract, due)
         }));
         events.extend([Event::Pay, Event::Close, Event::Open]);
+        events.extend(self.posts());
         if self.kind == Kind::Close {
             events.extend((0..8).map(|kind| Event::Withdraw { kind, units: 1_000 }));
             events.push(Event::Pay);
@@ -131,6 +145,8 @@ impl Call {
         };
         let answer = call.model_answer();
         assert_eq!(answer.number, 0);
+        let all_stay = call.model.book.trades == shape.in_use();
+        assert!(all_stay || !shape.rolling, "some trade did not begin again");
         assert_eq!(call.proved_answer(), answer);
         assert_eq!(call.proved.book, Rows::from(&call.model.book));
         assert_eq!(call.proved.table, proved::book::table(&call.model.table));

@@ -47,9 +47,14 @@ pub fn set_up(units: u64) -> Vec<Event> {
 }
 
 pub fn trade(random: &mut Random, contract: u64, due: u32) -> Event {
+    trade_of(0, random, contract, due)
+}
+
+/// The same of a product, as its field has it.
+pub fn trade_of(product: u8, random: &mut Random, contract: u64, due: u32) -> Event {
     let sheets = 10 * random.between(1, 500);
     let price = random.between(1_500, 3_000) as u32;
-    Event::Initial(Terms { contract, sheets, price, fallback: 300, due })
+    Event::Initial(Terms { contract, sheets, price, fallback: 300, due, product })
 }
 
 /// 62 days with 201 trades of one to 91 days; now and then an early
