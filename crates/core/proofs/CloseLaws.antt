@@ -23,7 +23,8 @@ use Rattle.rules.specs.Days.{paymentDay}
 use Rattle.rules.specs.Trades.{inUse, total, outstanding, maturing, maturityAmount, remaining, packed, over}
 use Rattle.rules.specs.NextTerm.{leftFrom, startedFrom}
 use Rattle.rules.specs.Fit.{netFit, securitiesFit, cashFit, fit}
-use Rattle.rules.specs.Close.{Evening, mayClose, today, maturedTrades, maturedSheets, maturedAmount, outstandingMatured, leftTrades, startedTerms, startedPrincipal, netAtClose, clearedAtClose, unpaidAtClose, closeCauses, allArrived, claimsOf, evening, claimsAtClose, closedTable, closedBook, closeAnswer}
+use Rattle.rules.specs.Close.{Evening, mayClose, today, maturedTrades, maturedSheets, maturedAmount, outstandingMatured, leftTrades, startedTerms, startedPrincipal, netAtClose, clearedAtClose, unpaidAtClose, closeCauses}
+use Rattle.rules.specs.Close.{allArrived, claimsOf, evening, claimsAtClose, closedTable, closedBook, closeAnswer}
 use Rattle.rules.proofs.FitParts.{Fit, fit-parts, securities-fit, cash-fits}
 use Rattle.rules.proofs.TradeLaws.{outstanding-matured}
 use Rattle.rules.proofs.NextTermLaws.{outstanding-left}

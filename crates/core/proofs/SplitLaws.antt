@@ -7,7 +7,8 @@ use Rattle.core.specs.Types.{Security, Posting, Book}
 use Rattle.scalars.specs.declared.state.Scalars.{Scalars}
 use Rattle.core.specs.Flat.{securitiesOf, postingsOf, rowsOf, bookOf, scalarsOf}
 
-pub whole : (book : Book) (held : List ℕ) {scalars : Scalars} {kinds units : List ℕ} → scalars ≡ scalarsOf book → securitiesOf held ≡ book .vault .securities → postingsOf held ≡ book .postings → kinds ≡ book .withdrawals .kinds → units ≡ book .withdrawals .units → bookOf scalars (rowsOf held kinds units) ≡ book
+pub whole : (book : Book) (held : List ℕ) {scalars : Scalars} {kinds units : List ℕ} → scalars ≡ scalarsOf book
+    → securitiesOf held ≡ book .vault .securities → postingsOf held ≡ book .postings → kinds ≡ book .withdrawals .kinds → units ≡ book .withdrawals .units → bookOf scalars (rowsOf held kinds units) ≡ book
 whole book held {scalars} {kinds} {units} d s p k u =
     ap (λ (x : Scalars). bookOf x (rowsOf held kinds units)) d
     ∙ ap (λ (row : List Security). rows row (postingsOf held) kinds units) s

@@ -26,7 +26,7 @@ valueBound = 67000000000000
 abbrev pub figuresOf : Book → List Trade → Figures
 figuresOf book table = record { outstanding = sheets (outstandingOf book table); value = sheets (value (book .vault)) }
 
--- O of scalars, and both of scalars with the row of securities
+-- O of scalars, and both of scalars with the row that has the securities
 abbrev pub outstandingAt : Scalars → List Trade → ℕ
 outstandingAt scalars table = outstanding (inUse (scalars .trades) table)
 

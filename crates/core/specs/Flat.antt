@@ -165,7 +165,7 @@ pub record FitsWhole (calendar : Calendar) (scalars : Scalars) (held kinds units
   pub few : length calendar ≤ calendarLimit
   pub fits : fit calendar (bookOf scalars (rowsOf held kinds units)) table ≡ true
 
--- the same where it has the securities only, and where it has no rows: some rows make it so
+-- the same where it has the row of securities and postings only, and where it has no rows: some rows make it so
 pub record FitsHeld (calendar : Calendar) (scalars : Scalars) (held : List ℕ) (table : List Trade) : Type 0 where
   pub kinds : List ℕ
   pub units : List ℕ

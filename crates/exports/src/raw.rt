@@ -1,4 +1,4 @@
-// A book's scalars as C has them: its securities, its applications and its table are lent as rows of numbers.
+// A book's scalars as C has them: its securities with what is posted, its applications and its table are lent as rows of numbers.
 ghost use mathlib.Core.Path.{_≡_};
 ghost use Rattle.exports.specs.Raw.{scalarsFrom, rawOf, refused, refusedRun};
 use crate::codes;

@@ -19,7 +19,7 @@ use Rattle.money.specs.Limits.{tradeLimit, priceLimit}
 use Rattle.money.specs.Causes.{firstOf}
 use Rattle.money.specs.Days.{Calendar}
 use Rattle.rules.specs.Limits.{netLimit, productLimit}
-use Rattle.rules.specs.Book.{Cash, Guarantee, Closed, Trading, Paid, Book, isTerminated, postingOf, isPosted}
+use Rattle.rules.specs.Book.{Cash, Guarantee, Closed, Trading, Paid, Book, noPostings, isTerminated, postingOf, isPosted}
 use Rattle.rules.specs.Unpaid.{unpaidSum, unpaidOf, passes}
 use Rattle.rules.specs.Days.{following, paymentDay, followed}
 use Rattle.rules.specs.Trades.{Contract, Trade, Terms, inUse, emptied, takeOff, remaining, over}
@@ -91,6 +91,11 @@ module _ (calendar : Calendar) (book : Book) (table : List Trade) (f : Fit calen
   opened-lessens : (last : ℕ) (ended : Bool) → Lessens last (book .trades) (book .trades) table (cond ended (over (book .trades) (map emptied (inUse (book .trades) table)) table) table)
   opened-lessens last true = over-lessens last (book .trades) table (map emptied (inUse (book .trades) table)) (f .capacity .room) (length-map (inUse (book .trades) table) emptied) (emptied-lessens (inUse (book .trades) table))
   opened-lessens last false = same-lessens last (book .trades) table
+
+  -- what was posted is forgotten
+  pub opened-forgets : openedBook calendar book table .postings ≡ noPostings
+  unfolding openedBook
+  opened-forgets = refl
 
   pub opened-fits : firstOf (openCauses calendar book table) ≡ none → Fit calendar (openedBook calendar book table) (openedTable book table)
   unfolding openCauses openedBook openedTable

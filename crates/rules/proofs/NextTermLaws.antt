@@ -100,7 +100,7 @@ module _ (calendar : Calendar) (book : Book) where
           → ((o : ℕ) → outstanding (leftFrom calendar book o l) ≡ outstanding (map (matured (today book)) l) + outstanding (startedFrom calendar book o l))
           → outstanding (inSlot b calendar book t ∷ leftFrom calendar book (withStarted b book t o) l)
           ≡ outstanding (map (matured (today book)) (t ∷ l)) + outstanding (ifStarted b (nextTerm calendar book t) (startedFrom calendar book (withStarted b book t o) l))
-      go true e ih = omega (arith, starts-whole o t e, ih (o + maturing (today book) t))
+      go true e ih = omega (arith, starts-whole o t e, ih (withStarted true book t o))
       go false e ih = omega (arith, ih o)
 
   -- right after each of them headroom is 0 or above
@@ -127,5 +127,5 @@ module _ (calendar : Calendar) (book : Book) where
     where
       go : (b : Bool) → same (t .contract) c ≡ false → ((o : ℕ) → onTable c (startedFrom calendar book o l) ≡ false)
           → onTable c (ifStarted b (nextTerm calendar book t) (startedFrom calendar book (withStarted b book t o) l)) ≡ false
-      go true off ih = rw off (ih (o + maturing (today book) t))
+      go true off ih = rw off (ih (withStarted true book t o))
       go false off ih = ih o

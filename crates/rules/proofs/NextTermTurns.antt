@@ -82,7 +82,7 @@ module _ (calendar : Calendar) (book : Book) where
     where
       go : (s : Bool) → ((o : ℕ) → outstanding (startedFrom calendar book o l) ≤ total (maturing (today book)) l)
           → outstanding (ifStarted s (nextTerm calendar book t) (startedFrom calendar book (withStarted s book t o) l)) ≤ maturing (today book) t + total (maturing (today book)) l
-      go true ih = omega (arith, ih (o + maturing (today book) t))
+      go true ih = omega (arith, ih (withStarted true book t o))
       go false ih = omega (arith, ih o)
 
   -- where none starts, all stay matured

@@ -1,4 +1,4 @@
-// The book as the core has it: what is small goes by value; the securities and the applications stand in rows that are lent.
+// The book as the core has it: what is small goes by value; the securities with what is posted and the applications stand in rows that are lent.
 ghost use mathlib.Core.Path.{_≡_};
 ghost use lib.Dec.{leb, ltb};
 ghost use Rattle.money.specs.Limits.{calendarLimit};

@@ -36,7 +36,7 @@ const DRAIN: (Event, u32) = (Event::FundOut { account: Account::Client, fen: 3_0
 /// The client cannot pay for what was begun.
 const UNPAID_NIGHT: [(Event, u32); 3] = [(Event::Pay, 99), (Event::Close, 0), (Event::Open, 0)];
 
-/// From day 1 on, of which every day trades, with headroom 180.
+/// From day 1 on; every day trades, and headroom is 180.
 fn story(name: &'static str, events: &[&[(Event, u32)]], trades: &[Trade]) -> Story {
     let ledger = Ledger::second_day(&[u32::MAX]);
     Story { name, ledger, events: events.concat(), trades: trades.to_vec() }

@@ -15,7 +15,7 @@ fn each_story_is_answered_as_told() {
     }
 }
 
-/// The holiday's story on the evening of day 3: due days stay where they were put.
+/// The holiday's story on the morning of day 6: due days stay where they were put.
 #[test]
 fn a_holiday_does_not_move_the_due_day() {
     let stories = rolling::all();

@@ -119,6 +119,7 @@ fn every_reason_not_to_start_is_met() {
 /// and a spare one keeps its content.
 #[test]
 fn products_stay_with_their_trades() {
+    let (mut named, mut empty) = (0, 0);
     for seed in 0..5_000 {
         let mut random = Random::new(seed);
         let mut ledger = drawn(&mut random);
@@ -129,13 +130,16 @@ fn products_stay_with_their_trades() {
             _ => 0,
         };
         let in_use = &ledger.table[..ledger.book.trades];
+        named += u32::from(begun > 0 && in_use.len() > before.book.trades);
         for trade in in_use {
             let old = before.book.find(&before.table, trade.contract).map(|place| before.table[place]);
             assert_eq!(trade.product, old.map_or(begun.into(), |old| old.product), "seed {seed}");
         }
         let freed = ledger.book.trades.min(before.book.trades)..before.book.trades;
+        empty += freed.len();
         assert!(ledger.table[freed].iter().all(|slot| *slot == Trade::default()), "seed {seed}");
         let spare = ledger.book.trades.max(before.book.trades)..;
         assert_eq!(ledger.table[spare.clone()], before.table[spare], "seed {seed}");
     }
+    assert!(named > 5 && empty > 100, "{named} trades began with a product, {empty} slots were freed");
 }
