@@ -1,4 +1,5 @@
 // The book: the calls on one firm's book and its lent table of trades, the layer above the core's numbers.
+#![tactic(auto)]
 
 // One entry.
 pub mod table;

@@ -1,4 +1,5 @@
 // The documents' cases, run through the public calls; each expectation is proved from their promises.
+#![tactic(auto)]
 
 // Rows that stand for events.
 mod events;

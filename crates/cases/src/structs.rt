@@ -10,7 +10,7 @@ use rules::book::Book;
 use rules::event::{Entry, Event};
 use rules::trade::{Contract, Terms, Trade};
 
-#[derive(Drop)]
+#[derive(Clone, Copy)]
 struct Ledger {
     answer: Answer,
     book: Book,

@@ -1,4 +1,6 @@
 // A journal from standard input, its listing to standard output.
+#![tactic(auto)]
+
 ghost use Rattle.std.specs.Prelude.{◌≤◌, length, take};
 ghost use Rattle.daybook.specs.Input.{Lists, Within};
 
@@ -12,7 +14,7 @@ const INPUT_BYTES: usize = JOURNAL_BYTES + 1;
 const TEXT_BYTES: usize = LISTING_BYTES;
 
 // How many bytes were read, or that a read failed.
-#[derive(Drop)]
+#[derive(Clone, Copy)]
 enum Input {
     Read(usize),
     Failed,

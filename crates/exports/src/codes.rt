@@ -7,7 +7,7 @@ use rules::book::{Day, FailedRun, Phase, ShortRun, Standing, Status};
 
 // `dated` is 1 where there is a day, and else 0, and so is `day`: from C every byte is a number.
 #[repr(C)]
-#[derive(Drop)]
+#[derive(Clone, Copy)]
 pub struct Codes {
     pub dated: u8,
     pub day: u32,

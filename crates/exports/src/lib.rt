@@ -1,5 +1,6 @@
 // The proved calls under C names, for Rust and C: each gives what the call that it names gives, with the same promise. A book
 // crosses as its scalars with lent rows.
+#![tactic(auto)]
 
 // Days and money.
 pub mod money_calls;

@@ -14,7 +14,7 @@ use scalars::state::Scalars;
 
 // `applications` is how many stand for the evening, `trades` how many slots of the table are in use.
 #[repr(C)]
-#[derive(Drop)]
+#[derive(Clone, Copy)]
 pub struct RawScalars {
     pub nets: Nets,
     pub sums: Sums,
@@ -28,7 +28,7 @@ pub struct RawScalars {
 
 // What an event leaves beside the rows.
 #[repr(C)]
-#[derive(Drop)]
+#[derive(Clone, Copy)]
 pub struct RawDone {
     pub answer: Answer,
     pub raw: RawScalars,
@@ -36,7 +36,7 @@ pub struct RawDone {
 
 // What a run leaves beside the rows and its lines.
 #[repr(C)]
-#[derive(Drop)]
+#[derive(Clone, Copy)]
 pub struct RawEnded {
     pub number: u8,
     pub raw: RawScalars,

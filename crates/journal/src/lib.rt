@@ -1,4 +1,5 @@
 // The journal: its bytes taken apart, its events run on a fresh book, and the listing of what each leaves.
+#![tactic(auto)]
 
 // A section of a journal, and the reader that keeps its place.
 pub mod reader;

@@ -14,7 +14,7 @@ use rules::limits::{EVENT_BYTES, EVENT_LIMIT, LINE_NUMBERS};
 
 // A number of document 01, and how many bytes were written.
 #[repr(C)]
-#[derive(Drop)]
+#[derive(Clone, Copy)]
 pub struct Written {
     pub number: u8,
     pub length: usize,

@@ -5,7 +5,7 @@ ghost use Rattle.journal.specs.Sections.{IsSectionAt, left_from, past_section};
 
 use crate::section::{Section, left_from, past_section, section_at};
 
-#[derive(Drop)]
+#[derive(Clone, Copy)]
 pub struct Reader<'a> {
     pub journal: &'a [u8],
     pub at: usize,

@@ -10,7 +10,7 @@ pub const COUNT_BYTES: usize = 4;
 pub const WORD_BYTES: usize = 4;
 
 // A section with how many pieces it has.
-#[derive(Drop)]
+#[derive(Clone, Copy)]
 pub enum Section {
     Whole(usize),
     Malformed,

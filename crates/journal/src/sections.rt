@@ -7,7 +7,7 @@ use money::limits::CALENDAR_LIMIT;
 use rules::limits::{EVENT_BYTES, EVENT_LIMIT};
 
 // A journal with its words and its events counted.
-#[derive(Drop)]
+#[derive(Clone, Copy)]
 pub enum Sections {
     Both(usize, usize),
     Refused,

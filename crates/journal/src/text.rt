@@ -69,7 +69,7 @@ fn signed_length(negative: u64, size: Sheets) -> usize
 }
 
 // The numbers of a line, headroom as its sign and its size.
-#[derive(Drop)]
+#[derive(Clone, Copy)]
 pub struct Line {
     pub answer: u64,
     pub negative: u64,

@@ -9,7 +9,7 @@ use crate::flat;
 use rules::trade::Contract;
 
 // Of a contract, or of all of them: it does not stand there before, it does, or the chain was too long to tell.
-#[derive(Drop)]
+#[derive(Clone, Copy)]
 pub enum ChainResult {
     Differs,
     Repeats,

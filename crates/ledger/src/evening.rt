@@ -80,7 +80,7 @@ fn as_guarantee(security: Security) -> Guarantee
 }
 
 // Whether an application is done, and V afterwards.
-#[derive(Drop)]
+#[derive(Clone, Copy)]
 struct Verdict {
     pub goes: bool,
     pub value: Sheets,
@@ -130,7 +130,7 @@ fn judged(
 }
 
 // Own and guarantee cash and V as the evening goes on, and the applications done and dropped so far. The securities stand in their row.
-#[derive(Drop)]
+#[derive(Clone, Copy)]
 pub struct EveningScalars {
     pub own: Fen,
     pub guarantee: Guarantee,

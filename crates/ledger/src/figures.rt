@@ -9,21 +9,21 @@ use money::units::Sheets;
 use rules::event::{Entry, Event};
 use scalars::state::Scalars;
 
-#[derive(Drop)]
+#[derive(Clone, Copy)]
 pub struct Figures {
     pub outstanding: Sheets,
     pub value: Sheets,
 }
 
 // A run has V from the event before; a single call counts it where an event asks.
-#[derive(Drop)]
+#[derive(Clone, Copy)]
 pub enum KnownValue {
     Counted(Sheets),
     NotCounted,
 }
 
 // O, and what is known of V, as an event begins.
-#[derive(Drop)]
+#[derive(Clone, Copy)]
 pub struct KnownFigures {
     pub outstanding: Sheets,
     pub value: KnownValue,

@@ -170,7 +170,7 @@ fn is_fit(
 }
 
 // Whether a book is fit, and O of one that is, since the test counts it.
-#[derive(Drop)]
+#[derive(Clone, Copy)]
 pub struct Fitness {
     pub fit: bool,
     pub outstanding: Sheets,

@@ -145,7 +145,7 @@ pub fn lengths_refusal(bytes: usize, room: usize) -> u8
 }
 
 // What a run leaves beside the rows, the table and its lines.
-#[derive(Drop)]
+#[derive(Clone, Copy)]
 pub struct Ended {
     pub number: u8,
     pub scalars: Scalars,

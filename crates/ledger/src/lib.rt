@@ -1,4 +1,5 @@
 // The core: the thirteen events on a book and its table in lent numbers.
+#![tactic(auto)]
 
 // A whole book taken apart into scalars and rows, and put together.
 pub mod split;

@@ -22,7 +22,7 @@ use scalars::{headroom, standing};
 
 // What decides beside the trade itself whether its next term starts: the same for every trade of a Close. V is that before (c), and is told
 // where any may start.
-#[derive(Drop)]
+#[derive(Clone, Copy)]
 pub struct Closing {
     pub today: u32,
     pub payment: u32,
@@ -33,7 +33,7 @@ pub struct Closing {
 
 // What Close plans before anything is written: the sheets matured and their amount, the principal of the terms that start, O once all have matured and
 // O as part (b) begins.
-#[derive(Drop)]
+#[derive(Clone, Copy)]
 pub struct Plan {
     pub closing: Closing,
     pub matured: Sheets,

@@ -10,7 +10,7 @@ use crate::flat;
 use money::units::{Fen, Sheets, Ticks};
 
 // What Early, Close or Open redeems: the sheets, and what is paid for them.
-#[derive(Drop)]
+#[derive(Clone, Copy)]
 pub struct Redeemed {
     pub sheets: Sheets,
     pub amount: Fen,

@@ -13,7 +13,7 @@ use rules::limits::{EVENT_BYTES, LINE_NUMBERS};
 use scalars::state::Scalars;
 
 // What an event of a run leaves: the scalars, and O and V for the next.
-#[derive(Drop)]
+#[derive(Clone, Copy)]
 struct Turn {
     scalars: Scalars,
     figures: Figures,

@@ -179,7 +179,7 @@ fn later(a: u32, b: u32) -> u32
 }
 
 // What one walk tells: whether each trade is within its limits, and if so O and the latest first payment day.
-#[derive(Drop)]
+#[derive(Clone, Copy)]
 pub struct Summary {
     pub fit: bool,
     pub outstanding: Sheets,

@@ -7,7 +7,7 @@ use crate::units::{Fen, SHEET_FEN, Sheets, Ticks};
 
 // An amount of money, or its refusal's number beside 0.
 #[repr(C)]
-#[derive(Drop)]
+#[derive(Clone, Copy)]
 pub struct Amount {
     pub number: u8,
     pub fen: Fen,

@@ -7,7 +7,7 @@ use crate::units::Sheets;
 
 // A value in whole sheets, or its refusal's number beside 0.
 #[repr(C)]
-#[derive(Drop)]
+#[derive(Clone, Copy)]
 pub struct Worth {
     pub number: u8,
     pub sheets: Sheets,

@@ -10,7 +10,7 @@ use crate::months::{length_after, month_length, start_after};
 
 // A year, a month from 1 and a day from 1.
 #[repr(C)]
-#[derive(Drop)]
+#[derive(Clone, Copy)]
 pub struct Date {
     pub year: u32,
     pub month: u32,
@@ -19,7 +19,7 @@ pub struct Date {
 
 // The date of a day, or its refusal's number beside 0.
 #[repr(C)]
-#[derive(Drop)]
+#[derive(Clone, Copy)]
 pub struct Dated {
     pub number: u8,
     pub date: Date,

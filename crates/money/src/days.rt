@@ -6,7 +6,7 @@ use crate::limits::CALENDAR_LIMIT;
 
 // The day that a search found or that a date is, or its refusal's number beside 0.
 #[repr(C)]
-#[derive(Drop)]
+#[derive(Clone, Copy)]
 pub struct Found {
     pub number: u8,
     pub day: u32,

@@ -1,4 +1,5 @@
 // Days and money, the lowest layer: every call takes any arguments and promises the documents' number and result.
+#![tactic(auto)]
 
 // Fen, sheets and price ticks.
 pub mod units;

@@ -8,7 +8,7 @@ use money::units::{Fen, Sheets, SignedFen, Ticks};
 
 // Today's net and the cleared net: redemptions plus, initial trades minus.
 #[repr(C)]
-#[derive(Drop)]
+#[derive(Clone, Copy)]
 pub struct Nets {
     pub today: SignedFen,
     pub cleared: SignedFen,
@@ -16,7 +16,7 @@ pub struct Nets {
 
 // U, the gross redemption amounts not yet paid: what was redeemed today, and what was cleared before.
 #[repr(C)]
-#[derive(Drop)]
+#[derive(Clone, Copy)]
 pub struct Unpaid {
     pub today: Fen,
     pub cleared: Fen,
@@ -24,14 +24,14 @@ pub struct Unpaid {
 
 // The sums that a book carries beside its nets.
 #[repr(C)]
-#[derive(Drop)]
+#[derive(Clone, Copy)]
 pub struct Sums {
     pub unpaid: Unpaid,
 }
 
 // The two settlement accounts.
 #[repr(C)]
-#[derive(Drop)]
+#[derive(Clone, Copy)]
 pub struct Cash {
     pub own: Fen,
     pub client: Fen,
@@ -39,7 +39,7 @@ pub struct Cash {
 
 // A security's units, and its rate in ten-thousandths of a sheet a unit.
 #[repr(C)]
-#[derive(Drop)]
+#[derive(Clone, Copy)]
 pub struct Security {
     pub effective: u64,
     pub arriving: u64,
@@ -49,7 +49,7 @@ pub struct Security {
 
 // Guarantee cash, kind 32, whose rate number is fixed and not kept.
 #[repr(C)]
-#[derive(Drop)]
+#[derive(Clone, Copy)]
 pub struct Guarantee {
     pub effective: Fen,
     pub arriving: Fen,
@@ -58,26 +58,26 @@ pub struct Guarantee {
 
 // All that is pledged: kinds 0 to 31 and kind 32.
 #[repr(C)]
-#[derive(Drop)]
+#[derive(Clone, Copy)]
 pub struct Vault {
     pub guarantee: Guarantee,
     pub securities: [Security; SECURITIES],
 }
 
-#[derive(Drop)]
+#[derive(Clone, Copy)]
 pub enum Day {
     Never,
     On(u32),
 }
 
-#[derive(Drop)]
+#[derive(Clone, Copy)]
 pub enum Phase {
     Closed,
     Trading,
     Paid,
 }
 
-#[derive(Drop)]
+#[derive(Clone, Copy)]
 pub enum Status {
     Normal,
     Suspended,
@@ -85,7 +85,7 @@ pub enum Status {
 }
 
 // The run of failed payments, 0 to 2.
-#[derive(Drop)]
+#[derive(Clone, Copy)]
 pub enum FailedRun {
     NotFailed,
     FailedOnce,
@@ -93,7 +93,7 @@ pub enum FailedRun {
 }
 
 // The run of short closes, 0 to 3.
-#[derive(Drop)]
+#[derive(Clone, Copy)]
 pub enum ShortRun {
     NotShort,
     ShortOnce,
@@ -102,7 +102,7 @@ pub enum ShortRun {
 }
 
 // Where the firm stands: its day, phase and status, and its two runs.
-#[derive(Drop)]
+#[derive(Clone, Copy)]
 pub struct Standing {
     pub day: Day,
     pub phase: Phase,
@@ -113,7 +113,7 @@ pub struct Standing {
 
 // The applications that stand for the evening: the first `count` of both arrays.
 #[repr(C)]
-#[derive(Drop)]
+#[derive(Clone, Copy)]
 pub struct Withdrawals {
     pub kinds: [u8; APPLICATION_LIMIT],
     pub units: [u64; APPLICATION_LIMIT],
@@ -122,7 +122,7 @@ pub struct Withdrawals {
 
 // What is posted today for a product: the term in days, 0 where nothing is, and both prices.
 #[repr(C)]
-#[derive(Drop)]
+#[derive(Clone, Copy)]
 pub struct Posting {
     pub term: u64,
     pub price: Ticks,
@@ -130,7 +130,7 @@ pub struct Posting {
 }
 
 // `size` is S, the declared size; `trades` is how many slots of the lent table are in use.
-#[derive(Drop)]
+#[derive(Clone, Copy)]
 pub struct Book {
     pub nets: Nets,
     pub sums: Sums,

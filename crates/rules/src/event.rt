@@ -3,14 +3,14 @@ use crate::book::Posting;
 use crate::trade::{Contract, Terms};
 use money::units::{Fen, Sheets, Ticks};
 
-#[derive(Drop)]
+#[derive(Clone, Copy)]
 pub enum Account {
     Own,
     Client,
 }
 
 // Events on a kind carry its number as given, and its units or its rate; Post a product's number as given, and its posting.
-#[derive(Drop)]
+#[derive(Clone, Copy)]
 pub enum Event {
     Open,
     FundIn(Account, Fen),
@@ -28,7 +28,7 @@ pub enum Event {
 }
 
 // The numbers in the 40 bytes; `spare` and `last` are the bytes that no event uses.
-#[derive(Drop)]
+#[derive(Clone, Copy)]
 pub struct Fields {
     pub code: u8,
     pub kind: u8,
@@ -43,7 +43,7 @@ pub struct Fields {
 }
 
 // What 40 bytes decode to.
-#[derive(Drop)]
+#[derive(Clone, Copy)]
 pub enum Entry {
     Known(Event),
     Undecodable,

@@ -1,4 +1,5 @@
 // The types that the rules speak of: the layer above days and money. The rules themselves stand in specs/.
+#![tactic(auto)]
 
 // The book and its parts.
 pub mod book;

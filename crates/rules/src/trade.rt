@@ -3,13 +3,13 @@ use money::units::{Sheets, Ticks};
 
 // A contract's identity: two contracts are the same where these numbers agree.
 #[repr(C)]
-#[derive(Drop)]
+#[derive(Clone, Copy)]
 pub struct Contract(pub u64);
 
 // `first` is the payment day of the initial trade, as planned; `product` is 0, or the number plus 1 of the product at whose
 // posted terms the next term starts.
 #[repr(C)]
-#[derive(Drop)]
+#[derive(Clone, Copy)]
 pub struct Trade {
     pub contract: Contract,
     pub sheets: Sheets,
@@ -20,7 +20,7 @@ pub struct Trade {
     pub product: u64,
 }
 
-#[derive(Drop)]
+#[derive(Clone, Copy)]
 pub struct Terms {
     pub contract: Contract,
     pub sheets: Sheets,

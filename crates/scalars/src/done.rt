@@ -6,7 +6,7 @@ use crate::state::Scalars;
 use money::units::Sheets;
 use rules::answer::Answer;
 
-#[derive(Drop)]
+#[derive(Clone, Copy)]
 pub struct Done {
     pub answer: Answer,
     pub scalars: Scalars,

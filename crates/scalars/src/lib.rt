@@ -1,4 +1,5 @@
 // A book's scalars, all of it but the rows: what an event leaves of them, and the tests on them that hold for any numbers.
+#![tactic(auto)]
 
 // The scalars, and what an event leaves beside the rows and the table.
 pub mod done;

@@ -8,7 +8,7 @@ use money::units::Sheets;
 use rules::book::{Cash, Guarantee, Nets, Standing, Sums, Unpaid};
 
 // `applications` is how many stand for the evening, `trades` how many slots of the table are in use.
-#[derive(Drop)]
+#[derive(Clone, Copy)]
 pub struct Scalars {
     pub nets: Nets,
     pub sums: Sums,
