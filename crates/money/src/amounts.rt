@@ -14,6 +14,7 @@ pub struct Amount {
 }
 
 // What an initial trade moves.
+#[tactic(auto, unfolding(crate::specs::Money::initial_amount, crate::specs::Money::principal, crate::specs::Causes::first_of))]
 pub fn initial(q: Sheets) -> Amount
     ensures { result ≡ initial_amount q }
 {
@@ -31,6 +32,7 @@ pub fn initial(q: Sheets) -> Amount
 }
 
 // What a redemption at a price over some days moves: the principal and, rounded once, the income.
+#[tactic(auto, using(crate::proofs::Bounds::product), unfolding(crate::specs::Money::redemption_amount, crate::specs::Money::redemption, crate::specs::Money::principal, crate::specs::Money::income, crate::specs::Causes::first_of))]
 pub fn redemption(q: Sheets, price: Ticks, days: u32) -> Amount
     ensures { result ≡ redemption_amount q price days }
 {

@@ -14,6 +14,7 @@ pub struct Worth {
 }
 
 // What a kind's unfrozen units are worth; of guarantee cash, kind 32, the rate is not looked at.
+#[tactic(auto, using(crate::proofs::Bounds::product), unfolding(crate::specs::Collateral::kind_worth, crate::specs::Collateral::kind_value, crate::specs::Causes::first_of))]
 pub fn kind_worth(kind: u8, effective: u64, frozen: u64, rate: u64) -> Worth
     ensures { result ≡ kind_worth kind effective frozen rate }
 {

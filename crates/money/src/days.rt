@@ -13,6 +13,7 @@ pub struct Found {
 }
 
 // Whether a day trades.
+#[tactic(auto, unfolding(crate::specs::Days::trades, crate::specs::Causes::first_of))]
 pub fn trades_on(calendar: &[u32], day: u32) -> bool
     ensures { result ≡ trades calendar.now day }
 {
@@ -24,6 +25,7 @@ pub fn trades_on(calendar: &[u32], day: u32) -> bool
 }
 
 // The first trading day from a day on: the first word is masked below that day, zero words are stepped over.
+#[tactic(auto, using(crate::proofs::Scan::past_end, crate::proofs::Words::next_word), unfolding(crate::specs::Days::search_result, crate::specs::Causes::first_of))]
 fn from_day(calendar: &[u32], from: u64) -> Found
     ensures { result ≡ search_result calendar.now (at_or_after calendar.now from) }
 {
@@ -54,6 +56,7 @@ pub fn at_or_after(calendar: &[u32], day: u32) -> Found
 }
 
 // The next trading day after a day: the payment day of a trading day.
+#[tactic(auto, unfolding(crate::specs::Days::next_after, crate::specs::Causes::first_of))]
 pub fn next_after(calendar: &[u32], day: u32) -> Found
     ensures { result ≡ search_result calendar.now (next_after calendar.now day) }
 {
@@ -61,6 +64,7 @@ pub fn next_after(calendar: &[u32], day: u32) -> Found
 }
 
 // The earliest trading day.
+#[tactic(auto, unfolding(crate::specs::Days::earliest, crate::specs::Causes::first_of))]
 pub fn earliest_day(calendar: &[u32]) -> Found
     ensures { result ≡ search_result calendar.now (earliest calendar.now) }
 {

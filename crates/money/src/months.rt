@@ -7,6 +7,7 @@ use crate::limits::{FIRST_YEAR, LAST_DAY, MONTH_COUNT};
 use crate::starts::STARTS;
 
 // The days of February, by the whole leap rule.
+#[tactic(auto, unfolding(crate::specs::Dates::february, crate::specs::Dates::leap, crate::specs::Causes::first_of))]
 fn february(year: u32) -> u32
     ensures { result ≡ february year }
 {
@@ -23,6 +24,7 @@ fn february(year: u32) -> u32
 }
 
 // The days of a month; what is no month has none.
+#[tactic(auto, unfolding(crate::specs::Dates::month_length, crate::specs::Causes::first_of))]
 pub fn month_length(year: u32, month: u32) -> u32
     ensures { result ≡ month_length year month }
 {
@@ -35,6 +37,7 @@ pub fn month_length(year: u32, month: u32) -> u32
 }
 
 // The length of the month that comes so many months after January 2000.
+#[tactic(auto, unfolding(crate::specs::Dates::length_after, crate::specs::Causes::first_of))]
 pub fn length_after(months: u32) -> u32
     ensures { result ≡ length_after months }
 {
@@ -42,6 +45,7 @@ pub fn length_after(months: u32) -> u32
 }
 
 // The starts of all months, which together keep the rule of month lengths.
+#[tactic(auto, unfolding(crate::specs::Dates::keeps_rule, crate::specs::Dates::length_after, crate::specs::Dates::month_length, crate::specs::Dates::february, crate::specs::Dates::leap, crate::specs::Causes::first_of))]
 fn starts() -> [u16; 1200]
     ensures { keeps_rule 0 0 result ≡ true }
 {
@@ -50,6 +54,7 @@ fn starts() -> [u16; 1200]
 
 // The first day of the month that comes so many months after January 2000; after the last comes day 36,525. Compiled code copies the table at
 // a read, so a conversion reads it once.
+#[tactic(auto, using(crate::proofs::MonthLaws::each_start, crate::proofs::MonthLaws::last_end))]
 pub fn start_after(months: u32) -> u32
     requires { months ≤ month_count }
     ensures { result ≡ start_after months }

@@ -144,6 +144,7 @@ pub struct Book {
 }
 
 // A fresh book: Closed and normal, all numbers 0, table and applications empty, nothing posted.
+#[tactic(auto, unfolding(crate::specs::Book::fresh_book, money::specs::Causes::first_of))]
 pub fn fresh() -> Book
     ensures { result ≡ fresh_book }
 {
