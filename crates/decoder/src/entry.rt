@@ -17,6 +17,7 @@ fn wide(byte: u8) -> u32
 }
 
 // The number of 4 bytes, the least byte first.
+#[tactic(auto, using(rules::proofs::Bytes::no_bytes))]
 fn number4(bytes: &[u8], at: usize) -> u32
     requires { at + 4 ≤ length bytes.now }
     ensures { result ≡ number_at at 4 bytes.now }
@@ -37,6 +38,7 @@ fn number8(bytes: &[u8], at: usize) -> u64
 }
 
 // The spare bytes are what the first 8 have beyond code, kind and product.
+#[tactic(auto, using(rules::proofs::Bytes::past_three))]
 fn fields_of(bytes: &[u8]) -> Fields
     requires { length bytes.now ≡ event_bytes }
     ensures { result ≡ fields_of bytes.now }
@@ -56,6 +58,7 @@ fn fields_of(bytes: &[u8]) -> Fields
 }
 
 // An event that may use kind and amount.
+#[tactic(auto, using(rules::proofs::Unused::unused_fields))]
 fn kind_and_amount(fields: Fields, event: Event) -> Entry
     ensures { result ≡ unless event (rest_of fields) }
 {
@@ -84,6 +87,7 @@ fn kind_and_amount(fields: Fields, event: Event) -> Entry
 }
 
 // An event that may use the amount.
+#[tactic(auto, using(rules::proofs::Unused::unused_fields))]
 fn amount_only(fields: Fields, event: Event) -> Entry
     ensures { result ≡ unless event (fields.kind ∷ rest_of fields) }
 {
@@ -94,6 +98,7 @@ fn amount_only(fields: Fields, event: Event) -> Entry
 }
 
 // An event that is its code.
+#[tactic(auto, using(rules::proofs::Unused::unused_fields))]
 fn code_only(fields: Fields, event: Event) -> Entry
     ensures { result ≡ unless event (fields.amount ∷ fields.kind ∷ rest_of fields) }
 {
@@ -118,6 +123,8 @@ fn on_account(fields: Fields, own: Event, client: Event) -> Entry
     }
 }
 
+#[tactic(auto, using(rules::proofs::Unused::unused_fields))]
+
 fn initial(fields: Fields) -> Entry
     ensures { result ≡ unless (Event.Initial (terms_of fields)) (fields.kind ∷ fields.spare ∷ fields.last ∷ []) }
 {
@@ -140,6 +147,8 @@ fn initial(fields: Fields) -> Entry
     });
     Entry::Known(event)
 }
+
+#[tactic(auto, using(rules::proofs::Unused::unused_fields))]
 
 fn early(fields: Fields) -> Entry
     ensures { result ≡ unless (Event.Early (record { 0 = fields.contract }) (sheets fields.amount) (ticks fields.price))
@@ -172,6 +181,7 @@ fn early(fields: Fields) -> Entry
 }
 
 // The product's number stands where other events have a kind, and its term where they have an amount.
+#[tactic(auto, using(rules::proofs::Unused::unused_fields))]
 fn post(fields: Fields) -> Entry
     ensures { result ≡ unless (Event.Post fields.kind (posting_in fields))
         (fields.product ∷ fields.spare ∷ fields.contract ∷ fields.due ∷ fields.last ∷ []) }
@@ -200,6 +210,7 @@ fn post(fields: Fields) -> Entry
 }
 
 // Each code with its event, and with the test that the fields it does not use are 0.
+#[tactic(auto, unfolding(rules::specs::Entry::entry_of, money::specs::Causes::first_of))]
 fn entry_of(fields: Fields) -> Entry
     ensures { result ≡ entry_of fields }
 {
@@ -233,6 +244,7 @@ fn entry_of(fields: Fields) -> Entry
 }
 
 // The event of 40 bytes; any other number of bytes is no event.
+#[tactic(auto, unfolding(rules::specs::Entry::decoded, money::specs::Causes::first_of))]
 pub fn decode(bytes: &[u8]) -> Entry
     ensures { IsEntryOf bytes.now result }
 {

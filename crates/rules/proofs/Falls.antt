@@ -133,7 +133,9 @@ the-last-too : (book : Book) (table : List Trade) (t : Tally) (list : List Seen)
 unfolding LastBeside
 the-last-too book table t [] claim = tt
 the-last-too book table t (seen ∷ []) claim = claim.0
-the-last-too book table t (seen ∷ next ∷ more) claim = the-last-too _ _ _ (next ∷ more) claim.1
+the-last-too book table t (seen ∷ next ∷ more) claim =
+    let ruled = see daily book table seen.entry in
+    the-last-too ruled.left.book ruled.left.table (tell daily t (told daily ruled seen)) (next ∷ more) claim.1
 
 enough : 1000100 ≤ 6500000
 enough = omega arith

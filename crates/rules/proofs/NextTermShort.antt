@@ -1,19 +1,17 @@
 -- A Close at which a term starts is not short: the last one to start had headroom, what arrives only adds to V, and what goes leaves O covered.
 -- (02, ask 4; arts. 30, 53, 69)
 -- Assumes nothing.
-use mathlib.Core.Path.{◌≡◌, refl, sym, ◌∙◌}
+use mathlib.Core.Path.{◌≡◌, refl}
 use mathlib.Core.Bool.{Bool, true, false}
-use mathlib.Core.List.{List, [], ◌∷◌, map}
-use mathlib.Core.Option.{none}
+use mathlib.Core.List.{List, [], ◌∷◌}
 use Prim.Native.Nat.{ℕ, ◌+◌, ◌≤◌, min}
 use native.Mathlib.Omega.{arith}
 use lib.IntN.{pos}
 use lib.Signed.{◌≤ℤ◌}
-use Rattle.money.specs.Causes.{first_of}
 use Rattle.money.specs.Days.{Calendar}
 use Rattle.rules.specs.Book.{NotShort, Vault, Book}
 use Rattle.rules.specs.Days.{today}
-use Rattle.rules.specs.Trades.{Trade, in_use, total, outstanding, maturing, matured, remaining}
+use Rattle.rules.specs.Trades.{Trade, in_use, total, outstanding, maturing, remaining}
 use Rattle.rules.specs.Vault.{value, headroom}
 use Rattle.rules.specs.Entry.{Close, Known}
 use Rattle.rules.specs.NextTerm.{next_term, starts, with_started, if_started, started_from}

@@ -26,6 +26,7 @@ pub fn is_short(size: Sheets, value: Sheets, outstanding: Sheets) -> bool
 }
 
 // Headroom below a count of sheets.
+#[tactic(auto, using(crate::proofs::HeadroomLaws::none_left))]
 pub fn above_headroom(size: Sheets, value: Sheets, outstanding: Sheets, count: Sheets) -> bool
     ensures { result ≡ lt_z (headroom_of size.0 value.0 outstanding.0) (pos count.0) }
 {

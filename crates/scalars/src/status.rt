@@ -39,6 +39,7 @@ fn status_by_runs(failed: FailedRun, short: ShortRun) -> Status
 }
 
 // From the old status.
+#[tactic(auto, unfolding(rules::specs::Status::status_at_open, money::specs::Causes::first_of))]
 pub fn status_at_open(status: Status, failed: FailedRun, short: ShortRun) -> Status
     ensures { result ≡ status_at_open status failed short }
 {

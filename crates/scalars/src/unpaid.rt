@@ -25,6 +25,7 @@ pub fn passes(unpaid: Unpaid, amount: Fen) -> bool
 }
 
 // An early redemption joins the part of today. Here and below, U is as it was where it would pass its limit.
+#[tactic(auto, using(crate::proofs::UnpaidLaws::within))]
 pub fn today_plus(unpaid: Unpaid, amount: Fen) -> Unpaid
     ensures { result ≡ unless_past amount.0 unpaid (today_plus amount.0 unpaid) }
 {
@@ -40,6 +41,7 @@ pub fn today_plus(unpaid: Unpaid, amount: Fen) -> Unpaid
 }
 
 // A redemption on termination joins the cleared part.
+#[tactic(auto, using(crate::proofs::UnpaidLaws::within))]
 pub fn cleared_plus(unpaid: Unpaid, amount: Fen) -> Unpaid
     ensures { result ≡ unless_past amount.0 unpaid (cleared_plus amount.0 unpaid) }
 {
@@ -55,6 +57,7 @@ pub fn cleared_plus(unpaid: Unpaid, amount: Fen) -> Unpaid
 }
 
 // At Close what matures joins the part of today, and that the cleared part.
+#[tactic(auto, using(crate::proofs::UnpaidLaws::within))]
 pub fn joined_with(unpaid: Unpaid, amount: Fen) -> Unpaid
     ensures { result ≡ unless_past amount.0 unpaid (joined (today_plus amount.0 unpaid)) }
 {
