@@ -124,7 +124,6 @@ fn on_account(fields: Fields, own: Event, client: Event) -> Entry
 }
 
 #[tactic(auto, using(rules::proofs::Unused::unused_fields))]
-
 fn initial(fields: Fields) -> Entry
     ensures { result ≡ unless (Event.Initial (terms_of fields)) (fields.kind ∷ fields.spare ∷ fields.last ∷ []) }
 {
@@ -149,7 +148,6 @@ fn initial(fields: Fields) -> Entry
 }
 
 #[tactic(auto, using(rules::proofs::Unused::unused_fields))]
-
 fn early(fields: Fields) -> Entry
     ensures { result ≡ unless (Event.Early (record { 0 = fields.contract }) (sheets fields.amount) (ticks fields.price))
         (fields.kind ∷ fields.product ∷ fields.spare ∷ fields.fallback ∷ fields.due ∷ fields.last ∷ []) }
