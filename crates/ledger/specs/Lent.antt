@@ -34,7 +34,7 @@ table_in l = trades_of l.table
 unfoldable pub is_whole : Lent → Bool
 is_whole l =
     every
-    (length l.held == held_length
+    ((length l.held == held_length)
     ∷ (length l.kinds == application_limit)
     ∷ (length l.units == application_limit)
     ∷ (length l.table % width == 0)

@@ -27,6 +27,7 @@ fn bucket_of(contract: Contract, buckets: usize) -> usize
 const CHAIN_LIMIT: usize = 64;
 
 // A contract looked for along a chain. A link is one more than a place, and 0 at the end.
+#[tactic(auto, using(crate::proofs::ChainLaws::ahead_none))]
 fn look_along(table: &[u64], next: &[u16], from: usize, contract: Contract) -> ChainResult
     requires { (HasSlots table.now from) × (from ≤ length next.now) × (Falls next.now from) }
     ensures { Shows table.now next.now from contract result }
@@ -48,6 +49,7 @@ fn look_along(table: &[u64], next: &[u16], from: usize, contract: Contract) -> C
 }
 
 // The trades linked one after the other, each looked for along the chain of its bucket.
+#[tactic(auto, using(crate::proofs::ChainLaws::inside, crate::proofs::ChainLaws::repeated))]
 pub fn linked_differ(
     table: &[u64],
     count: usize,

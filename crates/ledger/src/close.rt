@@ -82,6 +82,7 @@ fn closed_standing(short: ShortRun, standing: Standing) -> Standing
 }
 
 // The list of applications empties to zeros.
+#[tactic(auto, using(crate::proofs::RowLaws::none_filled))]
 fn clear(kinds: &mut [u8], units: &mut [u64])
     requires { (length kinds.old ≡ application_limit) × (length units.old ≡ application_limit) }
     ensures { (kinds.new ≡ no_applications.kinds) × (units.new ≡ no_applications.units) }
@@ -95,6 +96,7 @@ fn clear(kinds: &mut [u8], units: &mut [u64])
 }
 
 // The evening's end, with O as part (b) begins and U as it is then.
+#[tactic(auto, using(crate::proofs::CloseLaws::begun), unfolding(rules::specs::Close::all_arrived, rules::specs::Close::evening, money::specs::Causes::first_of))]
 fn evening_end(
     scalars: Scalars,
     held: &mut [u64],
@@ -134,6 +136,7 @@ fn evening_end(
 }
 
 // The scalars after the evening: `cleared` has the nets, `unpaid` is U, `kept` the trades that stay.
+#[tactic(auto, unfolding(rules::specs::Close::closed_book, rules::specs::Close::is_short_close, money::specs::Causes::first_of))]
 fn closed_scalars(
     scalars: Scalars,
     cleared: Nets,
@@ -207,6 +210,7 @@ fn closed(
 }
 
 // All that can refuse it is decided on a plan, before anything is written.
+#[tactic(auto, using(rules::proofs::FitParts::fit_parts, crate::proofs::Column::asked, crate::proofs::Column::denied, crate::proofs::Fitting::refuted, crate::proofs::Fitting::upheld))]
 pub fn close(
     calendar: &[u32],
     scalars: Scalars,

@@ -9,6 +9,7 @@ use money::days::Found;
 use rules::book::Day;
 
 // The next day to open.
+#[tactic(auto, unfolding(rules::specs::Days::following, money::specs::Causes::first_of))]
 fn next_found(calendar: &[u32], day: Day) -> Found
     ensures { result ≡ search_result calendar.now (following calendar.now day) }
 {
@@ -29,6 +30,7 @@ pub fn day_number(day: Day) -> u32
 }
 
 // The payment day of a day is the next trading day.
+#[tactic(auto, unfolding(rules::specs::Days::payment_day, money::specs::Causes::first_of))]
 pub fn payment_day(calendar: &[u32], day: Day) -> u32
     requires { length calendar.now ≤ calendar_limit }
     ensures { result ≡ payment_day calendar.now day }
@@ -37,6 +39,7 @@ pub fn payment_day(calendar: &[u32], day: Day) -> u32
 }
 
 // Whether a trading day has another following.
+#[tactic(auto, unfolding(rules::specs::Days::followed, money::specs::Causes::first_of))]
 pub fn has_next(calendar: &[u32], day: u32) -> bool
     requires { length calendar.now ≤ calendar_limit }
     ensures { result ≡ followed calendar.now (some day) }
@@ -69,6 +72,7 @@ pub fn opens(calendar: &[u32], day: Day) -> bool
 }
 
 // The day to open, or never.
+#[tactic(auto, using(money::proofs::Answers::none_elsewhere))]
 pub fn next_day(calendar: &[u32], day: Day) -> Day
     requires { length calendar.now ≤ calendar_limit }
     ensures { result ≡ to_day (following calendar.now day) }

@@ -16,6 +16,7 @@ use scalars::state::Scalars;
 use scalars::{done, standing, state, unpaid};
 
 // Whether today is at or past the due day of the trade at a place.
+#[tactic(auto, using(crate::proofs::ContractLaws::missing, crate::proofs::ContractLaws::present))]
 fn past_due(scalars: Scalars, table: &[u64], place: usize, contract: Contract) -> bool
     requires { (HasSlots table.now scalars.trades) × (place ≡ place_of contract (trades_to table.now scalars.trades)) }
     ensures { (rows : Rows) → result ≡ past_due (book_of scalars rows) (trades_of table.now) contract }
@@ -53,6 +54,7 @@ fn early_plan(
 
 // The causes, group by group as the rules have them: when sheets may be redeemed and how many at which price, the contract's
 // trade, and what is taken from it.
+#[tactic(auto, using(crate::proofs::Column::column))]
 fn order_refusal(scalars: Scalars, count: Sheets, price: Ticks) -> u8
     ensures { (rows : Rows) → result ≡ number_of (first_of (order_causes (book_of scalars rows) count price)) }
 {
@@ -72,6 +74,7 @@ fn order_refusal(scalars: Scalars, count: Sheets, price: Ticks) -> u8
     0
 }
 
+#[tactic(auto, using(crate::proofs::Column::column))]
 fn named_refusal(scalars: Scalars, table: &[u64], place: usize, contract: Contract) -> u8
     requires { (HasSlots table.now scalars.trades) × (place ≡ place_of contract (trades_to table.now scalars.trades)) }
     ensures { (rows : Rows) → result ≡ number_of (first_of (named_causes (book_of scalars rows) (trades_of table.now) contract)) }
@@ -85,6 +88,7 @@ fn named_refusal(scalars: Scalars, table: &[u64], place: usize, contract: Contra
     0
 }
 
+#[tactic(auto, using(crate::proofs::Column::column, crate::proofs::Column::passes, crate::proofs::Column::ends))]
 fn take_refusal(
     calendar: &[u32],
     scalars: Scalars,
@@ -114,6 +118,7 @@ fn take_refusal(
     0
 }
 
+#[tactic(auto, using(crate::proofs::Refusing::no_rows), unfolding(rules::specs::Early::early_causes, money::specs::Causes::first_of))]
 fn early_refusal(
     calendar: &[u32],
     scalars: Scalars,
@@ -141,6 +146,7 @@ fn early_refusal(
     take_refusal(calendar, scalars, table, place, contract, count, price)
 }
 
+#[tactic(auto, using(crate::proofs::Refusing::refused, crate::proofs::Refusing::turned_down), unfolding(rules::specs::Early::early_book, rules::specs::Early::early_table, money::specs::Causes::first_of))]
 pub fn early(
     calendar: &[u32],
     scalars: Scalars,

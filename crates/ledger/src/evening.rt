@@ -41,6 +41,7 @@ pub fn guarantee_arrived(guarantee: Guarantee) -> Guarantee
 }
 
 // What arrives becomes effective, of every security.
+#[tactic(auto, using(crate::proofs::EveningLaws::map_below, crate::proofs::EveningLaws::map_more))]
 pub fn all_arrived(held: &mut [u64], guarantee: Guarantee)
     requires { (length held.old ≡ held_length) × (securities_fit (vault_of guarantee (securities_of held.old)) ≡ true) }
     ensures { (securities_of held.new ≡ map security_arrived (securities_of held.old))
@@ -87,6 +88,7 @@ struct Verdict {
 }
 
 // By what is had of the kind alone: V changes by that kind's value, so the other kinds are not looked at.
+#[tactic(auto, using(crate::proofs::EveningLaws::value_after, crate::proofs::EveningLaws::unserved, crate::proofs::EveningLaws::uncovered))]
 fn judged(
     served: bool,
     outstanding: Sheets,
@@ -140,6 +142,7 @@ pub struct EveningScalars {
 }
 
 // The applications in order: of each one's kind a copy is looked at, and written back if it goes.
+#[tactic(auto, using(crate::proofs::SumLaws::turn_more, crate::proofs::EveningLaws::held_fits, crate::proofs::EveningLaws::turn, crate::proofs::EveningLaws::unfrozen), unfolding(rules::specs::Close::applications, money::specs::Causes::first_of))]
 pub fn applications(
     served: bool,
     outstanding: Sheets,

@@ -30,6 +30,7 @@ pub struct KnownFigures {
 }
 
 // Counted, over the trades in use and all kinds.
+#[tactic(auto, using(rules::proofs::FitParts::fit_parts))]
 pub fn figures_of(calendar: &[u32], scalars: Scalars, held: &[u64], table: &[u64]) -> Figures
     requires { FitsHeld calendar.now scalars held.now (trades_of table.now) }
     ensures { result ≡ figures_at scalars held.now (trades_of table.now) }
@@ -42,6 +43,7 @@ pub fn figures_of(calendar: &[u32], scalars: Scalars, held: &[u64], table: &[u64
 }
 
 // Both, with V counted only where it is not known.
+#[tactic(auto, using(rules::proofs::FitParts::fit_parts))]
 pub fn figures_known(
     calendar: &[u32],
     scalars: Scalars,
@@ -68,6 +70,7 @@ pub fn figures_known(
 }
 
 // The vault has changed, and the table has not.
+#[tactic(auto, using(rules::proofs::FitParts::fit_parts))]
 fn revalued(
     calendar: &[u32],
     before: Figures,
@@ -89,6 +92,7 @@ fn revalued(
 }
 
 // After an event that is done: no trade is looked at where the event itself tells what it adds or takes.
+#[tactic(auto, using(rules::proofs::FitParts::fit_parts))]
 fn figures_moved(
     calendar: &[u32],
     before: Figures,
@@ -136,6 +140,7 @@ fn figures_moved(
 }
 
 // After any entry: what is turned down, or fails to be paid, moves nothing.
+#[tactic(auto, using(crate::proofs::FigureLaws::unmoved))]
 pub fn figures_after(
     calendar: &[u32],
     before: Figures,

@@ -17,6 +17,7 @@ use rules::limits::{CAPACITY_LIMIT, SIZE_LIMIT};
 use scalars::state::Scalars;
 use scalars::{standing, unpaid};
 
+#[tactic(auto, unfolding(rules::specs::Fit::capacity_fit, money::specs::Causes::first_of))]
 fn capacity_fit(count: usize, table: &[u64]) -> bool
     ensures { result ≡ capacity_fit count (trades_of table.now) }
 {
@@ -28,6 +29,7 @@ fn capacity_fit(count: usize, table: &[u64]) -> bool
 }
 
 // S is within its limit, and the sheets left within S.
+#[tactic(auto, unfolding(rules::specs::Fit::size_fit, money::specs::Causes::first_of))]
 fn size_fit(size: Sheets, outstanding: Sheets) -> bool
     ensures { result ≡ size_fit size.0 outstanding.0 }
 {
@@ -37,6 +39,7 @@ fn size_fit(size: Sheets, outstanding: Sheets) -> bool
     outstanding.0 <= size.0
 }
 
+#[tactic(auto, using(crate::proofs::Fitting::refuted, crate::proofs::Fitting::upheld), unfolding(rules::specs::Fit::nets_fit, money::specs::Causes::first_of))]
 fn nets_fit(nets: Nets) -> bool
     ensures { result ≡ nets_fit nets }
 {
@@ -46,6 +49,7 @@ fn nets_fit(nets: Nets) -> bool
     nets::cleared_fit(nets)
 }
 
+#[tactic(auto, unfolding(rules::specs::Fit::sums_fit, money::specs::Causes::first_of))]
 fn sums_fit(sums: Sums) -> bool
     ensures { result ≡ sums_fit sums }
 {
@@ -54,6 +58,7 @@ fn sums_fit(sums: Sums) -> bool
 }
 
 // A book with no day is Closed with an empty table.
+#[tactic(auto, using(crate::proofs::Fitting::refuted, crate::proofs::Fitting::upheld))]
 fn unopened_fit(standing: Standing, count: usize) -> bool
     ensures { result ≡ unopened_fit standing.phase count }
 {
@@ -64,6 +69,7 @@ fn unopened_fit(standing: Standing, count: usize) -> bool
 }
 
 // The day trades, another follows, and no first payment day is past today's payment day: the latest is not.
+#[tactic(auto, using(crate::proofs::Fitting::fitting))]
 fn opened_fit(calendar: &[u32], today: u32, latest: u32) -> bool
     requires { length calendar.now ≤ calendar_limit }
     ensures { (trades : List Trade) → latest ≡ latest_first trades → result ≡ opened_fit calendar.now today trades }
@@ -90,6 +96,7 @@ fn day_fit(calendar: &[u32], standing: Standing, count: usize, latest: u32) -> b
 }
 
 // The tests after those of the vault, the cash, the sheets and the postings.
+#[tactic(auto, using(crate::proofs::Fitting::fitting, crate::proofs::Fitting::upheld))]
 fn others_fit(
     calendar: &[u32],
     scalars: Scalars,
@@ -132,6 +139,7 @@ fn others_fit(
 }
 
 // The tests of a table with room for its trades, from what one walk over these summary.
+#[tactic(auto, using(crate::proofs::Fitting::fitting, crate::proofs::Fitting::refuted, crate::proofs::Fitting::upheld))]
 fn is_fit(
     calendar: &[u32],
     scalars: Scalars,
@@ -176,6 +184,7 @@ pub struct Fitness {
     pub outstanding: Sheets,
 }
 
+#[tactic(auto, using(crate::proofs::Fitting::fitting, crate::proofs::Fitting::upheld))]
 pub fn fitness_of(
     calendar: &[u32],
     scalars: Scalars,

@@ -13,6 +13,7 @@ pub fn same_contract(a: Contract, b: Contract) -> bool
     a.0 == b.0
 }
 
+#[tactic(auto, unfolding(crate::specs::Flat::trade_at, money::specs::Causes::first_of))]
 pub fn contract_at(table: &[u64], place: usize) -> Contract
     requires { HasSlot table.now place }
     ensures { result ≡ (trade_at table.now place).contract }
@@ -20,6 +21,7 @@ pub fn contract_at(table: &[u64], place: usize) -> Contract
     Contract(table[place * layout::WIDTH])
 }
 
+#[tactic(auto, unfolding(crate::specs::Flat::trade_at, money::specs::Causes::first_of))]
 pub fn sheets_at(table: &[u64], place: usize) -> Sheets
     requires { HasSlot table.now place }
     ensures { result.0 ≡ (trade_at table.now place).sheets.0 }
@@ -49,6 +51,7 @@ pub fn paired(low: u32, high: u32) -> u64
     low as u64 + 4_294_967_296 * (high as u64)
 }
 
+#[tactic(auto, unfolding(crate::specs::Flat::trade_at, money::specs::Causes::first_of))]
 pub fn price_at(table: &[u64], place: usize) -> Ticks
     requires { HasSlot table.now place }
     ensures { result ≡ (trade_at table.now place).price }
@@ -56,6 +59,7 @@ pub fn price_at(table: &[u64], place: usize) -> Ticks
     Ticks(lower_at(table, place * layout::WIDTH + 2))
 }
 
+#[tactic(auto, unfolding(crate::specs::Flat::trade_at, money::specs::Causes::first_of))]
 pub fn fallback_at(table: &[u64], place: usize) -> Ticks
     requires { HasSlot table.now place }
     ensures { result ≡ (trade_at table.now place).fallback }
@@ -63,6 +67,7 @@ pub fn fallback_at(table: &[u64], place: usize) -> Ticks
     Ticks(upper_at(table, place * layout::WIDTH + 2))
 }
 
+#[tactic(auto, unfolding(crate::specs::Flat::trade_at, money::specs::Causes::first_of))]
 pub fn first_at(table: &[u64], place: usize) -> u32
     requires { HasSlot table.now place }
     ensures { result ≡ (trade_at table.now place).first }
@@ -70,6 +75,7 @@ pub fn first_at(table: &[u64], place: usize) -> u32
     lower_at(table, place * layout::WIDTH + 3)
 }
 
+#[tactic(auto, unfolding(crate::specs::Flat::trade_at, money::specs::Causes::first_of))]
 pub fn due_at(table: &[u64], place: usize) -> u32
     requires { HasSlot table.now place }
     ensures { result ≡ (trade_at table.now place).due }
@@ -77,6 +83,7 @@ pub fn due_at(table: &[u64], place: usize) -> u32
     upper_at(table, place * layout::WIDTH + 3)
 }
 
+#[tactic(auto, unfolding(crate::specs::Flat::trade_at, money::specs::Causes::first_of))]
 pub fn product_at(table: &[u64], place: usize) -> u64
     requires { HasSlot table.now place }
     ensures { result ≡ (trade_at table.now place).product }
@@ -107,6 +114,7 @@ pub fn no_trade() -> Trade
     }
 }
 
+#[tactic(auto, using(crate::proofs::StoreLaws::behind))]
 pub fn put_trade(table: &mut [u64], place: usize, trade: Trade)
     requires { HasSlot table.old place }
     ensures { (trades_of table.new ≡ slice_set (trades_of table.old) place trade)

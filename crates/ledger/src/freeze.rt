@@ -13,6 +13,7 @@ use scalars::done;
 use scalars::done::Done;
 use scalars::state::Scalars;
 
+#[tactic(auto, using(crate::proofs::Column::column), unfolding(rules::specs::Freeze::freeze_causes, money::specs::Causes::first_of))]
 fn freeze_refusal(scalars: Scalars, held: &[u64], kind: u8, units: u64) -> u8
     requires { length held.now ≡ held_length }
     ensures { (kinds amounts : List ℕ) →
@@ -52,6 +53,7 @@ fn cash_frozen(guarantee: Guarantee, amount: Fen) -> Guarantee
     }
 }
 
+#[tactic(auto, using(crate::proofs::Refusing::turned_down, crate::proofs::Refusing::done), unfolding(rules::specs::Step::event_causes, rules::specs::Freeze::freeze_causes, rules::specs::Freeze::frozen, money::specs::Causes::first_of))]
 pub fn freeze(scalars: Scalars, held: &mut [u64], kind: u8, units: u64) -> Done
     requires { length held.old ≡ held_length }
     ensures { (kinds amounts : List ℕ) →

@@ -33,6 +33,7 @@ fn with_account(account: Account, sum: Fen, cash: Cash) -> Cash
     }
 }
 
+#[tactic(auto, using(crate::proofs::Column::column), unfolding(rules::specs::Funds::fund_in_causes, money::specs::Causes::first_of))]
 fn fund_in_refusal(scalars: Scalars, account: Account, amount: Fen) -> u8
     requires { cash_fit scalars.cash scalars.guarantee ≡ true }
     ensures { (rows : Rows) → result ≡ number_of (first_of (fund_in_causes (book_of scalars rows) account amount)) }
@@ -50,6 +51,7 @@ fn fund_in_refusal(scalars: Scalars, account: Account, amount: Fen) -> u8
     0
 }
 
+#[tactic(auto, using(crate::proofs::Refusing::no_rows, crate::proofs::Refusing::turned_down, crate::proofs::Refusing::done), unfolding(rules::specs::Step::event_causes, rules::specs::Funds::fund_in_causes, rules::specs::Funds::funded_in, money::specs::Causes::first_of))]
 pub fn fund_in(scalars: Scalars, account: Account, amount: Fen) -> Done
     requires { cash_fit scalars.cash scalars.guarantee ≡ true }
     ensures { (rows : Rows) →
@@ -68,6 +70,7 @@ pub fn fund_in(scalars: Scalars, account: Account, amount: Fen) -> Done
     done::answered(0, next)
 }
 
+#[tactic(auto, using(crate::proofs::Column::column), unfolding(rules::specs::Funds::fund_out_causes, money::specs::Causes::first_of))]
 fn fund_out_refusal(scalars: Scalars, account: Account, amount: Fen) -> u8
     ensures { (rows : Rows) → result ≡ number_of (first_of (fund_out_causes (book_of scalars rows) account amount)) }
 {
@@ -82,6 +85,7 @@ fn fund_out_refusal(scalars: Scalars, account: Account, amount: Fen) -> u8
     0
 }
 
+#[tactic(auto, using(crate::proofs::Refusing::no_rows, crate::proofs::Refusing::turned_down, crate::proofs::Refusing::done), unfolding(rules::specs::Step::event_causes, rules::specs::Funds::fund_out_causes, rules::specs::Funds::funded_out, money::specs::Causes::first_of))]
 pub fn fund_out(scalars: Scalars, account: Account, amount: Fen) -> Done
     ensures { (rows : Rows) →
         let book = book_of scalars rows in

@@ -70,6 +70,7 @@ fn principal_of(count: Sheets) -> Fen
 }
 
 // Whether sheets are above headroom.
+#[tactic(auto, unfolding(rules::specs::Vault::headroom, money::specs::Causes::first_of))]
 fn lacks_headroom(
     calendar: &[u32],
     scalars: Scalars,
@@ -88,6 +89,7 @@ fn lacks_headroom(
 
 // The causes, group by group as the rules have them: a trade's product, when it may begin, its prices and its due day, the table's room,
 // and headroom's and the net's.
+#[tactic(auto, using(crate::proofs::Column::column))]
 fn product_refusal(scalars: Scalars, held: &[u64], terms: Terms) -> u8
     requires { length held.now ≡ held_length }
     ensures { (kinds units : List ℕ) →
@@ -108,6 +110,7 @@ fn product_refusal(scalars: Scalars, held: &[u64], terms: Terms) -> u8
     0
 }
 
+#[tactic(auto, using(crate::proofs::Column::column))]
 fn time_refusal(scalars: Scalars) -> u8
     ensures { (rows : Rows) → result ≡ number_of (first_of (time_causes (book_of scalars rows))) }
 {
@@ -124,6 +127,7 @@ fn time_refusal(scalars: Scalars) -> u8
     0
 }
 
+#[tactic(auto, using(crate::proofs::Column::column))]
 fn term_refusal(calendar: &[u32], scalars: Scalars, terms: Terms) -> u8
     requires { (length calendar.now ≤ calendar_limit) × (day_number scalars.standing.day < term_limit) }
     ensures { (rows : Rows) → result ≡ number_of (first_of (term_causes calendar.now (book_of scalars rows) terms)) }
@@ -141,6 +145,7 @@ fn term_refusal(calendar: &[u32], scalars: Scalars, terms: Terms) -> u8
     0
 }
 
+#[tactic(auto, using(crate::proofs::Column::column))]
 fn slot_refusal(scalars: Scalars, table: &[u64], terms: Terms) -> u8
     requires { HasSlots table.now scalars.trades }
     ensures { (rows : Rows) → result ≡ number_of (first_of (slot_causes (book_of scalars rows) (trades_of table.now) terms)) }
@@ -155,6 +160,7 @@ fn slot_refusal(scalars: Scalars, table: &[u64], terms: Terms) -> u8
     0
 }
 
+#[tactic(auto, using(crate::proofs::Column::column), unfolding(money::specs::Money::principal, money::specs::Causes::first_of))]
 fn sheet_refusal(
     calendar: &[u32],
     scalars: Scalars,
@@ -179,6 +185,7 @@ fn sheet_refusal(
     0
 }
 
+#[tactic(auto, using(crate::proofs::Column::applies, crate::proofs::Column::passes, crate::proofs::Column::asked, crate::proofs::Refusing::no_rows), unfolding(rules::specs::Initial::initial_causes, money::specs::Causes::first_of))]
 fn initial_refusal(
     calendar: &[u32],
     scalars: Scalars,
@@ -239,6 +246,7 @@ fn begun_trade(calendar: &[u32], scalars: Scalars, terms: Terms) -> Trade
     }
 }
 
+#[tactic(auto, using(crate::proofs::Refusing::refused, crate::proofs::Refusing::turned_down), unfolding(money::specs::Money::principal, rules::specs::Initial::initial_book, rules::specs::Initial::initial_table, money::specs::Causes::first_of))]
 pub fn initial(
     calendar: &[u32],
     scalars: Scalars,

@@ -23,6 +23,7 @@ use scalars::done::Done;
 use scalars::state::Scalars;
 use scalars::{done, headroom, state};
 
+#[tactic(auto, unfolding(crate::specs::Lent::is_whole, money::specs::Causes::first_of))]
 fn is_whole(scalars: Scalars, held: &[u64], kinds: &[u8], units: &[u64], table: &[u64]) -> bool
     ensures { result ≡ is_whole (lent scalars held.now kinds.now units.now table.now) }
 {
@@ -49,6 +50,7 @@ fn not_fit() -> Fitness
 }
 
 // Whether the numbers hold a fit book, and O of one that is.
+#[tactic(auto, using(crate::proofs::Fitting::refuted, crate::proofs::Fitting::upheld, crate::proofs::LentLaws::lengths, crate::proofs::LentLaws::too_long))]
 fn fitness_in(
     calendar: &[u32],
     scalars: Scalars,
@@ -72,6 +74,7 @@ fn fitness_in(
 }
 
 // One entry. Refused, every number lent is as it was.
+#[tactic(auto, using(crate::proofs::Fitting::refuted, crate::proofs::Fitting::upheld))]
 pub fn apply(
     calendar: &[u32],
     scalars: Scalars,
@@ -108,6 +111,7 @@ pub fn apply(
 }
 
 // Headroom and O.
+#[tactic(auto, using(rules::proofs::FitParts::fit_parts, crate::proofs::Fitting::refuted, crate::proofs::Fitting::upheld))]
 pub fn cover(
     calendar: &[u32],
     scalars: Scalars,
@@ -129,6 +133,7 @@ pub fn cover(
 }
 
 // The lent lengths: room for the events' lines, whole events, and no more than a journal's.
+#[tactic(auto, using(crate::proofs::Column::column), unfolding(rules::specs::Listing::length_causes, money::specs::Causes::first_of))]
 pub fn lengths_refusal(bytes: usize, room: usize) -> u8
     ensures { result ≡ number_of (first_of (length_causes bytes room)) }
 {
@@ -152,6 +157,7 @@ pub struct Ended {
 }
 
 // Encoded events, 40 bytes each, and a line of seven numbers for each. Fitness is tested once. Refused, every number lent is as it was.
+#[tactic(auto, using(crate::proofs::RunLaws::lines_fit, crate::proofs::RunLaws::goes_on, crate::proofs::Fitting::refuted, crate::proofs::Fitting::upheld))]
 pub fn run(
     calendar: &[u32],
     scalars: Scalars,

@@ -15,6 +15,7 @@ use rules::limits::{APPLICATION_LIMIT, JOURNAL_CAPACITY};
 use scalars::state;
 use scalars::state::Scalars;
 
+#[tactic(auto, unfolding(rules::specs::Book::fresh_book, money::specs::Causes::first_of))]
 fn fresh_scalars() -> Scalars
     ensures { result ≡ scalars_of fresh_book }
 {
@@ -51,6 +52,7 @@ fn fresh_scalars() -> Scalars
     }
 }
 
+#[tactic(auto, using(crate::proofs::Column::column, crate::proofs::Column::passes), unfolding(rules::specs::Listing::listing_causes, money::specs::Causes::first_of))]
 fn listing_refusal(words: usize, bytes: usize, room: usize) -> u8
     ensures { result ≡ number_of (first_of (listing_causes words bytes room)) }
 {
@@ -61,6 +63,7 @@ fn listing_refusal(words: usize, bytes: usize, room: usize) -> u8
 }
 
 // On a fresh book over rows and a table of its own; that book is fit, so fitness is not tested.
+#[tactic(auto, using(crate::proofs::Refusing::refused, crate::proofs::RunLaws::lines_fit, crate::proofs::ListingLaws::lengths_none))]
 pub fn run_listing(calendar: &[u32], events: &[u8], lines: &mut [u64]) -> u8
     ensures { let cause = first_of (listing_causes (length calendar.now) (length events.now) (length lines.old)) in
         (result ≡ number_of cause)

@@ -10,6 +10,7 @@ use rules::book::Nets;
 use rules::limits::{NET_LIMIT, NET_LIMIT_DOWN};
 
 // Whether a net is within 4×10^18, up or down.
+#[tactic(auto, using(crate::proofs::NetLaws::above, crate::proofs::NetLaws::below, crate::proofs::NetLaws::inside))]
 fn net_fit(net: SignedFen) -> bool
     ensures { result ≡ net_fit net.0 }
 {
@@ -160,6 +161,7 @@ pub fn client_pays(nets: Nets) -> bool
 }
 
 // The size of the net due.
+#[tactic(auto, using(crate::proofs::NetLaws::negated, crate::proofs::NetLaws::not_negative))]
 pub fn net_due(nets: Nets) -> Fen
     requires { net_fit nets.cleared.0 ≡ true }
     ensures { result.0 ≡ unsigned_abs nets.cleared.0 }

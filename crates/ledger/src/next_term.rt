@@ -44,6 +44,7 @@ pub struct Plan {
 }
 
 // Whether any next term may start today: the status is normal, and something is posted.
+#[tactic(auto, using(crate::proofs::Fitting::refuted, crate::proofs::Fitting::upheld))]
 fn may_start(scalars: Scalars, held: &[u64]) -> bool
     requires { length held.now ≡ held_length }
     ensures { (result ≡ true → is_normal scalars.standing.status ≡ true)
@@ -110,6 +111,7 @@ fn closing_of(
 }
 
 // The conditions in the order of the ask; the status is normal. A posted term is 1 to 365 days, so of rule 9 the calendar alone is left to ask.
+#[tactic(auto, using(crate::proofs::RedemptionLaws::within_of))]
 fn starts(
     calendar: &[u32],
     held: &[u64],
@@ -141,6 +143,7 @@ fn starts(
 }
 
 // The record that takes the old one's slot.
+#[tactic(auto, using(crate::proofs::RedemptionLaws::within_of))]
 fn next_term(calendar: &[u32], held: &[u64], table: &[u64], place: usize, closing: Closing) -> Trade
     requires { (Renewable calendar.now closing held.now) × (FitAt table.now place) }
     ensures { (book : Book) →
@@ -164,6 +167,7 @@ fn next_term(calendar: &[u32], held: &[u64], table: &[u64], place: usize, closin
 }
 
 // O with a trade's next term, if it starts.
+#[tactic(auto, using(crate::proofs::Fitting::refuted, crate::proofs::Fitting::upheld, crate::proofs::RedemptionLaws::within_of))]
 fn with_started(
     calendar: &[u32],
     held: &[u64],
@@ -190,6 +194,7 @@ fn with_started(
 }
 
 // The plan: O as part (b) begins, from O once all have matured. Each term is judged beside those that started before it.
+#[tactic(auto, using(crate::proofs::StartLaws::no_more))]
 pub fn outstanding_after(
     calendar: &[u32],
     held: &[u64],
@@ -218,6 +223,7 @@ pub fn outstanding_after(
 }
 
 // A slot as part (b) begins: the next term if it starts, else the trade matured. The answer is O with it.
+#[tactic(auto, using(crate::proofs::Fitting::refuted, crate::proofs::Fitting::upheld, crate::proofs::RedemptionLaws::within_of))]
 fn settle_slot(
     calendar: &[u32],
     held: &[u64],
@@ -276,6 +282,7 @@ pub fn settle(
 }
 
 // All that Close has to know before it writes: what matures, and which terms start.
+#[tactic(auto, using(rules::proofs::FitParts::fit_parts))]
 pub fn plan_of(
     calendar: &[u32],
     scalars: Scalars,

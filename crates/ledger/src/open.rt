@@ -33,6 +33,7 @@ fn opened_standing(calendar: &[u32], standing: Standing) -> Standing
 }
 
 // Whether the firm turns terminated between two standings.
+#[tactic(auto, unfolding(rules::specs::Open::turns_terminated, money::specs::Causes::first_of))]
 fn turns_terminated(before: Standing, after: Standing) -> bool
     requires { after.status ≡ status_at_open before.status before.failed before.short }
     ensures { result ≡ turns_terminated before }
@@ -56,6 +57,7 @@ fn fallback_sum(calendar: &[u32], scalars: Scalars, table: &[u64], after: Standi
 }
 
 // On turning terminated the table is emptied into the cleared net and U's cleared part, unless the net or U would leave its limit.
+#[tactic(auto, using(rules::proofs::FitParts::fit_parts), unfolding(rules::specs::Open::opened_table, money::specs::Causes::first_of))]
 fn terminated(calendar: &[u32], scalars: Scalars, table: &mut [u64], after: Standing) -> Done
     requires { Ending calendar.now scalars (trades_of table.old) after }
     ensures { let trades = trades_of table.old in
@@ -84,6 +86,7 @@ fn terminated(calendar: &[u32], scalars: Scalars, table: &mut [u64], after: Stan
 }
 
 // The day opened, with what was posted before.
+#[tactic(auto, unfolding(rules::specs::Open::opened_table, money::specs::Causes::first_of))]
 fn turned(calendar: &[u32], scalars: Scalars, table: &mut [u64]) -> Done
     requires { Fits calendar.now scalars (trades_of table.old) }
     ensures { let trades = trades_of table.old in
@@ -112,6 +115,7 @@ fn turned(calendar: &[u32], scalars: Scalars, table: &mut [u64]) -> Done
 }
 
 // What was posted is forgotten, unless Open is refused.
+#[tactic(auto, using(crate::proofs::OpenLaws::forgotten))]
 pub fn open(calendar: &[u32], scalars: Scalars, held: &mut [u64], table: &mut [u64]) -> Done
     requires { FitsHeld calendar.now scalars held.old (trades_of table.old) }
     ensures { let trades = trades_of table.old in

@@ -13,6 +13,7 @@ use scalars::done::Done;
 use scalars::state::Scalars;
 use scalars::{done, standing, state, unpaid};
 
+#[tactic(auto, using(crate::proofs::Column::column), unfolding(rules::specs::Pay::pay_causes, money::specs::Causes::first_of))]
 fn pay_refusal(scalars: Scalars) -> u8
     ensures { (rows : Rows) → result ≡ number_of (first_of (pay_causes (book_of scalars rows))) }
 {
@@ -95,6 +96,7 @@ fn paid_standing(standing: Standing, failed: FailedRun) -> Standing
 }
 
 // Nothing moves, and the failed run grows.
+#[tactic(auto, unfolding(rules::specs::Pay::after_pay, money::specs::Causes::first_of))]
 fn not_made(scalars: Scalars) -> Scalars
     ensures { (rows : Rows) → book_of result rows ≡ after_pay true (book_of scalars rows) }
 {
@@ -105,6 +107,7 @@ fn not_made(scalars: Scalars) -> Scalars
     next
 }
 
+#[tactic(auto, unfolding(rules::specs::Pay::after_pay, money::specs::Causes::first_of))]
 fn paid(scalars: Scalars) -> Scalars
     requires { (net_fit scalars.nets.cleared.0 ≡ true)
         × (unsigned_abs scalars.nets.cleared.0 ≤ payer_holds scalars.nets.cleared.0 scalars.cash)
@@ -122,6 +125,7 @@ fn paid(scalars: Scalars) -> Scalars
     next
 }
 
+#[tactic(auto, using(money::proofs::TwoTests::both, crate::proofs::Refusing::refused, crate::proofs::Refusing::done), unfolding(rules::specs::Step::event_causes, rules::specs::Fit::nets_fit, money::specs::Causes::first_of))]
 pub fn pay(scalars: Scalars) -> Done
     requires { (nets_fit scalars.nets ≡ true) × (cash_fit scalars.cash scalars.guarantee ≡ true) }
     ensures { (rows : Rows) → applied_at result rows ≡ paid_by (first_of (pay_causes (book_of scalars rows))) (book_of scalars rows) }

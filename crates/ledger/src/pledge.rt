@@ -16,6 +16,7 @@ use scalars::state::Scalars;
 use scalars::{done, standing};
 
 // The units of a security, effective and arriving together.
+#[tactic(auto, using(crate::proofs::HeldFit::row_fits))]
 fn units_of(held: &[u64], guarantee: Guarantee, kind: u8) -> u64
     requires { (kind < cash_kind) × (length held.now ≡ held_length) × (securities_fit (vault_of guarantee (securities_of held.now)) ≡ true) }
     ensures { result ≡ (security_in held.now kind).effective + (security_in held.now kind).arriving }
@@ -24,6 +25,7 @@ fn units_of(held: &[u64], guarantee: Guarantee, kind: u8) -> u64
     security.effective + security.arriving
 }
 
+#[tactic(auto, using(crate::proofs::Column::column, crate::proofs::HeldFit::row_fits), unfolding(rules::specs::Pledge::pledge_causes, money::specs::Causes::first_of))]
 fn pledge_refusal(scalars: Scalars, held: &[u64], kind: u8, units: u64) -> u8
     requires { (length held.now ≡ held_length) × (securities_fit (vault_of scalars.guarantee (securities_of held.now)) ≡ true) }
     ensures { (kinds amounts : List ℕ) →
@@ -77,6 +79,7 @@ fn cash_arrived(guarantee: Guarantee, amount: Fen) -> Guarantee
     }
 }
 
+#[tactic(auto, using(crate::proofs::Refusing::turned_down, crate::proofs::Refusing::done), unfolding(rules::specs::Step::event_causes, rules::specs::Pledge::pledged, money::specs::Causes::first_of))]
 pub fn pledge(scalars: Scalars, held: &mut [u64], kind: u8, units: u64) -> Done
     requires { (length held.old ≡ held_length)
         × (securities_fit (vault_of scalars.guarantee (securities_of held.old)) ≡ true)

@@ -21,6 +21,7 @@ fn bad_term(term: u64) -> bool
     term > LONGEST_TERM
 }
 
+#[tactic(auto, using(crate::proofs::Column::column), unfolding(rules::specs::Post::post_causes, money::specs::Causes::first_of))]
 fn post_refusal(scalars: Scalars, product: u8, posting: Posting) -> u8
     ensures { (rows : Rows) → result ≡ number_of (first_of (post_causes (book_of scalars rows) product posting)) }
 {
@@ -46,6 +47,7 @@ fn post_refusal(scalars: Scalars, product: u8, posting: Posting) -> u8
     0
 }
 
+#[tactic(auto, using(crate::proofs::Refusing::no_rows, crate::proofs::Refusing::turned_down, crate::proofs::Refusing::done), unfolding(rules::specs::Post::post_causes, rules::specs::Post::posted, money::specs::Causes::first_of))]
 pub fn post(scalars: Scalars, held: &mut [u64], product: u8, posting: Posting) -> Done
     requires { length held.old ≡ held_length }
     ensures { (kinds units : List ℕ) →

@@ -14,6 +14,7 @@ use rules::limits::{AHEAD_LIMIT, PRODUCT_LIMIT};
 
 pub const LONGEST_TERM: u64 = AHEAD_LIMIT as u64;
 
+#[tactic(auto, unfolding(crate::specs::Flat::posting_in, money::specs::Causes::first_of))]
 pub fn posting_at(held: &[u64], number: usize) -> Posting
     requires { (number < product_limit) × (length held.now ≡ held_length) }
     ensures { result ≡ posting_in held.now number }
@@ -81,6 +82,7 @@ pub fn forget(held: &mut [u64])
     }
 }
 
+#[tactic(auto, using(crate::proofs::SumLaws::none_left))]
 fn posting_fit(posting: Posting) -> bool
     ensures { result ≡ posting_fit posting }
 {

@@ -10,6 +10,7 @@ use scalars::done;
 use scalars::done::Done;
 use scalars::state::Scalars;
 
+#[tactic(auto, using(crate::proofs::Column::column), unfolding(rules::specs::Rate::rate_causes, money::specs::Causes::first_of))]
 fn rate_refusal(kind: u8, rate: u64) -> u8
     ensures { result ≡ number_of (first_of (rate_causes kind rate)) }
 {
@@ -22,6 +23,7 @@ fn rate_refusal(kind: u8, rate: u64) -> u8
     0
 }
 
+#[tactic(auto, using(crate::proofs::Refusing::no_rows, crate::proofs::Refusing::turned_down, crate::proofs::Refusing::done), unfolding(rules::specs::Step::event_causes, rules::specs::Rate::rate_causes, rules::specs::Rate::rated, money::specs::Causes::first_of))]
 pub fn set_rate(scalars: Scalars, held: &mut [u64], kind: u8, rate: u64) -> Done
     requires { length held.old ≡ held_length }
     ensures { let cause = first_of (rate_causes kind rate) in

@@ -62,6 +62,7 @@ pub fn maturity_plan(table: &[u64], count: usize, today: u32, payment: u32) -> R
 }
 
 // "Every trade is redeemed whole at its fallback price."
+#[tactic(auto, using(rules::proofs::TradeLaws::sheets_of), unfolding(rules::specs::Trades::outstanding, money::specs::Causes::first_of))]
 pub fn termination_plan(table: &[u64], count: usize, payment: u32) -> Redeemed
     requires { Redeemable table.now count payment }
     ensures { result ≡ termination_of payment (trades_to table.now count) }

@@ -20,6 +20,7 @@ struct Turn {
 }
 
 // One event's bytes on a book, and the line of what it leaves.
+#[tactic(auto, using(rules::proofs::FitParts::fit_parts))]
 fn run_event(
     calendar: &[u32],
     bytes: &[u8],

@@ -13,6 +13,7 @@ use scalars::done;
 use scalars::done::Done;
 use scalars::state::Scalars;
 
+#[tactic(auto, using(crate::proofs::Column::column), unfolding(rules::specs::Size::size_causes, money::specs::Causes::first_of))]
 fn size_refusal(outstanding: Sheets, size: Sheets) -> u8
     ensures { (book : Book) (table : List Trade) →
         outstanding.0 ≡ outstanding_of book table → result ≡ number_of (first_of (size_causes book table size)) }
@@ -26,6 +27,7 @@ fn size_refusal(outstanding: Sheets, size: Sheets) -> u8
     0
 }
 
+#[tactic(auto, using(crate::proofs::Refusing::turned_down, crate::proofs::Refusing::done), unfolding(rules::specs::Step::event_causes, rules::specs::Size::sized, money::specs::Causes::first_of))]
 pub fn set_size(scalars: Scalars, outstanding: Sheets, size: Sheets) -> Done
     ensures { (rows : Rows) (table : List Trade) →
         let book = book_of scalars rows in

@@ -31,6 +31,7 @@ pub fn scalars_of(book: Book) -> Scalars
     }
 }
 
+#[tactic(auto, using(crate::proofs::RowLaws::none_filled))]
 fn fill_securities(vault: Vault, held: &mut [u64])
     requires { length held.old ≡ held_length }
     ensures { securities_of held.new ≡ vault.securities }
@@ -42,6 +43,7 @@ fn fill_securities(vault: Vault, held: &mut [u64])
     }
 }
 
+#[tactic(auto, using(crate::proofs::RowLaws::none_filled))]
 fn fill_postings(posted: [Posting; PRODUCT_LIMIT], held: &mut [u64])
     requires { length held.old ≡ held_length }
     ensures { (postings_of held.new ≡ posted) × (securities_of held.new ≡ securities_of held.old) }
@@ -74,6 +76,7 @@ pub fn units_of(withdrawals: Withdrawals) -> [u64; APPLICATION_LIMIT]
     withdrawals.units
 }
 
+#[tactic(auto, using(crate::proofs::RowLaws::none_filled))]
 fn securities_from(held: &[u64; HELD_LENGTH]) -> [Security; SECURITIES]
     ensures { result ≡ securities_of held.now }
 {
@@ -91,6 +94,7 @@ fn securities_from(held: &[u64; HELD_LENGTH]) -> [Security; SECURITIES]
     securities
 }
 
+#[tactic(auto, using(crate::proofs::RowLaws::none_filled))]
 fn postings_from(held: &[u64; HELD_LENGTH]) -> [Posting; PRODUCT_LIMIT]
     ensures { result ≡ postings_of held.now }
 {

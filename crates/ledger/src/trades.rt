@@ -29,6 +29,7 @@ const MANY_BUCKETS: usize = 32_749;
 const PRODUCTS: u64 = PRODUCT_LIMIT as u64;
 
 // O, the sheets left on the table.
+#[tactic(auto, using(rules::proofs::TradeLaws::sheets_of), unfolding(rules::specs::Trades::outstanding, money::specs::Causes::first_of))]
 pub fn outstanding_of(table: &[u64], count: usize) -> Sheets
     requires { Kept table.now count }
     ensures { result.0 ≡ outstanding (trades_to table.now count) }
@@ -44,6 +45,7 @@ pub fn outstanding_of(table: &[u64], count: usize) -> Sheets
 }
 
 // Where a contract's trade stands, or the count where it is not on the table.
+#[tactic(auto, using(crate::proofs::PlaceLaws::place_found))]
 pub fn place_of(table: &[u64], count: usize, contract: Contract) -> usize
     requires { HasSlots table.now count }
     ensures { result ≡ place_of contract (trades_to table.now count) }
@@ -95,6 +97,7 @@ fn numbers_differ(table: &[u64], count: usize, numbers: &mut [u64]) -> bool
     order::neighbours_differ(numbers)
 }
 
+#[tactic(auto, using(sort::proofs::SortLaws::room_for))]
 fn sorted_differ(table: &[u64], count: usize) -> bool
     requires { (HasSlots table.now count) × (count ≤ capacity_limit) }
     ensures { result ≡ differ (trades_to table.now count) }
@@ -150,6 +153,7 @@ pub fn contracts_differ(table: &[u64], count: usize) -> bool
     many_differ(table, count)
 }
 
+#[tactic(auto, unfolding(rules::specs::Folds::every, money::specs::Causes::first_of))]
 fn trade_fits(table: &[u64], place: usize) -> bool
     requires { HasSlot table.now place }
     ensures { result ≡ trade_fit (trade_at table.now place) }
@@ -186,6 +190,7 @@ pub struct Summary {
     pub latest: u32,
 }
 
+#[tactic(auto, using(rules::proofs::TradeLaws::sheets_of, crate::proofs::FlatLaws::all_none, crate::proofs::FlatLaws::all_more, crate::proofs::RedemptionLaws::within_of), unfolding(rules::specs::Trades::outstanding, money::specs::Causes::first_of))]
 pub fn summary_of(table: &[u64], count: usize) -> Summary
     requires { (HasSlots table.now count) × (count ≤ capacity_limit) }
     ensures { result ≡ summary_of (trades_to table.now count) }

@@ -15,6 +15,7 @@ use money::units::Sheets;
 use rules::book::{Cash, Guarantee, Security};
 use rules::limits::APPLICATION_LIMIT;
 
+#[tactic(auto, using(crate::proofs::SumLaws::none_left))]
 fn security_fit(security: Security) -> bool
     ensures { result ≡ security_fit security }
 {
@@ -84,6 +85,7 @@ fn application_fit(kind: u8, units: u64) -> bool
     true
 }
 
+#[tactic(auto, using(crate::proofs::VaultLaws::too_many, crate::proofs::VaultLaws::all_fit))]
 pub fn withdrawals_fit(kinds: &[u8], units: &[u64], count: usize) -> bool
     requires { (length kinds.now ≡ application_limit) × (length units.now ≡ application_limit) }
     ensures { result ≡ withdrawals_fit (record { kinds = kinds.entry.now; units = units.now; count = count }) }
@@ -111,6 +113,7 @@ pub fn worth(kind: u8, effective: u64, frozen: u64, rate: u64) -> Sheets
 }
 
 // V: the value of the 32 securities, and of the guarantee cash.
+#[tactic(auto, using(crate::proofs::SumLaws::sum_more, crate::proofs::VaultLaws::value_at), unfolding(rules::specs::Vault::value, money::specs::Causes::first_of))]
 pub fn value_of(held: &[u64], guarantee: Guarantee) -> Sheets
     requires { (length held.now ≡ held_length)
         × (securities_fit (vault_of guarantee (securities_of held.now)) ≡ true)
@@ -159,6 +162,7 @@ pub fn frozen_of(held: &[u64], guarantee: Guarantee, kind: u8) -> u64
 }
 
 // The units of a kind that stand applied for.
+#[tactic(auto, using(crate::proofs::SumLaws::sum_more, crate::proofs::VaultLaws::applied_at), unfolding(rules::specs::Withdraw::applied, money::specs::Causes::first_of))]
 pub fn applied_of(kinds: &[u8], units: &[u64], count: usize, kind: u8) -> u64
     requires { (length kinds.now ≡ application_limit)
         × (length units.now ≡ application_limit)

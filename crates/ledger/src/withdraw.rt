@@ -15,6 +15,7 @@ use scalars::{done, standing};
 
 // Whether the units, with those frozen and applied for, are above the effective. The units are tested first: any number may be applied for,
 // and the sum of the three is then below 2^64.
+#[tactic(auto, using(crate::proofs::VaultLaws::kind_fits))]
 fn lacks(scalars: Scalars, held: &[u64], kinds: &[u8], units: &[u64], kind: u8, count: u64) -> bool
     requires { (RowsFit scalars held.now kinds.now units.now) × (kind ≤ cash_kind) }
     ensures { let book = book_of scalars (rows_of held.now kinds.now units.now) in
@@ -29,6 +30,7 @@ fn lacks(scalars: Scalars, held: &[u64], kinds: &[u8], units: &[u64], kind: u8, 
     effective < count + frozen + vault::applied_of(kinds, units, scalars.applications, kind)
 }
 
+#[tactic(auto, using(crate::proofs::Column::column), unfolding(rules::specs::Withdraw::withdraw_causes, money::specs::Causes::first_of))]
 fn withdraw_refusal(
     scalars: Scalars,
     held: &[u64],
@@ -64,6 +66,7 @@ fn withdraw_refusal(
     0
 }
 
+#[tactic(auto, using(crate::proofs::Refusing::turned_down, crate::proofs::Refusing::done), unfolding(rules::specs::Step::event_causes, rules::specs::Withdraw::withdraw_causes, rules::specs::Withdraw::withdrawn, money::specs::Causes::first_of))]
 pub fn withdraw(
     scalars: Scalars,
     held: &[u64],

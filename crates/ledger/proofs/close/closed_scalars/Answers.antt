@@ -1,0 +1,10 @@
+use mathlib.Core.Path.{sym}
+use borrow.Author.Rules.{rules}
+use Rattle.rules.specs.Close.{is_short_close, closed_book}
+use Rattle.ledger.proofs.close.closed_scalars.Goals as goal
+
+pub returns : goal.returns
+unfolding closed_book is_short_close
+returns c =
+    λ calendar rows held trades table nets unpaid end valued left kept posted.
+    rw (c.closed_standing-next.ensures, c.short_at_close.ensures, c.is_short-is_short.ensures, c.with_unpaid-next.ensures, valued, nets, unpaid, sym end, left, kept, posted)

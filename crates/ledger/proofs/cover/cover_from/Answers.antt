@@ -1,0 +1,6 @@
+use borrow.Author.Rules.{rules}
+use Rattle.ledger.proofs.cover.cover_from.Goals as goal
+
+pub returns : goal.returns
+returns c =
+    rw c.headroom_from.ensures

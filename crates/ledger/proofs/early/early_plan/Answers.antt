@@ -1,0 +1,20 @@
+use native.Mathlib.Omega.{arith}
+use borrow.Author.Rules.{rules}
+use Rattle.ledger.specs.Flat.{book_of}
+use Rattle.ledger.proofs.RedemptionLaws.{begun-before}
+use Rattle.ledger.proofs.FitFacts.{fit-keeps, fit-redeemable}
+use Rattle.ledger.proofs.ContractLaws.{trade-here}
+use Rattle.ledger.proofs.early.early_plan.Goals as goal
+
+pub redeemed_for-requires : goal.redeemed_for-requires
+redeemed_for-requires c =
+    let redeemable = fit-redeemable c.args.calendar.now (book_of c.args.scalars c.requires.0.named.book.rows) c.args.table.now c.requires.0.named.book.fits c.requires.0.named.book.few in
+    let begun = begun-before _ _ _ redeemable _ c.requires.0.below in (
+      (omega (arith, redeemable.kept.room, c.requires.0.below), c.requires.1, c.requires.0.cheap),
+      rw c.payment_day-payment.ensures (begun, redeemable.term),
+    )
+
+pub returns : goal.returns
+returns c rows =
+    let own = trade-here _ _ _ _ (fit-keeps c.args.calendar.now (book_of c.args.scalars c.requires.0.named.book.rows) c.args.table.now c.requires.0.named.book.fits).room c.requires.0.named.stands c.requires.0.below in
+    rw (c.redeemed_for.ensures, c.payment_day-payment.ensures, own)

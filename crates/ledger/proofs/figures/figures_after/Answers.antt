@@ -1,0 +1,20 @@
+use mathlib.Core.Path.{sym}
+use borrow.Author.Rules.{rules}
+use Rattle.ledger.proofs.FigureLaws.{unmoved}
+use Rattle.ledger.proofs.figures.figures_after.Goals as goal
+
+pub returns-then-number-ne0 : goal.returns-then-number-ne0
+returns-then-number-ne0 c =
+    sym (unmoved c.args.entry _ _ _ c.requires.1 c.if-number-ne0.true)
+
+pub figures_moved-requires : goal.figures_moved-requires
+figures_moved-requires c =
+    (c.requires.0, (rw c.in-Known.is at c.requires.1).1 c.if-number-ne0.false)
+
+pub returns-in-Known : goal.returns-in-Known
+returns-in-Known c =
+    c.figures_moved.ensures
+
+pub returns-in-Undecodable : goal.returns-in-Undecodable
+returns-in-Undecodable c =
+    sym (rw c.in-Undecodable.is at c.requires.1)

@@ -1,0 +1,6 @@
+use borrow.Author.Rules.{rules}
+use Rattle.ledger.proofs.flat.move_trade.Goals as goal
+
+pub returns : goal.returns
+returns c =
+    rw (← c.trade_at-trade.ensures) c.put_trade.ensures.0

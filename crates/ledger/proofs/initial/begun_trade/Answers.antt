@@ -1,0 +1,7 @@
+use mathlib.Core.Path.{refl}
+use borrow.Author.Rules.{rules}
+use Rattle.ledger.proofs.initial.begun_trade.Goals as goal
+
+pub returns : goal.returns
+returns c rows =
+    rw c.payment_day.ensures refl

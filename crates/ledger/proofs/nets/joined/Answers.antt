@@ -1,0 +1,12 @@
+use native.Mathlib.Omega.{arith}
+use borrow.Author.Rules.{rules}
+use Rattle.ledger.proofs.NetLaws.{within-limit}
+use Rattle.ledger.proofs.nets.joined.Goals as goal
+
+pub plus-requires : goal.plus-requires
+plus-requires c =
+    (omega (arith, within-limit c.args.nets.cleared.0 c.requires.1), omega (arith, within-limit c.args.nets.today.0 c.requires.0))
+
+pub returns : goal.returns
+returns c =
+    rw c.plus.ensures

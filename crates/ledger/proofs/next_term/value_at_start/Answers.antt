@@ -1,0 +1,17 @@
+use native.Mathlib.Omega.{arith}
+use borrow.Author.Rules.{rules}
+use Rattle.rules.proofs.FitParts.{cash-fits}
+use Rattle.ledger.proofs.next_term.value_at_start.Goals as goal
+
+pub value_of-requires : goal.value_of-requires
+value_of-requires c =
+    let cash = cash-fits _ _ c.requires.2 in
+    (c.requires.0, c.requires.1, cash.free, omega (arith, cash.sum))
+
+pub returns-in-Counted : goal.returns-in-Counted
+returns-in-Counted c =
+    rw c.in-Counted.is at c.requires.3
+
+pub returns-in-NotCounted : goal.returns-in-NotCounted
+returns-in-NotCounted c =
+    c.value_of.ensures

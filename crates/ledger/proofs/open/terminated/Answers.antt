@@ -1,0 +1,72 @@
+use Rattle.std.specs.Prelude.{◌≡◌, pos, ◌+ℤ◌}
+use mathlib.Core.Path.{sym, ap, ◌∙◌}
+use borrow.Author.Rules.{rules}
+use borrow.Author.Tests.{not-true, not-false, le-leb}
+use Rattle.money.specs.declared.units.Fen.{Fen}
+use Rattle.money.specs.Units.{signed_fen}
+use Rattle.rules.specs.Unpaid.{passes, cleared_plus}
+use Rattle.rules.specs.Fit.{net_fit}
+use Rattle.rules.specs.Open.{fallback_sum, net_with_fallbacks, opened_table}
+use Rattle.rules.proofs.FitParts.{fit_parts}
+use Rattle.scalars.specs.Scalars.{with_unpaid, unless_past}
+use Rattle.scalars.proofs.UnpaidLaws.{not-past}
+use Rattle.ledger.specs.Types.{Book, Nets, Unpaid}
+use Rattle.ledger.specs.Flat.{Rows, book_of, trades_of}
+use Rattle.ledger.proofs.Refusing.{carried-out}
+use Rattle.ledger.proofs.FitFacts.{fit-in-use, fit-keeps}
+use Rattle.ledger.proofs.RedemptionLaws.{all-due}
+use Rattle.ledger.proofs.OpenLaws.{terminated-book, net-past, unpaid-past, none-within-limits}
+use Rattle.std.specs.Prelude.{not}
+use Rattle.ledger.proofs.open.terminated.Goals as goal
+
+pub cleared_plus-with_fallbacks-requires : goal.cleared_plus-with_fallbacks-requires
+cleared_plus-with_fallbacks-requires c =
+    let f = fit_parts c.args.calendar.now (book_of c.args.scalars c.requires.opening.book.rows) (trades_of c.args.table.now) c.requires.opening.book.fits in
+    (le-leb _ _ f.nets.cleared, c.fallback_sum-amount.ensures.1)
+
+pub returns-then-not-cleared_fit : goal.returns-then-not-cleared_fit
+returns-then-not-cleared_fit c rows =
+    let with_rows : Rows → Book = λ rows. book_of c.args.scalars rows in
+    let net-tested : (rows : Rows) → (net_fit (net_with_fallbacks c.args.calendar.now (with_rows rows) (trades_of c.args.table.now)) ≡ c.cleared_fit.result) = λ rows. sym
+    (c.cleared_fit.ensures
+    ∙ ap (λ (nets : Nets). net_fit nets.cleared.0) c.cleared_plus-with_fallbacks.ensures
+    ∙ ap (λ (amount : Fen). net_fit (c.args.scalars.nets.cleared.0 +ℤ pos amount.0)) (c.fallback_sum-amount.ensures.0 rows)) in
+    let e = net-past c.args.calendar.now (with_rows rows) (trades_of c.args.table.now) c.requires.closed c.requires.opening.follows c.requires.ended (net-tested rows ∙ not-true _ (ap not c.if-not-cleared_fit.true)) in
+    (rw (c.answered.ensures, e), rw e)
+
+pub returns-then-passes : goal.returns-then-passes
+returns-then-passes c rows =
+    let with_rows : Rows → Book = λ rows. book_of c.args.scalars rows in
+    let unpaid-tested : (rows : Rows)
+    → (passes (fallback_sum c.args.calendar.now (with_rows rows) (trades_of c.args.table.now)) c.args.scalars.sums.unpaid ≡ c.passes.result) = λ rows. sym (c.passes.ensures ∙ ap (λ (amount : Fen). passes amount.0 c.args.scalars.sums.unpaid) (c.fallback_sum-amount.ensures.0 rows)) in
+    let e = unpaid-past c.args.calendar.now (with_rows rows) (trades_of c.args.table.now) c.requires.closed c.requires.opening.follows c.requires.ended (unpaid-tested rows ∙ c.if-passes.true) in
+    (rw (c.answered-then-passes.ensures, e), rw e)
+
+pub redeem_due-requires : goal.redeem_due-requires
+redeem_due-requires c =
+    (fit-keeps c.args.calendar.now (book_of c.args.scalars c.requires.opening.book.rows) c.args.table.now c.requires.opening.book.fits).room
+
+pub returns : goal.returns
+unfolding opened_table
+returns c rows =
+    let with_rows : Rows → Book = λ rows. book_of c.args.scalars rows in
+    let net-tested : (rows : Rows) → (net_fit (net_with_fallbacks c.args.calendar.now (with_rows rows) (trades_of c.args.table.now)) ≡ c.cleared_fit.result) = λ rows. sym
+    (c.cleared_fit.ensures
+    ∙ ap (λ (nets : Nets). net_fit nets.cleared.0) c.cleared_plus-with_fallbacks.ensures
+    ∙ ap (λ (amount : Fen). net_fit (c.args.scalars.nets.cleared.0 +ℤ pos amount.0)) (c.fallback_sum-amount.ensures.0 rows)) in
+    let unpaid-tested : (rows : Rows)
+    → (passes (fallback_sum c.args.calendar.now (with_rows rows) (trades_of c.args.table.now)) c.args.scalars.sums.unpaid ≡ c.passes.result) = λ rows. sym (c.passes.ensures ∙ ap (λ (amount : Fen). passes amount.0 c.args.scalars.sums.unpaid) (c.fallback_sum-amount.ensures.0 rows)) in
+    let calendar = c.args.calendar.now in
+    let table = c.args.table.now in
+    let ended = c.requires.ended in
+    let net = net-tested rows ∙ not-false _ (ap not c.if-not-cleared_fit.false) in
+    let within = unpaid-tested rows ∙ c.if-passes.false in
+    let e = none-within-limits calendar (with_rows rows) (trades_of table) c.requires.closed c.requires.opening.follows ended net within in
+    let nets = c.args.scalars.nets in
+    let unpaid = c.args.scalars.sums.unpaid in
+    let cleared = c.cleared_plus-with_fallbacks.ensures ∙ ap (λ (amount : Fen). record { today = nets.today; cleared = signed_fen (nets.cleared.0 +ℤ pos amount.0) }) (c.fallback_sum-amount.ensures.0 rows) in
+    let owed = c.cleared_plus-with_fallbacks.ensures ∙ ap (λ (amount : Fen). unless_past amount.0 unpaid (cleared_plus amount.0 unpaid)) (c.fallback_sum-amount.ensures.0 rows) ∙ not-past unpaid _ _ within in
+    let owing = c.with_unpaid-next.ensures ∙ ap (λ (unpaid : Unpaid). with_unpaid unpaid c.args.scalars) owed in (
+      carried-out _ _ rows _ _ e c.answered-2.ensures (terminated-book calendar c.args.scalars c.with_unpaid-next.result rows (trades_of table) c.cleared_plus-with_fallbacks.result c.args.after ended c.requires.opening.opened cleared owing),
+      c.redeem_due.ensures ∙ rw (e, ended, fit-in-use calendar (book_of c.args.scalars c.requires.opening.book.rows) table c.requires.opening.book.fits, all-due table c.args.scalars.trades),
+    )

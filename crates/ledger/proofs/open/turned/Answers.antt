@@ -1,0 +1,48 @@
+use Rattle.std.specs.Prelude.{◌≡◌, Bool, true}
+use mathlib.Core.Path.{sym, ap, ◌∙◌}
+use borrow.Author.Rules.{rules}
+use borrow.Author.Tests.{not-true, not-false}
+use Rattle.rules.specs.Book.{is_closed}
+use Rattle.rules.specs.Days.{following, followed}
+use Rattle.rules.specs.Open.{opened_table}
+use Rattle.ledger.specs.Types.{Standing}
+use Rattle.ledger.specs.Flat.{book_of, trades_of}
+use Rattle.ledger.proofs.OpenLaws.{not-closed, no-day-to-open, none-unless-ended}
+use Rattle.std.specs.Prelude.{not}
+use Rattle.ledger.proofs.open.turned.Goals as goal
+
+-- past the first two tests
+
+pub returns-then-not-is_closed : goal.returns-then-not-is_closed
+returns-then-not-is_closed c rows =
+    let e = not-closed c.args.calendar.now (book_of c.args.scalars rows) (trades_of c.args.table.now) (sym c.is_closed.ensures ∙ not-true _ (ap not c.if-not-is_closed.true)) in
+    (rw (c.answered.ensures, e), rw e)
+
+pub returns-then-not-opens : goal.returns-then-not-opens
+returns-then-not-opens c rows =
+    let closed : is_closed c.args.scalars.standing.phase ≡ true = sym c.is_closed.ensures ∙ not-false _ (ap not c.if-not-is_closed.false) in
+    let e = no-day-to-open c.args.calendar.now (book_of c.args.scalars rows) (trades_of c.args.table.now) closed (sym c.opens.ensures ∙ not-true _ (ap not c.if-not-opens.true)) in
+    (rw (c.answered-then-not-opens.ensures, e), rw e)
+
+pub turns_terminated-requires : goal.turns_terminated-requires
+turns_terminated-requires c =
+    ap (λ (standing : Standing). standing.status) c.opened_standing-after.ensures
+
+pub terminated-requires : goal.terminated-requires
+terminated-requires c =
+    let closed : is_closed c.args.scalars.standing.phase ≡ true = sym c.is_closed.ensures ∙ not-false _ (ap not c.if-not-is_closed.false) in
+    let follows : (followed c.args.calendar.now (following c.args.calendar.now c.args.scalars.standing.day)) ≡ true = sym c.opens.ensures ∙ not-false _ (ap not c.if-not-opens.false) in
+    record {
+      opening = record { book = c.requires; follows = follows; opened = c.opened_standing-after.ensures };
+      closed = closed;
+      ended = sym c.turns_terminated.ensures ∙ c.if-turns_terminated.true;
+    }
+
+pub returns : goal.returns
+unfolding opened_table
+returns c rows =
+    let closed : is_closed c.args.scalars.standing.phase ≡ true = sym c.is_closed.ensures ∙ not-false _ (ap not c.if-not-is_closed.false) in
+    let follows : (followed c.args.calendar.now (following c.args.calendar.now c.args.scalars.standing.day)) ≡ true = sym c.opens.ensures ∙ not-false _ (ap not c.if-not-opens.false) in
+    let stays = sym c.turns_terminated.ensures ∙ c.if-turns_terminated.false in
+    let e = none-unless-ended c.args.calendar.now (book_of c.args.scalars rows) (trades_of c.args.table.now) closed follows stays in
+    (rw (c.answered-2.ensures, e, c.opened_standing-after.ensures, stays), rw (e, stays))

@@ -1,0 +1,6 @@
+use borrow.Author.Rules.{rules}
+use Rattle.ledger.proofs.pay.falls_short.Goals as goal
+
+pub returns : goal.returns
+returns c =
+    rw (c.net_due-due.ensures, c.payer_holds-held.ensures)

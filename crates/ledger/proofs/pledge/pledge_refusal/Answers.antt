@@ -1,0 +1,60 @@
+use Rattle.std.specs.Prelude.{◌+◌, ◌<◌, ◌≤◌}
+use native.Mathlib.Omega.{arith}
+use borrow.Author.Rules.{rules}
+use Rattle.money.specs.Limits.{unit_limit}
+use Rattle.rules.specs.Vault.{security_at}
+use Rattle.rules.specs.Pledge.{pledge_causes}
+use Rattle.ledger.specs.Flat.{securities_of, vault_of}
+use Rattle.ledger.proofs.Column.{column}
+use Rattle.ledger.proofs.HeldLaws.{security-at-row}
+use Rattle.ledger.proofs.HeldFit.{row_fits}
+use Rattle.ledger.proofs.pledge.pledge_refusal.Goals as goal
+
+pub returns-then-kind-gt-CASH_KIND : goal.returns-then-kind-gt-CASH_KIND
+unfolding pledge_causes
+returns-then-kind-gt-CASH_KIND c kinds amounts =
+    search column
+
+pub returns-then-not-is_trading : goal.returns-then-not-is_trading
+unfolding pledge_causes
+returns-then-not-is_trading c kinds amounts =
+    search column
+
+pub returns-then-units-eq0 : goal.returns-then-units-eq0
+unfolding pledge_causes
+returns-then-units-eq0 c kinds amounts =
+    search column
+
+pub returns-then-scalars-units : goal.returns-then-scalars-units
+unfolding pledge_causes
+returns-then-scalars-units c kinds amounts =
+    search column depth 20
+
+pub returns-then-kind-eq-CASH_KIND : goal.returns-then-kind-eq-CASH_KIND
+unfolding pledge_causes
+returns-then-kind-eq-CASH_KIND c kinds amounts =
+    search column depth 20
+
+pub returns-then-units_of-units : goal.returns-then-units_of-units
+unfolding pledge_causes
+returns-then-units_of-units c kinds amounts =
+    let within : c.units_of.result ≤ unit_limit = let known : c.args.kind < 32 = omega arith in
+    omega (arith, c.units_of.ensures, (row_fits c.args.held.now c.args.scalars.guarantee c.requires.1 c.args.kind known).units) in
+    let a = c.args in
+    let known : a.kind < 32 = omega arith in
+    let row = security-at-row a.held.now a.scalars.guarantee a.kind known in
+    let security = security_at (vault_of a.scalars.guarantee (securities_of a.held.now)) a.kind in
+    let over : unit_limit < security.effective + security.arriving + a.units = rw row (omega (arith, within, c.units_of.ensures)) in
+    search column depth 20
+
+pub returns : goal.returns
+unfolding pledge_causes
+returns c kinds amounts =
+    let within : c.units_of.result ≤ unit_limit = let known : c.args.kind < 32 = omega arith in
+    omega (arith, c.units_of.ensures, (row_fits c.args.held.now c.args.scalars.guarantee c.requires.1 c.args.kind known).units) in
+    let a = c.args in
+    let known : a.kind < 32 = omega arith in
+    let row = security-at-row a.held.now a.scalars.guarantee a.kind known in
+    let security = security_at (vault_of a.scalars.guarantee (securities_of a.held.now)) a.kind in
+    let room : security.effective + security.arriving + a.units ≤ unit_limit = rw row (omega (arith, within, c.units_of.ensures)) in
+    search column depth 20

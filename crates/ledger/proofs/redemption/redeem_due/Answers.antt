@@ -1,0 +1,25 @@
+use Rattle.std.specs.Prelude.{◌≡◌, ◌-◌, ◌≤◌, map, length}
+use mathlib.Core.Path.{refl, ◌∙◌}
+use native.Mathlib.Omega.{arith}
+use borrow.Author.Rules.{rules}
+use Rattle.rules.specs.Trades.{matured, over}
+use Rattle.ledger.specs.Flat.{trades_to, trades_of}
+use Rattle.ledger.proofs.RedemptionLaws.{none-changed, map-one-more}
+use Rattle.ledger.proofs.redemption.redeem_due.Goals as goal
+
+pub loop-i-init : goal.loop-i-init
+loop-i-init c =
+    (search rules, refl, none-changed _ _)
+
+pub redeem_one-requires : goal.redeem_one-requires
+redeem_one-requires c =
+    omega (arith, c.requires)
+
+pub loop-i-preserved : goal.loop-i-preserved
+loop-i-preserved c =
+    let loop = c.loop-i in
+    (search rules, c.redeem_one.auto.0 ∙ loop.inv.1, map-one-more (matured c.args.by) _ _ _ _ (omega (arith, c.requires)) loop.inv.1 loop.inv.2 c.redeem_one.ensures)
+
+pub returns : goal.returns
+returns c =
+    let e : c.loop-i.i ≡ c.args.count = omega arith in rw e at c.loop-i.invariant.2

@@ -1,0 +1,6 @@
+use borrow.Author.Rules.{rules}
+use Rattle.ledger.proofs.split.book_of.Goals as goal
+
+pub returns : goal.returns
+returns c =
+    rw (c.securities_from.ensures, c.postings_from.ensures)

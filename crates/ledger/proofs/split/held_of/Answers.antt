@@ -1,0 +1,7 @@
+use mathlib.Core.Path.{◌∙◌}
+use borrow.Author.Rules.{rules}
+use Rattle.ledger.proofs.split.held_of.Goals as goal
+
+pub returns : goal.returns
+returns c =
+    (c.fill_postings.ensures.1 ∙ c.fill_securities.ensures, c.fill_postings.ensures.0)

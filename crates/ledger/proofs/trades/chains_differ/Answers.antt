@@ -1,0 +1,11 @@
+use mathlib.Core.Path.{sym}
+use borrow.Author.Rules.{rules}
+use Rattle.ledger.proofs.trades.chains_differ.Goals as goal
+
+pub returns-in-Differs : goal.returns-in-Differs
+returns-in-Differs c =
+    sym (rw c.in-Differs.is at c.linked_differ.ensures)
+
+pub returns-in-Repeats : goal.returns-in-Repeats
+returns-in-Repeats c =
+    sym (rw c.in-Repeats.is at c.linked_differ.ensures)

@@ -1,0 +1,11 @@
+use mathlib.Core.Path.{ap, ◌∙◌}
+use borrow.Author.Rules.{rules}
+use Rattle.money.proofs.Answers.{worth-within}
+use Rattle.money.specs.declared.collateral.Worth.{Worth}
+use Rattle.ledger.proofs.vault.worth.Goals as goal
+
+pub returns : goal.returns
+returns c =
+    let p = c.requires in
+    let a = c.args in
+    ap (λ (w : Worth). w.sheets) c.kind_worth-worth.ensures ∙ worth-within a.kind a.effective a.frozen a.rate p.0 p.1 p.2 p.3

@@ -1,0 +1,27 @@
+use mathlib.Core.Path.{sym}
+use Rattle.std.specs.Prelude.{ℕ, ◌+◌, ◌≤◌, cond}
+use native.Mathlib.Omega.{arith}
+use borrow.Author.Rules.{rules}
+use borrow.Author.Tests.{lt-ltb}
+use Rattle.money.specs.Limits.{unit_limit, cash_limit}
+use Rattle.money.specs.Collateral.{unit_limit_of}
+use Rattle.rules.specs.Vault.{is_cash, effective_of, frozen_of}
+use Rattle.rules.specs.Withdraw.{applied}
+use Rattle.rules.proofs.FoldLaws.{by-test}
+use Rattle.rules.proofs.FitParts.{cash-fits}
+use Rattle.ledger.specs.Flat.{securities_of, vault_of, rows_of, book_of}
+use Rattle.ledger.proofs.VaultLaws.{Sound, kind_fits, applied-bound}
+use Rattle.ledger.proofs.withdraw.lacks.Goals as goal
+
+limit-within : (kind : ℕ) → unit_limit_of kind ≤ cash_limit
+limit-within kind = by-test (λ cash. cond cash cash_limit unit_limit ≤ cash_limit) (is_cash kind) (λ _. omega arith) (λ _. omega arith)
+
+pub returns-then-effective-count : goal.returns-then-effective-count
+returns-then-effective-count c =
+    let a = c.args in
+    let book = book_of a.scalars (rows_of a.held.now a.kinds.now a.units.now) in
+    sym (lt-ltb (effective_of book.vault a.kind) (a.count + frozen_of book.vault a.kind + applied book.withdrawals a.kind) (omega (arith, c.effective_of-effective.ensures, c.if-effective-count.true)))
+
+pub returns : goal.returns
+returns c =
+    rw (c.applied_of.ensures, c.frozen_of-frozen.ensures, c.effective_of-effective.ensures)
