@@ -20,6 +20,7 @@ use Rattle.rules.proofs.EveningFit.{gone}
 use Rattle.rules.proofs.FitParts.{SecurityFits, SecuritiesFit, fit-securities}
 use Rattle.ledger.specs.Types.{Security, Guarantee, Vault, Withdrawals}
 use Rattle.ledger.specs.Figures.{value_bound}
+use Rattle.ledger.specs.Flat.{vault_of, securities_of}
 use Rattle.ledger.proofs.VaultLaws.{Sound, kind_fits, value-at-part, value-bound-of, value-changed}
 
 -- ---- a list of which the first places are mapped
@@ -202,3 +203,15 @@ module _ (served : Bool) (claims : ℕ) (withdrawals : Withdrawals) where
     turns-count zero = omega arith
     turns-count (suc n) =
         omega (arith, turns-count n, settled-counts served claims (get_or withdrawals.kinds n 0) (get_or withdrawals.units n 0) (in_turn n turn evening))
+
+-- ---- the evening that lent rows and the code's numbers make up
+
+-- the vault and the applications of lent rows
+abbrev pub vault_from : List ℕ → Guarantee → Vault
+vault_from held guarantee = vault_of guarantee (securities_of held)
+
+abbrev pub asked : List ℕ → List ℕ → ℕ → Withdrawals
+asked kinds units count = record { kinds = kinds; units = units; count = count }
+
+abbrev pub made : ℕ → Vault → ℕ → ℕ → Evening
+made own vault done dropped = record { own = fen own; vault = vault; done = done; dropped = dropped }

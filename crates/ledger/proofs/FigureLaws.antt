@@ -7,7 +7,7 @@ use mathlib.Core.Option.{Option, none, some}
 use borrow.Author.Tests.{ltb-false, leb-false, not-false}
 use Rattle.money.specs.declared.units.Sheets.{Sheets}
 use Rattle.money.specs.declared.units.Ticks.{Ticks}
-use Rattle.money.specs.Units.{sheets, signed_sheets}
+use Rattle.money.specs.Units.{signed_sheets}
 use Rattle.money.specs.Causes.{first_of}
 use Rattle.money.specs.Days.{Calendar}
 use Rattle.rules.specs.Trades.{in_use, outstanding, take_off}

@@ -1,14 +1,14 @@
 -- The securities in their row, four numbers each: which security stands where, what storing one changes, and whether all are fit.
 -- For the functions over the row, and those above them. Assumes nothing.
-use Rattle.std.specs.Prelude.{◌≡◌, ℕ, zero, suc, ◌+◌, ◌*◌, ◌<◌, ◌≤◌, true, false, ◌⊎◌, List, [], ◌∷◌, ◌++◌, length, get_or, set}
-use mathlib.Core.Path.{refl, sym, ap, ◌∙◌}
+use Rattle.std.specs.Prelude.{◌≡◌, ℕ, suc, ◌+◌, ◌*◌, ◌<◌, ◌≤◌, true, false, ◌⊎◌, List, [], ◌∷◌, length, get_or, set}
+use mathlib.Core.Path.{sym, ap, ◌∙◌}
 use mathlib.Core.Logic.{inl, inr}
 use native.Mathlib.Numerals.{add-one}
 use native.Mathlib.Nat.{add-zero}
 use native.Mathlib.Omega.{arith}
 use native.Mathlib.Decide.{dec_lt, ℕ_discrete}
-use lib.ListN.{length-append, length-set, get_or-append}
-use lib.Seq.{sets, get_or_at, get_or-set_same, get_or-set_other, ext_get_or}
+use lib.ListN.{length-set}
+use lib.Seq.{sets, get_or-set_same, get_or-set_other, ext_get_or}
 use Rattle.rules.specs.Book.{no_security}
 use Rattle.rules.specs.Vault.{security_at}
 use Rattle.rules.specs.Fit.{security_fit, securities_fit}

@@ -1,6 +1,6 @@
 -- What is posted, in the row behind the securities, two numbers a product: which posting stands where, what storing one changes, and
 -- whether all are fit. For the functions of postings.rt, and those above them. Assumes nothing.
-use Rattle.std.specs.Prelude.{◌≡◌, ℕ, zero, suc, ◌+◌, ◌-◌, ◌*◌, ◌<◌, ◌≤◌, true, false, List, length, get_or, set, replicate}
+use Rattle.std.specs.Prelude.{◌≡◌, ℕ, zero, suc, ◌+◌, ◌-◌, ◌*◌, ◌<◌, ◌≤◌, true, false, List, length, get_or, set}
 use mathlib.Core.Path.{refl, sym, ap, ◌∙◌}
 use native.Mathlib.Omega.{arith}
 use native.Mathlib.Decide.{ℕ_discrete}
@@ -11,7 +11,7 @@ use Rattle.rules.specs.Book.{no_posting, no_postings, posting_at as posted_for}
 use Rattle.rules.specs.Fit.{posting_fit, postings_fit}
 use Rattle.rules.proofs.FoldLaws.{all_of}
 use Rattle.ledger.specs.Types.{Posting}
-use Rattle.ledger.specs.Flat.{lower, upper, posting_width, postings_from, posting_in, up_to, postings_of}
+use Rattle.ledger.specs.Flat.{posting_width, postings_from, posting_in, postings_of}
 use Rattle.ledger.proofs.SumLaws.{one-fails}
 use Rattle.ledger.proofs.UpToLaws.{length-up-to, up-to-below, same-up-to}
 use Rattle.ledger.proofs.StoreLaws.{pair, lower-pair, upper-pair}

@@ -1,14 +1,13 @@
 -- Next terms over the flat table: which start by the code's tests, the record that starts, and what a plan and a writing pass make of one trade
 -- more. For the functions of next_term.rt, and for Close. Assumes nothing.
-use Rattle.std.specs.Prelude.{◌≡◌, ℕ, zero, suc, ◌+◌, ◌*◌, ◌<◌, ◌≤◌, Bool, true, false, cond, not, eqb, List, [], ◌∷◌, map, length, drop, set, pos}
+use Rattle.std.specs.Prelude.{◌≡◌, ℕ, zero, suc, ◌+◌, ◌<◌, ◌≤◌, Bool, true, false, cond, not, eqb, List, [], ◌∷◌, map, length, drop, set, pos}
 use mathlib.Core.Path.{refl, sym, ap, ◌∙◌}
 use native.Mathlib.Omega.{arith}
-use borrow.Author.Tests.{leb-true, eq-eqb, ne_eqb, lt-leb, le-ltb}
+use borrow.Author.Tests.{eq-eqb, ne_eqb, lt-leb, le-ltb}
 use lib.Seq.{drop_at}
 use lib.Signed.{lt_z}
 use Rattle.money.specs.declared.units.Sheets.{Sheets}
 use Rattle.money.specs.Units.{sheets}
-use Rattle.money.specs.Limits.{trade_limit}
 use Rattle.money.specs.Days.{Calendar, at_or_after}
 use Rattle.money.proofs.TwoTests.{both}
 use Rattle.rules.specs.Folds.{every}

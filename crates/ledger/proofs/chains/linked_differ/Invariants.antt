@@ -1,13 +1,5 @@
-use Rattle.std.proofs.Common.{◌-◌, ◌≡◌, ◌<◌, ◌≤◌, length, replicate, ℕ, ◌+◌, ◌*◌}
-use Rattle.rules.specs.Limits.{capacity_limit}
-use Rattle.ledger.specs.Flat.{HasSlots}
-use Rattle.ledger.specs.Chains.{most_buckets, bucket_of, Falls, Shows, ShowsAll}
-use Rattle.std.specs.Prelude.{get_or}
-use mathlib.Core.Path.{◌∙◌, subst}
-use lib.ListN.{length-set}
-use Rattle.ledger.specs.Types.{Contract}
-use Rattle.ledger.specs.Flat.{trade_at}
-use Rattle.ledger.proofs.ChainLaws.{Linked, none-linked, inside, repeated, next-linked}
+use Rattle.std.proofs.Common.{◌-◌, ◌≡◌, length}
+use Rattle.ledger.proofs.ChainLaws.{Linked}
 use Rattle.ledger.proofs.chains.linked_differ.Given as goal
 
 abbrev pub invariant-loop-i : goal.invariant-loop-i

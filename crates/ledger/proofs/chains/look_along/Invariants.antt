@@ -1,12 +1,5 @@
-use Rattle.std.proofs.Common.{◌≡◌, ◌<◌, ◌≤◌, length, replicate, ℕ, ◌+◌, ◌-◌, ◌*◌}
-use Rattle.rules.specs.Limits.{capacity_limit}
-use Rattle.ledger.specs.Flat.{HasSlots}
-use Rattle.ledger.specs.Chains.{most_buckets, bucket_of, Falls, Shows, ShowsAll}
-use Rattle.std.specs.Prelude.{suc}
-use mathlib.Core.Path.{sym, ◌∙◌}
-use Rattle.rules.specs.Trades.{same}
-use Rattle.ledger.specs.Flat.{trade_at}
-use Rattle.ledger.proofs.ChainLaws.{Ahead, ahead-first, ahead-next, ahead_none}
+use Rattle.std.proofs.Common.{◌≤◌, ◌-◌}
+use Rattle.ledger.proofs.ChainLaws.{Ahead}
 use Rattle.ledger.proofs.chains.look_along.Given as goal
 
 abbrev pub invariant-loop-link : goal.invariant-loop-link

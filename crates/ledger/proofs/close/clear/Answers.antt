@@ -1,10 +1,10 @@
-use Rattle.std.specs.Prelude.{◌≡◌, ℕ, ◌-◌, ◌≤◌, length, get_or}
+use Rattle.std.specs.Prelude.{◌≡◌, ℕ, get_or}
 use mathlib.Core.Path.{refl, sym, ◌∙◌}
 use native.Mathlib.Omega.{arith}
 use borrow.Author.Rules.{rules}
 use lib.ListN.{length-set, length-replicate, get_or-replicate}
 use Rattle.rules.specs.Book.{no_applications}
-use Rattle.ledger.proofs.RowLaws.{Filled, none_filled, one-filled, all-filled}
+use Rattle.ledger.proofs.RowLaws.{none_filled, one-filled, all-filled}
 use Rattle.ledger.proofs.close.clear.Goals as goal
 
 pub loop-i-init : goal.loop-i-init

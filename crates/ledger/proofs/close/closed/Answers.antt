@@ -1,10 +1,8 @@
-use Rattle.std.specs.Prelude.{◌≡◌, ℕ, List, length}
+use Rattle.std.specs.Prelude.{◌≡◌, length}
 use mathlib.Core.Path.{ap, ◌∙◌}
 use native.Mathlib.Omega.{arith}
-use borrow.Author.Rules.{rules}
 use Rattle.rules.specs.Trades.{remaining}
 use Rattle.rules.specs.Close.{left_trades, unpaid_at_close, claims_at_close, evening}
-use Rattle.ledger.specs.Types.{Book, Trade}
 use Rattle.ledger.specs.Flat.{trades_to, trades_of, securities_of, rows_of, book_of, evening_at}
 use Rattle.ledger.specs.NextTerm.{Planned}
 use Rattle.ledger.proofs.CloseLaws.{trades-left, packed-left, claims-joined, rows-cleared, close-done}
@@ -12,7 +10,7 @@ use Rattle.ledger.proofs.close.closed.Goals as goal
 
 pub pack-kept-requires : goal.pack-kept-requires
 pack-kept-requires c =
-    omega (arith, c.requires.2.room, c.settle.auto.held.1.0)
+    omega (arith, c.requires.2.room, c.settle.auto.table)
 
 pub clear-requires : goal.clear-requires
 clear-requires c =
@@ -20,9 +18,9 @@ clear-requires c =
 
 pub returns : goal.returns
 returns c plan nets unpaid =
-    let in-slots : (Planned c.args.calendar.now (book_of c.args.scalars (rows_of c.args.held.now c.args.kinds.now c.args.units.now)) c.args.held.now (trades_of c.args.table.now) c.args.plan) → trades_to c.settle.new.1.1.0 c.args.scalars.trades ≡ (left_trades c.args.calendar.now (book_of c.args.scalars (rows_of c.args.held.now c.args.kinds.now c.args.units.now)) (trades_of c.args.table.now)) = λ plan. trades-left c.args.calendar.now (book_of c.args.scalars (rows_of c.args.held.now c.args.kinds.now c.args.units.now)) c.args.table.now c.settle.new.1.1.0 c.args.plan.outstanding.0 plan.outstanding c.requires.2 c.settle.auto.1.1.0 (c.settle.ensures (book_of c.args.scalars (rows_of c.args.held.now c.args.kinds.now c.args.units.now)) plan.met) in
+    let in-slots : (Planned c.args.calendar.now (book_of c.args.scalars (rows_of c.args.held.now c.args.kinds.now c.args.units.now)) c.args.held.now (trades_of c.args.table.now) c.args.plan) → trades_to c.settle.new.table c.args.scalars.trades ≡ (left_trades c.args.calendar.now (book_of c.args.scalars (rows_of c.args.held.now c.args.kinds.now c.args.units.now)) (trades_of c.args.table.now)) = λ plan. trades-left c.args.calendar.now (book_of c.args.scalars (rows_of c.args.held.now c.args.kinds.now c.args.units.now)) c.args.table.now c.settle.new.table c.args.plan.outstanding.0 plan.outstanding c.requires.2 c.settle.auto.table (c.settle.ensures (book_of c.args.scalars (rows_of c.args.held.now c.args.kinds.now c.args.units.now)) plan.met) in
     let evening-over : (Planned c.args.calendar.now (book_of c.args.scalars (rows_of c.args.held.now c.args.kinds.now c.args.units.now)) c.args.held.now (trades_of c.args.table.now) c.args.plan) → c.args.unpaid ≡ unpaid_at_close c.args.calendar.now (book_of c.args.scalars (rows_of c.args.held.now c.args.kinds.now c.args.units.now)) (trades_of c.args.table.now)
-    → evening_at c.evening_end-ended.result (securities_of c.evening_end-ended.new.1.0) ≡ evening (book_of c.args.scalars (rows_of c.args.held.now c.args.kinds.now c.args.units.now)) (claims_at_close c.args.calendar.now (book_of c.args.scalars (rows_of c.args.held.now c.args.kinds.now c.args.units.now)) (left_trades c.args.calendar.now (book_of c.args.scalars (rows_of c.args.held.now c.args.kinds.now c.args.units.now)) (trades_of c.args.table.now)) (trades_of c.args.table.now)) = λ plan unpaid. c.evening_end-ended.ensures.0
+    → evening_at c.evening_end-ended.result (securities_of c.evening_end-ended.new.held) ≡ evening (book_of c.args.scalars (rows_of c.args.held.now c.args.kinds.now c.args.units.now)) (claims_at_close c.args.calendar.now (book_of c.args.scalars (rows_of c.args.held.now c.args.kinds.now c.args.units.now)) (left_trades c.args.calendar.now (book_of c.args.scalars (rows_of c.args.held.now c.args.kinds.now c.args.units.now)) (trades_of c.args.table.now)) (trades_of c.args.table.now)) = λ plan unpaid. c.evening_end-ended.ensures.0
     ∙ ap (evening (book_of c.args.scalars (rows_of c.args.held.now c.args.kinds.now c.args.units.now))) (claims-joined c.args.calendar.now (book_of c.args.scalars (rows_of c.args.held.now c.args.kinds.now c.args.units.now)) (left_trades c.args.calendar.now (book_of c.args.scalars (rows_of c.args.held.now c.args.kinds.now c.args.units.now)) (trades_of c.args.table.now)) (trades_of c.args.table.now) _ c.args.unpaid plan.left unpaid) in
     let clear = c.clear in
     let scalars = c.closed_scalars-next in
@@ -30,8 +28,8 @@ returns c plan nets unpaid =
     let kept = c.pack-kept.ensures.0 ∙ ap (λ l. length (remaining l)) (in-slots plan) in
     let next = scalars.ensures calendar _ _ (left_trades c.args.calendar.now (book_of c.args.scalars (rows_of c.args.held.now c.args.kinds.now c.args.units.now)) (trades_of c.args.table.now)) (trades_of c.args.table.now) nets unpaid (evening-over plan unpaid) c.evening_end-ended.ensures.1 plan.left kept c.evening_end-ended.ensures.2 in (
       rw c.of_close.ensures
-          (close-done calendar (book_of c.args.scalars (rows_of c.args.held.now c.args.kinds.now c.args.units.now)) (left_trades c.args.calendar.now (book_of c.args.scalars (rows_of c.args.held.now c.args.kinds.now c.args.units.now)) (trades_of c.args.table.now)) (trades_of c.args.table.now) c.args.plan.matured c.evening_end-ended.result (securities_of c.evening_end-ended.new.held.0)
-          scalars.result (rows_of c.evening_end-ended.new.held.0 clear.new.kinds clear.new.units.0) plan.matured (evening-over plan unpaid) (rows-cleared _ _ clear.ensures.0 clear.ensures.1 next)),
+          (close-done calendar (book_of c.args.scalars (rows_of c.args.held.now c.args.kinds.now c.args.units.now)) (left_trades c.args.calendar.now (book_of c.args.scalars (rows_of c.args.held.now c.args.kinds.now c.args.units.now)) (trades_of c.args.table.now)) (trades_of c.args.table.now) c.args.plan.matured c.evening_end-ended.result (securities_of c.evening_end-ended.new.held)
+          scalars.result (rows_of c.evening_end-ended.new.held clear.new.kinds clear.new.units) plan.matured (evening-over plan unpaid) (rows-cleared _ _ clear.ensures.0 clear.ensures.1 next)),
       c.pack-kept.ensures.1
-          ∙ packed-left calendar (book_of c.args.scalars (rows_of c.args.held.now c.args.kinds.now c.args.units.now)) c.args.table.now c.settle.new.1.1.0 c.args.plan.outstanding.0 plan.outstanding c.requires.2 c.settle.auto.held.1.0 (c.settle.ensures (book_of c.args.scalars (rows_of c.args.held.now c.args.kinds.now c.args.units.now)) plan.met),
+          ∙ packed-left calendar (book_of c.args.scalars (rows_of c.args.held.now c.args.kinds.now c.args.units.now)) c.args.table.now c.settle.new.table c.args.plan.outstanding.0 plan.outstanding c.requires.2 c.settle.auto.table (c.settle.ensures (book_of c.args.scalars (rows_of c.args.held.now c.args.kinds.now c.args.units.now)) plan.met),
     )

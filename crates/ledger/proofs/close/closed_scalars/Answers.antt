@@ -1,5 +1,4 @@
 use mathlib.Core.Path.{sym}
-use borrow.Author.Rules.{rules}
 use Rattle.rules.specs.Close.{is_short_close, closed_book}
 use Rattle.ledger.proofs.close.closed_scalars.Goals as goal
 

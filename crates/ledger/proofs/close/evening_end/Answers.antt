@@ -1,9 +1,7 @@
 use mathlib.Core.Path.{refl, ◌∙◌}
 use native.Mathlib.Omega.{arith}
-use borrow.Author.Rules.{rules}
 use Rattle.rules.specs.Close.{all_arrived, evening}
 use Rattle.rules.proofs.FitParts.{cash-fits}
-use Rattle.ledger.specs.Types.{Book}
 use Rattle.ledger.specs.Flat.{rows_of, book_of}
 use Rattle.ledger.proofs.EveningLaws.{sound-of}
 use Rattle.ledger.proofs.CloseLaws.{begun, evening-begins}
@@ -26,10 +24,11 @@ applications-requires c =
     let arrived = c.all_arrived in
     let kept = evening-begins (book_of c.args.scalars (rows_of c.args.held.now c.args.kinds.now c.args.units.now)) c.requires.securities c.requires.cash in
     let sound = sound-of (begun (book_of c.args.scalars (rows_of c.args.held.now c.args.kinds.now c.args.units.now))) kept in
-    let cash = c.guarantee_arrived-arrived.ensures in (
-      (c.requires.kinds-long, c.requires.units-long, arrived.auto.held ∙ c.requires.held-long, c.requires.withdrawals),
-      (rw (cash, arrived.ensures.0) sound.0, rw cash sound.1, rw cash sound.2, rw cash kept.cash, c.value_of.ensures, refl, refl),
-    )
+    let cash = c.guarantee_arrived-arrived.ensures in
+    record {
+      kinds_len = (c.requires.kinds-long, c.requires.units-long, arrived.auto.held ∙ c.requires.held-long, c.requires.withdrawals);
+      held_value = (rw (cash, arrived.ensures.0) sound.0, rw cash sound.1, rw cash sound.2, rw cash kept.cash, c.value_of.ensures, refl, refl);
+    }
 
 pub returns : goal.returns
 unfolding evening all_arrived

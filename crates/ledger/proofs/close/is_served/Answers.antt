@@ -1,5 +1,4 @@
 use mathlib.Core.Path.{refl, sym, ap, ◌∙◌}
-use borrow.Author.Rules.{rules}
 use borrow.Author.Tests.{not-true, not-false}
 use Rattle.std.specs.Prelude.{not}
 use Rattle.ledger.proofs.close.is_served.Goals as goal

@@ -1,6 +1,5 @@
 use borrow.Author.Tests.{not-true, not-false}
 use mathlib.Core.Path.{refl, sym, ◌∙◌}
-use borrow.Author.Rules.{rules}
 use mathlib.Core.Path.{ap}
 use Rattle.std.specs.Prelude.{not}
 use Rattle.ledger.proofs.close.may_close.Goals as goal

@@ -1,5 +1,4 @@
 use mathlib.Core.Path.{ap, ◌∙◌}
-use borrow.Author.Rules.{rules}
 use Rattle.std.specs.Prelude.{eqb}
 use Rattle.money.specs.declared.days.Found.{Found}
 use Rattle.rules.specs.Days.{followed}

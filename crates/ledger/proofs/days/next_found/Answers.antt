@@ -1,4 +1,3 @@
-use borrow.Author.Rules.{rules}
 use Rattle.rules.specs.Days.{following}
 use Rattle.ledger.proofs.days.next_found.Goals as goal
 

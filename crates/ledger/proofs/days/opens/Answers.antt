@@ -1,5 +1,4 @@
 use mathlib.Core.Path.{sym, ap, ◌∙◌}
-use borrow.Author.Rules.{rules}
 use mathlib.Core.Option.{some}
 use Rattle.money.specs.declared.days.Found.{Found}
 use Rattle.money.proofs.Answers.{found-at-0}

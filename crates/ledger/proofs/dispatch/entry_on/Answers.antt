@@ -1,5 +1,4 @@
 use mathlib.Core.Path.{refl}
-use borrow.Author.Rules.{rules}
 use Rattle.money.proofs.Refusals.{hit}
 use Rattle.ledger.proofs.StepLaws.{fit-step}
 use Rattle.ledger.proofs.dispatch.entry_on.Goals as goal

@@ -1,11 +1,9 @@
-use Rattle.std.specs.Prelude.{◌≡◌, true, List}
+use Rattle.std.specs.Prelude.{◌≡◌, true}
 use mathlib.Core.Path.{refl}
-use borrow.Author.Rules.{rules}
-use Rattle.money.specs.Days.{Calendar}
 use Rattle.rules.specs.Fit.{cash_fit, securities_fit, withdrawals_fit, nets_fit}
 use Rattle.rules.specs.Step.{event_causes, act}
 use Rattle.rules.proofs.FitParts.{Fit, fit_parts, fits-cash, fit-securities, fit-withdrawals, fit-nets}
-use Rattle.ledger.specs.Types.{Book, Trade}
+use Rattle.ledger.specs.Types.{Book}
 use Rattle.ledger.specs.Flat.{Rows, rows_of, book_of, trades_of}
 use Rattle.ledger.proofs.StepLaws.{leaves_table, changes-table}
 use Rattle.ledger.proofs.dispatch.event_on.Goals as goal

@@ -2,7 +2,6 @@ use Rattle.std.specs.Prelude.{◌≡◌, ◌-◌, set}
 use mathlib.Core.Option.{none}
 use mathlib.Core.Path.{refl, ap, ◌∙◌}
 use native.Mathlib.Omega.{arith}
-use borrow.Author.Rules.{rules}
 use Rattle.money.specs.Causes.{first_of}
 use Rattle.rules.specs.Trades.{with_sheets}
 use Rattle.rules.specs.Early.{early_causes, early_book, early_table}
@@ -73,8 +72,15 @@ returns c rows =
     let trade = trade_at a.table.now c.place_of-place.result in
     let rest : c.sheets_at-had.result.0 - c.early_plan-plan.result.sheets.0 ≡ trade.sheets.0 - a.count.0 =
     omega (arith, c.sheets_at-had.ensures, ap (λ (plan : Redeemed). plan.sheets.0) (c.early_plan-plan.ensures rows)) in
-    let written = c.put_sheets.ensures ∙ ap (λ n. c (trades_of a.table.now) c.place_of-place.result (with_sheets n trade)) rest in
+    let written = c.put_sheets.ensures ∙ ap (λ n. set (trades_of a.table.now) c.place_of-place.result (with_sheets n trade)) rest in
     let taken-off = take-off-here _ _ _ _ kept.room c.place_of-place.ensures _ r.below in
     let e = clear rows in
     let within = early-within a.calendar.now (book_of a.scalars rows) (trades_of a.table.now) a.contract a.count a.price e in
     (carried-out _ _ rows _ _ e c.answered-2.ensures (rw (c.today_plus-next.ensures, c.with_unpaid-next.ensures, c.today_plus.ensures, c.early_plan-plan.ensures rows, within)), rw e (written ∙ taken-off))
+
+pub overflow_sub-left : goal.overflow_sub-left
+overflow_sub-left c =
+    let clear : (rows : Rows) → (let s = c.args in first_of (early_causes s.calendar.now (book_of s.scalars rows) (trades_of s.table.now) s.contract s.count s.price) ≡ none) = λ rows. let s = c.args in
+    early-clear s.calendar.now (book_of s.scalars rows) _ _ _ _ _ (c.early_refusal-refusal.ensures rows) c.if-refusal-ne0.false in
+    let redeems : (let s = c.args in Redeems s.table.now s.scalars.trades c.place_of-place.result s.count s.price) = early-redeems c.args.calendar.now (book_of c.args.scalars c.requires.rows) _ _ _ _ _ c.requires.fits c.place_of-place.ensures (clear c.requires.rows) in
+    omega (arith, redeems.enough, c.sheets_at-had.ensures, ap (λ (plan : Redeemed). plan.sheets.0) (c.early_plan-plan.ensures c.requires.rows))

@@ -1,5 +1,4 @@
 use mathlib.Core.Path.{refl}
-use borrow.Author.Rules.{rules}
 use borrow.Author.Tests.{ltb-false}
 use Rattle.rules.specs.Early.{early_causes}
 use Rattle.ledger.specs.Flat.{book_of, Kept}

@@ -1,4 +1,3 @@
-use borrow.Author.Rules.{rules}
 use Rattle.ledger.proofs.Column.{column}
 use Rattle.ledger.proofs.ContractLaws.{off-table, not-off-table}
 use Rattle.ledger.proofs.early.named_refusal.Goals as goal

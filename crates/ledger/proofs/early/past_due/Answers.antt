@@ -1,4 +1,3 @@
-use borrow.Author.Rules.{rules}
 use Rattle.ledger.proofs.ContractLaws.{missing, present, trade-here}
 use Rattle.ledger.proofs.early.past_due.Goals as goal
 

@@ -1,6 +1,5 @@
 use Rattle.std.specs.Prelude.{◌≤◌}
 use native.Mathlib.Omega.{arith}
-use borrow.Author.Rules.{rules}
 use Rattle.money.specs.Limits.{trade_limit}
 use Rattle.ledger.specs.Flat.{book_of, trades_of, Kept}
 use Rattle.ledger.proofs.Column.{column, passes, ends, asked-not, neither-holds}

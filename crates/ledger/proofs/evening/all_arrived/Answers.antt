@@ -1,11 +1,11 @@
-use Rattle.std.specs.Prelude.{◌≡◌, ◌-◌, ◌≤◌, length, get_or}
+use Rattle.std.specs.Prelude.{◌≡◌, length, get_or}
 use mathlib.Core.Path.{refl, sym, ap, ◌∙◌}
 use native.Mathlib.Omega.{arith}
 use borrow.Author.Rules.{rules}
 use Rattle.rules.specs.Book.{no_security}
 use Rattle.rules.specs.Close.{security_arrived}
 use Rattle.rules.proofs.FitParts.{securities-fit}
-use Rattle.ledger.specs.Flat.{securities_of, postings_of}
+use Rattle.ledger.specs.Flat.{securities_of}
 use Rattle.ledger.proofs.HeldLaws.{length-securities, security-below}
 use Rattle.ledger.proofs.EveningLaws.{map_below, map-none, map_more, map-all, still-there}
 use Rattle.ledger.proofs.evening.all_arrived.Goals as goal
@@ -27,7 +27,7 @@ loop-kind-preserved c =
     let loop = c.loop-kind in
     let l = securities_of c.args.held.now in (
       search rules,
-      c.put_security.auto.0 ∙ loop.invariant.1,
+      c.put_security.auto.held ∙ loop.invariant.1,
       c.put_security.ensures.0 ∙ rw (c.security_arrived.ensures, at-hand, loop.invariant.2) (map_more security_arrived loop.kind l no_security (omega (arith, length-securities c.args.held.now 32))),
       c.put_security.ensures.1 ∙ loop.invariant.3,
     )

@@ -1,35 +1,44 @@
-use Rattle.std.specs.Prelude.{◌≡◌, ℕ, ◌+◌, ◌-◌, ◌<◌, ◌≤◌, Bool, true, false, cond, ◌⊎◌, List, length, get_or}
-use mathlib.Core.Path.{refl, sym, ap, ◌∙◌}
+-- Each application goes, or stays: what is had of its kind, what is judged of it, and the evening after its turn.
+use Rattle.std.proofs.Common.{arith, sym, ap, ◌∙◌, refl, ◌≡◌, ℕ, ◌+◌, ◌-◌, ◌<◌, ◌≤◌, List, Bool, true, false, cond}
+use Rattle.std.specs.Prelude.{◌⊎◌, get_or}
 use mathlib.Core.Logic.{inl, inr, ⊎_elim}
 use borrow.Author.Tests.{eq-eqb, ne_eqb}
 use native.Mathlib.Decide.{ℕ_discrete}
-use native.Mathlib.Omega.{arith}
-use borrow.Author.Rules.{rules}
-use Rattle.money.specs.Units.{fen}
 use Rattle.rules.specs.Folds.{in_turn}
-use Rattle.rules.specs.Vault.{security_at, is_cash, effective_of, value as value_of}
+use Rattle.rules.specs.Vault.{security_at, is_cash, value as value_of}
 use Rattle.rules.specs.Close.{Evening, taken_out, claims_of, may_go, settled, applications}
+use Rattle.rules.specs.Fit.{withdrawals_fit}
 use Rattle.rules.proofs.FitParts.{ApplicationFits, securities-fit, withdrawals-fit}
 use Rattle.ledger.specs.Types.{Security, Guarantee, Vault, Withdrawals}
 use Rattle.ledger.specs.Flat.{securities_of, postings_of, vault_of, evening_at}
 use Rattle.ledger.proofs.SumLaws.{turn-none, turn_more}
 use Rattle.ledger.proofs.HeldLaws.{length-securities, security-at-row}
-use Rattle.ledger.proofs.EveningLaws.{Kept, Held, held-security, held-cash, held_fits, security-taken, cash-taken, sound-of, turn, turns-keep, turns-count, unfrozen}
+use Rattle.ledger.proofs.EveningLaws.{vault_from, asked, made, Kept, Held, held-security, held-cash, held_fits, security-taken, cash-taken, sound-of, turn, turns-keep, turns-count, unfrozen}
 use Rattle.ledger.proofs.evening.applications.Goals as goal
-
--- the vault and the applications of lent rows
-abbrev vault_from : List ℕ → Guarantee → Vault
-vault_from held guarantee = vault_of guarantee (securities_of held)
-
-abbrev asked : List ℕ → List ℕ → ℕ → Withdrawals
-asked kinds units count = record { kinds = kinds; units = units; count = count }
+use Rattle.ledger.proofs.evening.applications.Goals.{then-kind-lt-CASH_KIND, else-kind-lt-CASH_KIND, then-verdict+then-kind-lt-CASH_KIND-2, then-verdict+else-kind-lt-CASH_KIND-2, else-verdict}
 
 same-vault : {g h : Guarantee} {l m : List Security} → g ≡ h → l ≡ m → vault_of g l ≡ vault_of h m
 same-vault {g} {h} {l} {m} p q = rw (p, q)
 
--- the evening that the code's variables make up
-abbrev made : ℕ → Vault → ℕ → ℕ → Evening
-made own vault done dropped = record { own = fen own; vault = vault; done = done; dropped = dropped }
+-- what is had of a kind: a security's row, or cash
+module _ (held : List ℕ) (guarantee : Guarantee) (kind : ℕ) (had cash : Security) where
+  had-of : kind ≤ 32 → (kind < 32 → had ≡ security_at (vault_from held guarantee) kind) → (kind ≡ 32 → had ≡ cash)
+      → cash.effective ≡ guarantee.effective.0 → cash.frozen ≡ guarantee.frozen.0 → cash.rate ≡ 0 → Held (vault_from held guarantee) kind had
+  had-of known security money e f r = by (ℕ_discrete kind 32)
+    where
+      by : Dec (kind ≡ 32) → Held (vault_from held guarantee) kind had
+      by (yes k) =
+          held-cash (vault_from held guarantee) kind had k (length-securities held 32) (ap (λ (s : Security). s.effective) (money k) ∙ e) (ap (λ (s : Security). s.frozen) (money k) ∙ f)
+          (ap (λ (s : Security). s.rate) (money k) ∙ r)
+      by (no other) = let h : kind < 32 = omega arith in held-security (vault_from held guarantee) kind had h (security h)
+
+-- the evening before a turn
+module _ (served : Bool) (claims : ℕ) (w : Withdrawals) (first e : Evening) (i : ℕ) (reached : e ≡ in_turn i (turn served claims w) first) where
+  kept-of : Kept first → Kept e
+  kept-of kept = rw reached (turns-keep served claims w first i kept)
+
+  seen-of : first.done ≡ 0 → first.dropped ≡ 0 → e.done + e.dropped ≡ i
+  seen-of d r = omega (arith, ap (λ (e : Evening). e.done + e.dropped) reached, turns-count served claims w first i, d, r)
 
 -- it is the evening after an application that goes, or stays
 module _ (served : Bool) (claims kind units : ℕ) (e : Evening) {own done dropped : ℕ} {vault : Vault} where
@@ -42,114 +51,221 @@ module _ (served : Bool) (claims kind units : ℕ) (e : Evening) {own done dropp
   stayed stays o v d r = rw (stays, o, v, d, r)
 
 pub loop-i-init : goal.loop-i-init
-loop-i-init c =
-    (omega arith, refl, sym (turn-none _ _), c.requires.1.4, refl)
+loop-i-init c = (omega arith, refl, sym (turn-none _ _), c.requires.held_value.4, refl)
 
 pub bounds-kinds-i : goal.bounds-kinds-i
-bounds-kinds-i c =
-    let few : (asked c.args.kinds.now c.args.units.now c.args.count).count ≤ 128 = (withdrawals-fit (asked c.args.kinds.now c.args.units.now c.args.count) c.requires.0.3).count in
-    omega (arith, few, c.requires.0.0)
+bounds-kinds-i c = omega (arith, (withdrawals-fit _ c.requires.kinds_len.3).count, c.requires.kinds_len.0)
+
+pub offset_bounds-units-i : goal.offset_bounds-units-i
+offset_bounds-units-i c = omega (arith, (withdrawals-fit _ c.requires.kinds_len.3).count)
 
 pub bounds-units-i : goal.bounds-units-i
-bounds-units-i c =
-    let few : (asked c.args.kinds.now c.args.units.now c.args.count).count ≤ 128 = (withdrawals-fit (asked c.args.kinds.now c.args.units.now c.args.count) c.requires.0.3).count in
-    omega (arith, few, c.requires.0.1)
+bounds-units-i c = omega (arith, (withdrawals-fit _ c.requires.kinds_len.3).count, c.requires.kinds_len.1)
+
+-- the application at hand
+application-at : (kinds units : List ℕ) (count i : ℕ) → withdrawals_fit (asked kinds units count) ≡ true → i < count → ApplicationFits (get_or kinds i 0) (get_or units i 0)
+application-at kinds units count i fits below = (withdrawals-fit (asked kinds units count) fits).each i below
 
 pub judged-verdict-requires : goal.judged-verdict-requires
 judged-verdict-requires c =
-    let vault : Vault = vault_from c.loop-i.held c.loop-i.guarantee in
-    let units : ℕ = get_or (asked c.args.kinds.now c.args.units.now c.args.count).units c.loop-i.i 0 in
-    let application : ApplicationFits (get_or (asked c.args.kinds.now c.args.units.now c.args.count).kinds c.loop-i.i 0) units = (withdrawals-fit (asked c.args.kinds.now c.args.units.now c.args.count) c.requires.0.3).each c.loop-i.i (omega arith) in
-    let kept : Kept (made c.loop-i.own vault c.loop-i.done c.loop-i.dropped) = rw c.loop-i.invariant.2
-    (turns-keep c.args.served (claims_of c.args.outstanding.0 c.args.unpaid.0) (asked c.args.kinds.now c.args.units.now c.args.count) (evening_at c.args.begun (securities_of c.args.held.now)) c.loop-i.i (record { securities = securities-fit _ c.requires.1.0; free = c.requires.1.1; cash = c.requires.1.3 })) in
-    let full : length vault.securities ≡ 32 = length-securities c.loop-i.held 32 in
-    let had-security : (get_or (asked c.args.kinds.now c.args.units.now c.args.count).kinds c.loop-i.i 0) < 32 → c.if-kind-lt-CASH_KIND.had ≡ security_at vault (get_or (asked c.args.kinds.now c.args.units.now c.args.count).kinds c.loop-i.i 0) = λ h. ⊎_elim (λ a. a.3 ∙ a.2.ensures ∙ sym (security-at-row c.loop-i.held c.loop-i.guarantee (get_or (asked c.args.kinds.now c.args.units.now c.args.count).kinds c.loop-i.i 0) h)) (λ a. absurd (omega (arith, a.0.left))) c.if-kind-lt-CASH_KIND.branch in
-    let had-cash : (get_or (asked c.args.kinds.now c.args.units.now c.args.count).kinds c.loop-i.i 0) ≡ 32 → c.if-kind-lt-CASH_KIND.had ≡ c.as_security-had.result = λ h. ⊎_elim (λ a. absurd (omega (arith, a.0.taken))) (λ a. a.1) c.if-kind-lt-CASH_KIND.branch in
-    let held : Held vault (get_or (asked c.args.kinds.now c.args.units.now c.args.count).kinds c.loop-i.i 0) c.if-kind-lt-CASH_KIND.had = by (ℕ_discrete (get_or (asked c.args.kinds.now c.args.units.now c.args.count).kinds c.loop-i.i 0) 32)
-  where
-    by : Dec ((get_or (asked c.args.kinds.now c.args.units.now c.args.count).kinds c.loop-i.i 0) ≡ 32) → Held vault (get_or (asked c.args.kinds.now c.args.units.now c.args.count).kinds c.loop-i.i 0) c.if-kind-lt-CASH_KIND.had
-    by (yes e) =
-        let cash = c.as_security-had.ensures in
-        let had = had-cash e in
-        held-cash vault (get_or (asked c.args.kinds.now c.args.units.now c.args.count).kinds c.loop-i.i 0) c.if-kind-lt-CASH_KIND.had e full (ap (λ (c : Security). c.effective) had ∙ cash.0) (ap (λ (c : Security). c.frozen) had ∙ cash.2) (ap (λ (c : Security). c.rate) had ∙ cash.3)
-    by (no other) = let h : (get_or (asked c.args.kinds.now c.args.units.now c.args.count).kinds c.loop-i.i 0) < 32 = omega (arith, application.known) in held-security vault (get_or (asked c.args.kinds.now c.args.units.now c.args.count).kinds c.loop-i.i 0) c.if-kind-lt-CASH_KIND.had h (had-security h) in
-    held_fits vault (get_or (asked c.args.kinds.now c.args.units.now c.args.count).kinds c.loop-i.i 0) c.if-kind-lt-CASH_KIND.had c.loop-i.value (sound-of (made c.loop-i.own vault c.loop-i.done c.loop-i.dropped) kept) application.known held c.loop-i.invariant.3
+    let kind = get_or c.args.kinds.now c.loop-i.i 0 in
+    let vault = vault_from c.loop-i.held c.loop-i.guarantee in
+    let before = made c.loop-i.own vault c.loop-i.done c.loop-i.dropped in
+    let application = application-at c.args.kinds.now c.args.units.now c.args.count c.loop-i.i c.requires.kinds_len.3 (omega arith) in
+    let security : kind < 32 → c.if-kind-lt-CASH_KIND.had ≡ security_at vault kind =
+    λ h.
+    elim c.if-kind-lt-CASH_KIND.branch [
+      | then-kind-lt-CASH_KIND w ↦ w.had-is ∙ w.security_at-had.ensures ∙ sym (security-at-row c.loop-i.held c.loop-i.guarantee kind h)
+      | else-kind-lt-CASH_KIND w ↦ absurd (omega (arith, w.if-kind-lt-CASH_KIND.false))
+    ] in
+    let money : kind ≡ 32 → c.if-kind-lt-CASH_KIND.had ≡ c.as_security-had.result =
+    λ h.
+    elim c.if-kind-lt-CASH_KIND.branch [
+      | then-kind-lt-CASH_KIND w ↦ absurd (omega (arith, w.if-kind-lt-CASH_KIND.true))
+      | else-kind-lt-CASH_KIND w ↦ w.had-is
+    ] in
+    let cash = c.as_security-had.ensures in
+    let held = had-of c.loop-i.held c.loop-i.guarantee kind c.if-kind-lt-CASH_KIND.had c.as_security-had.result application.known security money cash.0 cash.2 cash.3 in
+    let kept =
+    kept-of c.args.served (claims_of c.args.outstanding.0 c.args.unpaid.0) (asked c.args.kinds.now c.args.units.now c.args.count) _ before c.loop-i.i c.loop-i.invariant.2
+    (record { securities = securities-fit _ c.requires.held_value.0; free = c.requires.held_value.1; cash = c.requires.held_value.3 }) in
+    held_fits vault kind c.if-kind-lt-CASH_KIND.had c.loop-i.value (sound-of before kept) application.known held c.loop-i.invariant.3
+
+pub overflow_add-done : goal.overflow_add-done
+overflow_add-done c =
+    let before = made c.loop-i.own (vault_from c.loop-i.held c.loop-i.guarantee) c.loop-i.done c.loop-i.dropped in
+    let seen =
+    seen-of c.args.served (claims_of c.args.outstanding.0 c.args.unpaid.0) (asked c.args.kinds.now c.args.units.now c.args.count) _ before c.loop-i.i c.loop-i.invariant.2
+    c.requires.held_value.5 c.requires.held_value.6 in
+    omega (arith, seen, (withdrawals-fit _ c.requires.kinds_len.3).count)
+
+pub overflow_sub-had : goal.overflow_sub-had
+overflow_sub-had c =
+    let kind = get_or c.args.kinds.now c.loop-i.i 0 in
+    let vault = vault_from c.loop-i.held c.loop-i.guarantee in
+    let application = application-at c.args.kinds.now c.args.units.now c.args.count c.loop-i.i c.requires.kinds_len.3 (omega arith) in
+    let security : kind < 32 → c.if-kind-lt-CASH_KIND.had ≡ security_at vault kind =
+    λ h.
+    elim c.if-kind-lt-CASH_KIND.branch [
+      | then-kind-lt-CASH_KIND w ↦ w.had-is ∙ w.security_at-had.ensures ∙ sym (security-at-row c.loop-i.held c.loop-i.guarantee kind h)
+      | else-kind-lt-CASH_KIND w ↦ absurd (omega (arith, w.if-kind-lt-CASH_KIND.false))
+    ] in
+    let money : kind ≡ 32 → c.if-kind-lt-CASH_KIND.had ≡ c.as_security-had.result =
+    λ h.
+    elim c.if-kind-lt-CASH_KIND.branch [
+      | then-kind-lt-CASH_KIND w ↦ absurd (omega (arith, w.if-kind-lt-CASH_KIND.true))
+      | else-kind-lt-CASH_KIND w ↦ w.had-is
+    ] in
+    let cash = c.as_security-had.ensures in
+    let held = had-of c.loop-i.held c.loop-i.guarantee kind c.if-kind-lt-CASH_KIND.had c.as_security-had.result application.known security money cash.0 cash.2 cash.3 in
+    let judgement = c.judged-verdict.ensures vault (length-securities c.loop-i.held 32) held.effective held.frozen held.rate c.loop-i.invariant.3 in
+    omega (arith, unfrozen c.args.served (claims_of c.args.outstanding.0 c.args.unpaid.0) kind (get_or c.args.units.now c.loop-i.i 0) vault (sym judgement.0 ∙ c.if-verdict.true), held.effective)
+
+pub overflow_add-own : goal.overflow_add-own
+overflow_add-own c =
+    let before = made c.loop-i.own (vault_from c.loop-i.held c.loop-i.guarantee) c.loop-i.done c.loop-i.dropped in
+    let kept =
+    kept-of c.args.served (claims_of c.args.outstanding.0 c.args.unpaid.0) (asked c.args.kinds.now c.args.units.now c.args.count) _ before c.loop-i.i c.loop-i.invariant.2
+    (record { securities = securities-fit _ c.requires.held_value.0; free = c.requires.held_value.1; cash = c.requires.held_value.3 }) in
+    let application = application-at c.args.kinds.now c.args.units.now c.args.count c.loop-i.i c.requires.kinds_len.3 (omega arith) in
+    omega (arith, kept.cash, application.within)
+
+pub overflow_add-dropped : goal.overflow_add-dropped
+overflow_add-dropped c =
+    let before = made c.loop-i.own (vault_from c.loop-i.held c.loop-i.guarantee) c.loop-i.done c.loop-i.dropped in
+    let seen =
+    seen-of c.args.served (claims_of c.args.outstanding.0 c.args.unpaid.0) (asked c.args.kinds.now c.args.units.now c.args.count) _ before c.loop-i.i c.loop-i.invariant.2
+    c.requires.held_value.5 c.requires.held_value.6 in
+    omega (arith, seen, (withdrawals-fit _ c.requires.kinds_len.3).count)
+
+-- after the turn: the application went, or stayed
+module _ (c : goal.Joined-verdict) where
+  abbrev kind : ℕ
+  kind = get_or c.args.kinds.now c.loop-i.i 0
+
+  abbrev vault : Vault
+  vault = vault_from c.loop-i.held c.loop-i.guarantee
+
+  abbrev next : Vault
+  next = vault_from c.if-verdict.held c.if-verdict.guarantee
+
+  abbrev units : ℕ
+  units = get_or c.args.units.now c.loop-i.i 0
+
+  abbrev claimed : ℕ
+  claimed = claims_of c.args.outstanding.0 c.args.unpaid.0
+
+  abbrev before : Evening
+  before = made c.loop-i.own vault c.loop-i.done c.loop-i.dropped
+
+  application : ApplicationFits kind units
+  application = application-at c.args.kinds.now c.args.units.now c.args.count c.loop-i.i c.requires.kinds_len.3 (omega arith)
+
+  had-security : kind < 32 → c.if-kind-lt-CASH_KIND.had ≡ security_at vault kind
+  had-security h =
+      elim c.if-kind-lt-CASH_KIND.branch [
+        | then-kind-lt-CASH_KIND w ↦ w.had-is ∙ w.security_at-had.ensures ∙ sym (security-at-row c.loop-i.held c.loop-i.guarantee kind h)
+        | else-kind-lt-CASH_KIND w ↦ absurd (omega (arith, w.if-kind-lt-CASH_KIND.false))
+      ]
+
+  had-cash : kind ≡ 32 → c.if-kind-lt-CASH_KIND.had ≡ c.as_security-had.result
+  had-cash h =
+      elim c.if-kind-lt-CASH_KIND.branch [
+        | then-kind-lt-CASH_KIND w ↦ absurd (omega (arith, w.if-kind-lt-CASH_KIND.true))
+        | else-kind-lt-CASH_KIND w ↦ w.had-is
+      ]
+
+  held : Held vault kind c.if-kind-lt-CASH_KIND.had
+  held =
+      let cash = c.as_security-had.ensures in
+      had-of c.loop-i.held c.loop-i.guarantee kind c.if-kind-lt-CASH_KIND.had c.as_security-had.result application.known had-security had-cash cash.0 cash.2 cash.3
+
+  judgement : (c.judged-verdict.result.goes ≡ may_go c.args.served claimed kind units vault)
+      × (c.judged-verdict.result.value.0 ≡ cond c.judged-verdict.result.goes (value_of (taken_out kind units vault)) c.loop-i.value)
+  judgement = c.judged-verdict.ensures vault (length-securities c.loop-i.held 32) held.effective held.frozen held.rate c.loop-i.invariant.3
+
+  abbrev Went : Type 0
+  Went =
+      (c.judged-verdict.result.goes ≡ true)
+      × (c.if-verdict.own ≡ cond (is_cash kind) (c.loop-i.own + units) c.loop-i.own)
+      × (next ≡ taken_out kind units vault)
+      × (c.if-verdict.done ≡ c.loop-i.done + 1)
+      × (c.if-verdict.dropped ≡ c.loop-i.dropped)
+
+  abbrev Stayed : Type 0
+  Stayed =
+      (c.judged-verdict.result.goes ≡ false)
+      × (c.if-verdict.own ≡ c.loop-i.own)
+      × (next ≡ vault)
+      × (c.if-verdict.done ≡ c.loop-i.done)
+      × (c.if-verdict.dropped ≡ c.loop-i.dropped + 1)
+
+  way : Went ⊎ Stayed
+  way =
+      elim c.if-verdict.branch [
+        | then-verdict+then-kind-lt-CASH_KIND-2 w ↦
+            let h = w.if-kind-lt-CASH_KIND-2.true in
+            inl (
+              w.if-verdict.true,
+              rw (ne_eqb kind 32 (λ q. omega arith)) w.own-is,
+              same-vault w.guarantee-is (ap securities_of w.held-is ∙ w.put_security.ensures.0) ∙ security-taken vault kind c.if-kind-lt-CASH_KIND.had units h (had-security h),
+              w.done-is,
+              w.dropped-is,
+            )
+        | then-verdict+else-kind-lt-CASH_KIND-2 w ↦
+            let e : kind ≡ 32 = omega (arith, w.if-kind-lt-CASH_KIND-2.false, application.known) in
+            let had = had-cash e in
+            let cash = c.as_security-had.ensures in
+            let back = w.as_guarantee-guarantee.ensures in
+            inl (
+              w.if-verdict.true,
+              rw (eq-eqb kind 32 e) w.own-is,
+              same-vault w.guarantee-is (ap securities_of w.held-is)
+                  ∙ cash-taken vault kind units w.as_guarantee-guarantee.result e (back.0 ∙ ap (λ (s : Security). s.effective - units) had ∙ ap (λ n. n - units) cash.0)
+                  (back.1 ∙ ap (λ (s : Security). s.arriving) had ∙ cash.1) (back.2 ∙ ap (λ (s : Security). s.frozen) had ∙ cash.2),
+              w.done-is,
+              w.dropped-is,
+            )
+        | else-verdict w ↦ inr (w.if-verdict.false, w.own-is, same-vault w.guarantee-is (ap securities_of w.held-is), w.done-is, w.dropped-is)
+      ]
+
+  as-posted : postings_of c.if-verdict.held ≡ postings_of c.loop-i.held
+  as-posted =
+      elim c.if-verdict.branch [
+        | then-verdict+then-kind-lt-CASH_KIND-2 w ↦ ap postings_of w.held-is ∙ w.put_security.ensures.1
+        | then-verdict+else-kind-lt-CASH_KIND-2 w ↦ ap postings_of w.held-is
+        | else-verdict w ↦ ap postings_of w.held-is
+      ]
+
+  settled-so : made c.if-verdict.own next c.if-verdict.done c.if-verdict.dropped ≡ turn c.args.served claimed (asked c.args.kinds.now c.args.units.now c.args.count) c.loop-i.i before
+  settled-so =
+      let so = sym judgement.0 in
+      ⊎_elim (λ a. went _ _ _ _ before (so ∙ a.0) a.1 a.2 a.3 a.4) (λ a. stayed _ _ _ _ before (so ∙ a.0) a.1 a.2 a.3 a.4) way
+
+  valued-so : c.judged-verdict.result.value.0 ≡ value_of next
+  valued-so =
+      let valued : Bool → ℕ = λ goes. cond goes (value_of (taken_out kind units vault)) c.loop-i.value in
+      ⊎_elim (λ a. judgement.1 ∙ ap valued a.0 ∙ sym (ap value_of a.2))
+      (λ a. judgement.1 ∙ ap valued a.0 ∙ c.loop-i.invariant.3 ∙ sym (ap value_of a.2)) way
 
 pub loop-i-preserved : goal.loop-i-preserved
 loop-i-preserved c =
-    let as_long : length c.if-verdict.held ≡ length c.loop-i.held = ⊎_elim (λ a. ap length a.7 ∙ a.4.kept.0) (⊎_elim (λ a. ap length a.4) (λ a. ap length a.1)) c.if-verdict.branch in
-    let as-posted : postings_of c.if-verdict.held ≡ postings_of c.loop-i.held = ⊎_elim (λ a. ap postings_of a.7 ∙ a.4.ensures.1) (⊎_elim (λ a. ap postings_of a.4) (λ a. ap postings_of a.1)) c.if-verdict.branch in
-    let vault : Vault = vault_from c.loop-i.held c.loop-i.guarantee in
-    let units : ℕ = get_or (asked c.args.kinds.now c.args.units.now c.args.count).units c.loop-i.i 0 in
-    let full : length vault.securities ≡ 32 = length-securities c.loop-i.held 32 in
-    let application : ApplicationFits (get_or (asked c.args.kinds.now c.args.units.now c.args.count).kinds c.loop-i.i 0) units = (withdrawals-fit (asked c.args.kinds.now c.args.units.now c.args.count) c.requires.0.3).each c.loop-i.i (omega arith) in
-    let had-security : (get_or (asked c.args.kinds.now c.args.units.now c.args.count).kinds c.loop-i.i 0) < 32 → c.if-kind-lt-CASH_KIND.had ≡ security_at vault (get_or (asked c.args.kinds.now c.args.units.now c.args.count).kinds c.loop-i.i 0) = λ h. ⊎_elim (λ a. a.3 ∙ a.2.ensures ∙ sym (security-at-row c.loop-i.held c.loop-i.guarantee (get_or (asked c.args.kinds.now c.args.units.now c.args.count).kinds c.loop-i.i 0) h)) (λ a. absurd (omega (arith, a.0.left))) c.if-kind-lt-CASH_KIND.branch in
-    let had-cash : (get_or (asked c.args.kinds.now c.args.units.now c.args.count).kinds c.loop-i.i 0) ≡ 32 → c.if-kind-lt-CASH_KIND.had ≡ c.as_security-had.result = λ h. ⊎_elim (λ a. absurd (omega (arith, a.0.taken))) (λ a. a.1) c.if-kind-lt-CASH_KIND.branch in
-    let held : Held vault (get_or (asked c.args.kinds.now c.args.units.now c.args.count).kinds c.loop-i.i 0) c.if-kind-lt-CASH_KIND.had = by (ℕ_discrete (get_or (asked c.args.kinds.now c.args.units.now c.args.count).kinds c.loop-i.i 0) 32)
-  where
-    by : Dec ((get_or (asked c.args.kinds.now c.args.units.now c.args.count).kinds c.loop-i.i 0) ≡ 32) → Held vault (get_or (asked c.args.kinds.now c.args.units.now c.args.count).kinds c.loop-i.i 0) c.if-kind-lt-CASH_KIND.had
-    by (yes e) =
-        let cash = c.as_security-had.ensures in
-        let had = had-cash e in
-        held-cash vault (get_or (asked c.args.kinds.now c.args.units.now c.args.count).kinds c.loop-i.i 0) c.if-kind-lt-CASH_KIND.had e full (ap (λ (c : Security). c.effective) had ∙ cash.0) (ap (λ (c : Security). c.frozen) had ∙ cash.2) (ap (λ (c : Security). c.rate) had ∙ cash.3)
-    by (no other) = let h : (get_or (asked c.args.kinds.now c.args.units.now c.args.count).kinds c.loop-i.i 0) < 32 = omega (arith, application.known) in held-security vault (get_or (asked c.args.kinds.now c.args.units.now c.args.count).kinds c.loop-i.i 0) c.if-kind-lt-CASH_KIND.had h (had-security h) in
-    let judgement : (c.judged-verdict.result.goes ≡ may_go c.args.served (claims_of c.args.outstanding.0 c.args.unpaid.0) (get_or (asked c.args.kinds.now c.args.units.now c.args.count).kinds c.loop-i.i 0) units vault)
-    × (c.judged-verdict.result.value.0 ≡ cond c.judged-verdict.result.goes (value_of (taken_out (get_or (asked c.args.kinds.now c.args.units.now c.args.count).kinds c.loop-i.i 0) units vault)) c.loop-i.value) = c.judged-verdict.ensures vault full held.effective held.frozen held.rate c.loop-i.invariant.3 in
-    let way : ((c.judged-verdict.result.goes ≡ true)
-    × (c.if-verdict.own ≡ cond (is_cash (get_or (asked c.args.kinds.now c.args.units.now c.args.count).kinds c.loop-i.i 0)) ((made c.loop-i.own vault c.loop-i.done c.loop-i.dropped).own.0 + units) (made c.loop-i.own vault c.loop-i.done c.loop-i.dropped).own.0)
-    × ((vault_from c.if-verdict.held c.if-verdict.guarantee) ≡ taken_out (get_or (asked c.args.kinds.now c.args.units.now c.args.count).kinds c.loop-i.i 0) units vault)
-    × (c.if-verdict.done ≡ (made c.loop-i.own vault c.loop-i.done c.loop-i.dropped).done + 1)
-    × (c.if-verdict.dropped ≡ (made c.loop-i.own vault c.loop-i.done c.loop-i.dropped).dropped)) ⊎ ((c.judged-verdict.result.goes ≡ false)
-    × (c.if-verdict.own ≡ (made c.loop-i.own vault c.loop-i.done c.loop-i.dropped).own.0)
-    × ((vault_from c.if-verdict.held c.if-verdict.guarantee) ≡ vault)
-    × (c.if-verdict.done ≡ (made c.loop-i.own vault c.loop-i.done c.loop-i.dropped).done)
-    × (c.if-verdict.dropped ≡ (made c.loop-i.own vault c.loop-i.done c.loop-i.dropped).dropped + 1)) = ⊎_elim
-    (λ a.
-    let h = a.2.taken in
-    inl (
-      a.0.taken,
-      rw (ne_eqb (get_or (asked c.args.kinds.now c.args.units.now c.args.count).kinds c.loop-i.i 0) 32 (λ q. omega arith)) a.9,
-      same-vault a.8 (ap securities_of a.7 ∙ a.4.ensures.0) ∙ security-taken vault (get_or (asked c.args.kinds.now c.args.units.now c.args.count).kinds c.loop-i.i 0) c.if-kind-lt-CASH_KIND.had units h (had-security h),
-      a.10,
-      a.11,
-    ))
-    (⊎_elim
-    (λ a.
-    let e : (get_or (asked c.args.kinds.now c.args.units.now c.args.count).kinds c.loop-i.i 0) ≡ 32 = omega (arith, a.2.left, application.known) in
-    let had = had-cash e in
-    let cash = c.as_security-had.ensures in
-    let back = a.3.ensures in
-    inl (
-      a.0.taken,
-      rw (eq-eqb (get_or (asked c.args.kinds.now c.args.units.now c.args.count).kinds c.loop-i.i 0) 32 e) a.6,
-      same-vault a.5 (ap securities_of a.4)
-          ∙ cash-taken vault (get_or (asked c.args.kinds.now c.args.units.now c.args.count).kinds c.loop-i.i 0) units a.3.result e (back.0 ∙ ap (λ (c : Security). c.effective - units) had ∙ ap (λ n. n - units) cash.0)
-          (back.1 ∙ ap (λ (c : Security). c.arriving) had ∙ cash.1) (back.2 ∙ ap (λ (c : Security). c.frozen) had ∙ cash.2),
-      a.7,
-      a.8,
-    ))
-    (λ a. inr (a.0.left, a.3, same-vault a.2 (ap securities_of a.1), a.4, a.5)))
-    c.if-verdict.branch in
-    let settled-so : made c.if-verdict.own ((vault_from c.if-verdict.held c.if-verdict.guarantee)) c.if-verdict.done c.if-verdict.dropped ≡ (turn c.args.served (claims_of c.args.outstanding.0 c.args.unpaid.0) (asked c.args.kinds.now c.args.units.now c.args.count)) (made c.loop-i.own vault c.loop-i.done c.loop-i.dropped) = let so = sym judgement.0 in
-    ⊎_elim (λ a. went _ _ _ _ (made c.loop-i.own vault c.loop-i.done c.loop-i.dropped) (so ∙ a.0) a.1 a.2 a.3 a.4) (λ a. stayed _ _ _ _ (made c.loop-i.own vault c.loop-i.done c.loop-i.dropped) (so ∙ a.0) a.1 a.2 a.3 a.4) way in
-    let valued-so : c.judged-verdict.result.value.0 ≡ value_of ((vault_from c.if-verdict.held c.if-verdict.guarantee)) = let valued : Bool → ℕ = λ goes. cond goes (value_of (taken_out (get_or (asked c.args.kinds.now c.args.units.now c.args.count).kinds c.loop-i.i 0) units vault)) c.loop-i.value in
-    ⊎_elim (λ a. judgement.1 ∙ ap valued a.0 ∙ sym (ap value_of a.2))
-    (λ a. judgement.1 ∙ ap valued a.0 ∙ c.loop-i.invariant.3 ∙ sym (ap value_of a.2)) way in
-    let inv = c.loop-i.invariant in (
+    let inv = c.loop-i.invariant in
+    let turns = turn c.args.served (claims_of c.args.outstanding.0 c.args.unpaid.0) (asked c.args.kinds.now c.args.units.now c.args.count) in (
       omega (arith, c.loop-i-test.true),
-      as_long ∙ inv.1,
-      settled-so ∙ ap (turn c.args.served (claims_of c.args.outstanding.0 c.args.unpaid.0) (asked c.args.kinds.now c.args.units.now c.args.count)) inv.2 ∙ sym (turn_more (turn c.args.served (claims_of c.args.outstanding.0 c.args.unpaid.0) (asked c.args.kinds.now c.args.units.now c.args.count)) (evening_at c.args.begun (securities_of c.args.held.now)) c.loop-i.i),
-      valued-so,
-      as-posted ∙ inv.4,
+      c.if-verdict.auto.held ∙ inv.1,
+      settled-so c ∙ ap (turns c.loop-i.i) inv.2 ∙ sym (turn_more turns _ c.loop-i.i),
+      valued-so c,
+      as-posted c ∙ inv.4,
     )
 
 pub returns : goal.returns
 unfolding applications
 returns c =
     let e : c.loop-i.i ≡ c.args.count = omega arith in
-    let (evening_at c.args.begun (securities_of c.args.held.now)) = evening_at c.args.begun (securities_of c.args.held.now) in (
+    let first = evening_at c.args.begun (securities_of c.args.held.now) in (
       c.loop-i.invariant.2
-          ∙ ap (λ n. in_turn n (turn c.args.served (claims_of c.args.outstanding.0 c.args.unpaid.0) (asked c.args.kinds.now c.args.units.now c.args.count)) (evening_at c.args.begun (securities_of c.args.held.now))) e,
+          ∙ ap (λ n. in_turn n (turn c.args.served (claims_of c.args.outstanding.0 c.args.unpaid.0) (asked c.args.kinds.now c.args.units.now c.args.count)) first) e,
       c.loop-i.invariant.3,
       c.loop-i.invariant.4,
     )

@@ -1,26 +1,9 @@
-use Rattle.std.proofs.Common.{◌-◌, ◌≡◌, ◌+◌, ◌≤◌, true, map, length, if◌then◌else◌, ℕ, ◌*◌, ◌<◌}
-use Rattle.money.specs.Limits.{cash_limit, rate_limit, unit_limit}
-use Rattle.money.specs.Collateral.{cash_kind, rate_of, unit_limit_of, kind_value}
-use Rattle.rules.specs.Limits.{application_limit}
-use Rattle.rules.specs.Vault.{security_at, effective_of, frozen_of}
+use Rattle.std.proofs.Common.{◌-◌, ◌≡◌, ◌≤◌, length}
 use Rattle.rules.specs.Vault.{value as value_of}
-use Rattle.rules.specs.Fit.{securities_fit, withdrawals_fit}
-use Rattle.rules.specs.Close.{security_arrived, guarantee_arrived, taken_out, claims_of, may_go, applications}
-use Rattle.ledger.specs.Types.{Vault}
-use Rattle.ledger.specs.Flat.{vault_of, securities_of, postings_of, evening_at, held_length}
-use Rattle.ledger.specs.Figures.{value_bound}
-use Rattle.std.specs.Prelude.{Bool, false, cond, ◌⊎◌, List, get_or}
-use mathlib.Core.Path.{refl, sym, ap, ◌∙◌}
-use mathlib.Core.Logic.{inl, inr, ⊎_elim}
-use Rattle.money.specs.Units.{fen}
+use Rattle.rules.specs.Close.{claims_of}
+use Rattle.ledger.specs.Flat.{postings_of}
 use Rattle.rules.specs.Folds.{in_turn}
-use Rattle.rules.specs.Vault.{is_cash}
-use Rattle.rules.specs.Close.{Evening, settled}
-use Rattle.rules.proofs.FitParts.{ApplicationFits, securities-fit, withdrawals-fit}
-use Rattle.ledger.specs.Types.{Security, Guarantee, Withdrawals}
-use Rattle.ledger.proofs.SumLaws.{turn-none, turn_more}
-use Rattle.ledger.proofs.HeldLaws.{length-securities, security-at-row}
-use Rattle.ledger.proofs.EveningLaws.{Kept, Held, held-security, held-cash, held_fits, security-taken, cash-taken, sound-of, turn, turns-keep, turns-count, unfrozen}
+use Rattle.ledger.proofs.EveningLaws.{vault_from, asked, made, turn}
 use Rattle.ledger.proofs.evening.applications.Given as goal
 
 abbrev pub invariant-loop-i : goal.invariant-loop-i

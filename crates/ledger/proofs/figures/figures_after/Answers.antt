@@ -1,5 +1,4 @@
 use mathlib.Core.Path.{sym}
-use borrow.Author.Rules.{rules}
 use Rattle.ledger.proofs.FigureLaws.{unmoved}
 use Rattle.ledger.proofs.figures.figures_after.Goals as goal
 

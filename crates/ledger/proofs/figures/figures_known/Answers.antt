@@ -1,4 +1,3 @@
-use borrow.Author.Rules.{rules}
 use native.Mathlib.Omega.{arith}
 use Rattle.rules.proofs.FitParts.{fit_parts, fit-securities}
 use Rattle.ledger.proofs.figures.figures_known.Goals as goal

@@ -1,4 +1,3 @@
-use borrow.Author.Rules.{rules}
 use Rattle.ledger.proofs.fit.day_fit.Goals as goal
 
 pub returns-in-Never : goal.returns-in-Never

@@ -1,7 +1,6 @@
 use mathlib.Core.Path.{sym, ap, ◌∙◌}
 use mathlib.Core.Bool.{false≢true}
 use native.Mathlib.Omega.{arith}
-use borrow.Author.Rules.{rules}
 use Rattle.rules.specs.Trades.{outstanding}
 use Rattle.rules.proofs.FitParts.{capacity-fits}
 use Rattle.ledger.proofs.SummaryLaws.{summary-where}

@@ -1,5 +1,4 @@
 use mathlib.Core.Path.{ap, ◌∙◌}
-use borrow.Author.Rules.{rules}
 use Rattle.rules.specs.Fit.{size_fit}
 use Rattle.ledger.proofs.SumLaws.{test-fails, test-holds}
 use Rattle.ledger.proofs.SummaryLaws.{summary-where}

@@ -1,5 +1,4 @@
 use Rattle.std.specs.Prelude.{◌≡◌, leb}
-use borrow.Author.Rules.{rules}
 use Rattle.rules.specs.Days.{payment_day}
 use Rattle.rules.specs.Fit.{all_trades}
 use Rattle.ledger.specs.Types.{On}

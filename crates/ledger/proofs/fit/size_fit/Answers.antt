@@ -1,4 +1,3 @@
-use borrow.Author.Rules.{rules}
 use borrow.Author.Tests.{le-leb, lt-leb}
 use Rattle.rules.specs.Fit.{size_fit}
 use Rattle.ledger.proofs.fit.size_fit.Goals as goal

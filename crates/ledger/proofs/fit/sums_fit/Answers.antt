@@ -1,6 +1,5 @@
 use mathlib.Core.Path.{ap, ◌∙◌}
 use Rattle.std.specs.Prelude.{not}
-use borrow.Author.Rules.{rules}
 use Rattle.rules.specs.Fit.{sums_fit}
 use Rattle.scalars.proofs.UnpaidLaws.{fit-unless-past}
 use Rattle.ledger.proofs.fit.sums_fit.Goals as goal

@@ -1,4 +1,3 @@
-use borrow.Author.Rules.{rules}
 use Rattle.ledger.proofs.Fitting.{refuted, upheld}
 use mathlib.Core.Path.{ap}
 use Rattle.std.specs.Prelude.{not}

@@ -1,4 +1,3 @@
-use borrow.Author.Rules.{rules}
 use Rattle.ledger.specs.Flat.{trade_at}
 use Rattle.ledger.proofs.flat.price_at.Goals as goal
 

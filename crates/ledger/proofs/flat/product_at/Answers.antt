@@ -1,5 +1,4 @@
 use mathlib.Core.Path.{refl}
-use borrow.Author.Rules.{rules}
 use Rattle.ledger.specs.Flat.{trade_at}
 use Rattle.ledger.proofs.flat.product_at.Goals as goal
 

@@ -1,4 +1,3 @@
-use borrow.Author.Rules.{rules}
 use Rattle.ledger.proofs.StoreLaws.{sheets-put}
 use Rattle.ledger.proofs.flat.put_sheets.Goals as goal
 

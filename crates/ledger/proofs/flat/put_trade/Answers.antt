@@ -1,5 +1,4 @@
 use native.Mathlib.Omega.{arith}
-use borrow.Author.Rules.{rules}
 use lib.ListN.{length-set}
 use Rattle.ledger.proofs.StoreLaws.{trade-put, behind}
 use Rattle.ledger.proofs.flat.put_trade.Goals as goal

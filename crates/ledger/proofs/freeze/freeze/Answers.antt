@@ -2,7 +2,6 @@ use Rattle.std.specs.Prelude.{◌≡◌, ℕ, ◌<◌, ◌≤◌, List, []}
 use mathlib.Core.Path.{refl}
 use mathlib.Core.Option.{none}
 use native.Mathlib.Omega.{arith}
-use borrow.Author.Rules.{rules}
 use borrow.Author.Tests.{ltb-false, eq-eqb, ne_eqb}
 use Rattle.money.specs.Causes.{first_of}
 use Rattle.rules.specs.Freeze.{freeze_causes, frozen}

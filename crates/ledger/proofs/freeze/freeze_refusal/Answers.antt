@@ -1,4 +1,3 @@
-use borrow.Author.Rules.{rules}
 use Rattle.rules.specs.Freeze.{freeze_causes}
 use Rattle.ledger.proofs.Column.{column}
 use Rattle.ledger.proofs.freeze.freeze_refusal.Goals as goal

@@ -2,7 +2,6 @@ use Rattle.std.specs.Prelude.{◌≡◌, ◌+◌, ◌≤◌, []}
 use mathlib.Core.Path.{refl}
 use mathlib.Core.Option.{none}
 use native.Mathlib.Omega.{arith}
-use borrow.Author.Rules.{rules}
 use borrow.Author.Tests.{ltb-false}
 use Rattle.money.specs.Limits.{cash_limit}
 use Rattle.money.specs.declared.units.Fen.{Fen}
@@ -35,3 +34,11 @@ returns c rows =
     let none-applies : (rows : Rows) → first_of (fund_in_causes (book_of c.args.scalars rows) c.args.account c.args.amount) ≡ none = λ rows. let a = c.args in
     done [] (book_of a.scalars rows) [] (FundIn a.account a.amount) _ (c.fund_in_refusal-refusal.ensures rows) c.if-refusal-ne0.false in
     carried-out _ _ rows _ _ (none-applies rows) c.answered-2.ensures (rw (c.with_account-next.ensures, c.balance-held.ensures))
+
+pub overflow_add-sum : goal.overflow_add-sum
+unfolding event_causes
+overflow_add-sum c =
+    let none-applies : (rows : Rows) → first_of (fund_in_causes (book_of c.args.scalars rows) c.args.account c.args.amount) ≡ none = λ rows. let a = c.args in
+    done [] (book_of a.scalars rows) [] (FundIn a.account a.amount) _ (c.fund_in_refusal-refusal.ensures rows) c.if-refusal-ne0.false in
+    let a = c.args in
+    omega (arith, c.balance-held.ensures, room (book_of a.scalars no_rows) a.account a.amount (none-applies no_rows))

@@ -1,4 +1,3 @@
-use borrow.Author.Rules.{rules}
 use Rattle.rules.specs.Funds.{fund_out_causes}
 use Rattle.ledger.proofs.Column.{column}
 use Rattle.ledger.proofs.funds.fund_out_refusal.Goals as goal

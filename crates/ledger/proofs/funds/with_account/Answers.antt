@@ -1,5 +1,4 @@
 use mathlib.Core.Path.{refl}
-use borrow.Author.Rules.{rules}
 use Rattle.ledger.proofs.funds.with_account.Goals as goal
 
 pub returns-in-Own : goal.returns-in-Own

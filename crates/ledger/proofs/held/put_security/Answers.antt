@@ -1,5 +1,4 @@
 use native.Mathlib.Omega.{arith}
-use borrow.Author.Rules.{rules}
 use lib.ListN.{length-set}
 use Rattle.ledger.proofs.HeldLaws.{security-put}
 use Rattle.ledger.proofs.held.put_security.Goals as goal

@@ -1,4 +1,3 @@
-use borrow.Author.Rules.{rules}
 use mathlib.Core.Path.{refl}
 use Rattle.ledger.specs.Flat.{security_in}
 use Rattle.ledger.proofs.held.security_at.Goals as goal

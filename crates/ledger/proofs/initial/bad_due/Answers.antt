@@ -1,5 +1,4 @@
 use mathlib.Core.Path.{refl, ap}
-use borrow.Author.Rules.{rules}
 use native.Mathlib.Omega.{arith}
 use Rattle.std.specs.Prelude.{not}
 use borrow.Author.Tests.{le-leb, lt-leb, lt-ltb, le-ltb}
@@ -16,3 +15,7 @@ returns-then-due-today-2 c =
 pub returns : goal.returns
 returns c =
     rw (← c.day_number-today.ensures, lt-leb _ _ c.if-due-today.false, le-ltb _ _ c.if-due-today-2.false) (ap not c.matures.ensures)
+
+pub overflow_add-today : goal.overflow_add-today
+overflow_add-today c =
+    omega arith

@@ -1,7 +1,6 @@
 use Rattle.std.specs.Prelude.{◌≡◌, ℕ, List, []}
 use mathlib.Core.Path.{refl, ◌∙◌}
 use mathlib.Core.Option.{none}
-use borrow.Author.Rules.{rules}
 use native.Mathlib.Omega.{arith}
 use Rattle.money.specs.Causes.{first_of}
 use Rattle.money.specs.Money.{principal}
@@ -48,3 +47,7 @@ returns c kinds units =
       carried-out _ _ rows _ _ none-applies c.answered-2.ensures (rw (c.with_nets_and_trades.ensures, c.today_less-nets.ensures, c.principal_of.ensures)),
       c.put_trade.ensures.0 ∙ rw (c.begun_trade.ensures rows, none-applies) refl,
     )
+
+pub overflow_add-place : goal.overflow_add-place
+overflow_add-place c =
+    omega (arith, (fit-keeps _ _ _ c.requires.book.fits).few)

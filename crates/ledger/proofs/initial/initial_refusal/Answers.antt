@@ -1,10 +1,5 @@
-use Rattle.std.specs.Prelude.{◌≡◌, ℕ, List, ◌++◌}
 use mathlib.Core.Path.{refl}
-use borrow.Author.Rules.{rules}
-use Rattle.money.specs.Causes.{Cause, first_of, number_of}
-use Rattle.rules.specs.Initial.{product_causes, time_causes, count_causes, initial_causes}
-use Rattle.ledger.specs.Types.{Book}
-use Rattle.ledger.specs.Flat.{rows_of, book_of}
+use Rattle.rules.specs.Initial.{initial_causes}
 use Rattle.ledger.proofs.Column.{applies, passes, asked, asked-not}
 use Rattle.ledger.proofs.Groups.{group-applies, group-passes}
 use Rattle.ledger.proofs.Refusing.{no_rows}
@@ -30,7 +25,9 @@ returns-then-at_this_time-ne0 c kinds units =
 pub returns-then-bad_count : goal.returns-then-bad_count
 unfolding initial_causes
 returns-then-bad_count c kinds units =
-    past-time c kinds units _ _ (applies _ _ (asked c.bad_count.ensures c.if-bad_count.true))
+    group-passes _ refl (c.product_refusal-of_its_product.ensures kinds units) c.if-of_its_product-ne0.false _ _
+    (group-passes _ refl (c.time_refusal-at_this_time.ensures no_rows) c.if-at_this_time-ne0.false _ _
+    (applies _ _ (asked c.bad_count.ensures c.if-bad_count.true)))
 
 pub term_refusal-on_these_terms-requires : goal.term_refusal-on_these_terms-requires
 term_refusal-on_these_terms-requires c =
@@ -39,10 +36,10 @@ term_refusal-on_these_terms-requires c =
 pub returns-then-on_these_terms-ne0 : goal.returns-then-on_these_terms-ne0
 unfolding initial_causes
 returns-then-on_these_terms-ne0 c kinds units =
-    let book : (kinds units : List ℕ) → Book = λ kinds units. book_of c.args.scalars (rows_of c.args.held.now kinds units) in
-    let past-count : (kinds units : List ℕ) (bs : List Cause) (n : ℕ) → n ≡ number_of (first_of bs)
-    → (n ≡ number_of (first_of (product_causes (book kinds units) c.args.terms ++ (time_causes (book kinds units) ++ (count_causes c.args.terms ++ bs))))) = λ kinds units bs n e. past-time c kinds units _ _ (passes _ _ _ (asked-not c.bad_count.ensures c.if-bad_count.false) e) in
-    past-count kinds units _ _ (group-applies _ _ _ (c.term_refusal-on_these_terms.ensures no_rows) c.if-on_these_terms-ne0.true)
+    group-passes _ refl (c.product_refusal-of_its_product.ensures kinds units) c.if-of_its_product-ne0.false _ _
+    (group-passes _ refl (c.time_refusal-at_this_time.ensures no_rows) c.if-at_this_time-ne0.false _ _
+    (passes _ _ _ (asked-not c.bad_count.ensures c.if-bad_count.false)
+    (group-applies _ _ _ (c.term_refusal-on_these_terms.ensures no_rows) c.if-on_these_terms-ne0.true)))
 
 pub slot_refusal-for_a_slot-requires : goal.slot_refusal-for_a_slot-requires
 slot_refusal-for_a_slot-requires c =
@@ -51,12 +48,11 @@ slot_refusal-for_a_slot-requires c =
 pub returns-then-for_a_slot-ne0 : goal.returns-then-for_a_slot-ne0
 unfolding initial_causes
 returns-then-for_a_slot-ne0 c kinds units =
-    let book : (kinds units : List ℕ) → Book = λ kinds units. book_of c.args.scalars (rows_of c.args.held.now kinds units) in
-    let past-count : (kinds units : List ℕ) (bs : List Cause) (n : ℕ) → n ≡ number_of (first_of bs)
-    → (n ≡ number_of (first_of (product_causes (book kinds units) c.args.terms ++ (time_causes (book kinds units) ++ (count_causes c.args.terms ++ bs))))) = λ kinds units bs n e. past-time c kinds units _ _ (passes _ _ _ (asked-not c.bad_count.ensures c.if-bad_count.false) e) in
-    past-count kinds units _ _
+    group-passes _ refl (c.product_refusal-of_its_product.ensures kinds units) c.if-of_its_product-ne0.false _ _
+    (group-passes _ refl (c.time_refusal-at_this_time.ensures no_rows) c.if-at_this_time-ne0.false _ _
+    (passes _ _ _ (asked-not c.bad_count.ensures c.if-bad_count.false)
     (group-passes _ refl (c.term_refusal-on_these_terms.ensures no_rows) c.if-on_these_terms-ne0.false _ _
-    (group-applies _ _ _ (c.slot_refusal-for_a_slot.ensures no_rows) c.if-for_a_slot-ne0.true))
+    (group-applies _ _ _ (c.slot_refusal-for_a_slot.ensures no_rows) c.if-for_a_slot-ne0.true))))
 
 pub sheet_refusal-requires : goal.sheet_refusal-requires
 sheet_refusal-requires c =
@@ -65,10 +61,9 @@ sheet_refusal-requires c =
 pub returns : goal.returns
 unfolding initial_causes
 returns c kinds units =
-    let book : (kinds units : List ℕ) → Book = λ kinds units. book_of c.args.scalars (rows_of c.args.held.now kinds units) in
-    let past-count : (kinds units : List ℕ) (bs : List Cause) (n : ℕ) → n ≡ number_of (first_of bs)
-    → (n ≡ number_of (first_of (product_causes (book kinds units) c.args.terms ++ (time_causes (book kinds units) ++ (count_causes c.args.terms ++ bs))))) = λ kinds units bs n e. past-time c kinds units _ _ (passes _ _ _ (asked-not c.bad_count.ensures c.if-bad_count.false) e) in
-    past-count kinds units _ _
+    group-passes _ refl (c.product_refusal-of_its_product.ensures kinds units) c.if-of_its_product-ne0.false _ _
+    (group-passes _ refl (c.time_refusal-at_this_time.ensures no_rows) c.if-at_this_time-ne0.false _ _
+    (passes _ _ _ (asked-not c.bad_count.ensures c.if-bad_count.false)
     (group-passes _ refl (c.term_refusal-on_these_terms.ensures no_rows) c.if-on_these_terms-ne0.false _ _
     (group-passes _ refl (c.slot_refusal-for_a_slot.ensures no_rows) c.if-for_a_slot-ne0.false _ _
-    (c.sheet_refusal.ensures kinds units)))
+    (c.sheet_refusal.ensures kinds units)))))

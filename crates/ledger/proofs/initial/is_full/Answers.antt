@@ -1,4 +1,3 @@
-use borrow.Author.Rules.{rules}
 use Rattle.ledger.proofs.FlatLaws.{length-trades}
 use Rattle.ledger.proofs.initial.is_full.Goals as goal
 

@@ -1,6 +1,5 @@
 use Rattle.std.specs.Prelude.{◌≡◌, ℕ, ltb, take}
 use mathlib.Core.Path.{sym, ap, ◌∙◌}
-use borrow.Author.Rules.{rules}
 use native.Mathlib.Omega.{arith}
 use Rattle.ledger.specs.Flat.{trades_to, trades_of, place_of}
 use Rattle.ledger.proofs.FlatLaws.{length-trades, take-trades}

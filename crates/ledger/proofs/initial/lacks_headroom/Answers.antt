@@ -1,4 +1,3 @@
-use borrow.Author.Rules.{rules}
 use Rattle.rules.specs.Vault.{headroom}
 use Rattle.ledger.proofs.initial.lacks_headroom.Goals as goal
 

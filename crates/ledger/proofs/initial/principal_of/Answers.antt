@@ -1,4 +1,3 @@
-use borrow.Author.Rules.{rules}
 use Rattle.money.proofs.Answers.{initial-within}
 use Rattle.ledger.proofs.initial.principal_of.Goals as goal
 

@@ -1,4 +1,3 @@
-use borrow.Author.Rules.{rules}
 use borrow.Author.Tests.{eq-eqb, ne_eqb}
 use Rattle.ledger.proofs.Column.{column}
 use Rattle.ledger.proofs.initial.product_refusal.Goals as goal

@@ -1,4 +1,3 @@
-use borrow.Author.Rules.{rules}
 use native.Mathlib.Omega.{arith}
 use Rattle.money.specs.Money.{principal}
 use Rattle.ledger.proofs.Column.{column}

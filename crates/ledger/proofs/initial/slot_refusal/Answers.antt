@@ -1,4 +1,3 @@
-use borrow.Author.Rules.{rules}
 use Rattle.ledger.proofs.Column.{column}
 use Rattle.ledger.proofs.initial.slot_refusal.Goals as goal
 

@@ -1,4 +1,3 @@
-use borrow.Author.Rules.{rules}
 use mathlib.Core.Path.{refl, sym, ◌∙◌}
 use borrow.Author.Tests.{not-false}
 use Rattle.ledger.proofs.Fitting.{refuted, upheld}
@@ -21,9 +20,8 @@ pub returns : goal.returns
 returns c =
     let found = fit-in _ _ (upheld c.fitness_in-tested.ensures.0 (ap not c.if-not-fits.false)) in
     let done = c.entry_on.ensures in
-    let left = step-parts _ _ _ done.0 done.1 in
-(
+    let left = step-parts _ _ _ done.0 done.1 in (
       left ∙ sym (by-step _ _ found.whole _),
-      refused-keeps-all _ _ found.long c.held-1.given c.table-1.given (λ k. (c.type_inv.held k).fits) (λ k. (c.type_inv.held k).fits)
+      refused-keeps-all _ _ found.long c.entry_on.auto.held c.entry_on.auto.table (λ k. (c.slice_known-1.given k).fits) (λ k. (c.type_inv.held k).fits)
           (λ k. (c.slice_known-4-1.given k).fits) (λ k. (c.type_inv.table k).fits) _ _ left,
     )

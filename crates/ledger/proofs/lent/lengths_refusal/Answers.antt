@@ -1,4 +1,3 @@
-use borrow.Author.Rules.{rules}
 use Rattle.rules.specs.Listing.{length_causes}
 use Rattle.ledger.proofs.Column.{column}
 use Rattle.ledger.proofs.lent.lengths_refusal.Goals as goal

@@ -1,6 +1,5 @@
 use mathlib.Core.Path.{refl, sym}
 use native.Mathlib.Omega.{arith}
-use borrow.Author.Rules.{rules}
 use lib.Seq.{set_out}
 use Rattle.ledger.specs.Flat.{capacity, trades_of}
 use Rattle.ledger.proofs.FlatLaws.{length-trades}

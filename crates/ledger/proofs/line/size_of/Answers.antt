@@ -1,4 +1,3 @@
-use borrow.Author.Rules.{rules}
 use Rattle.ledger.proofs.LineLaws.{short-size, ample-size}
 use Rattle.ledger.proofs.line.size_of.Goals as goal
 

@@ -1,4 +1,3 @@
-use borrow.Author.Rules.{rules}
 use Rattle.std.specs.Prelude.{◌+◌, ℤ, nat_abs}
 use native.Mathlib.Omega.{arith}
 use Rattle.rules.specs.Vault.{headroom_of}

@@ -1,5 +1,4 @@
 use mathlib.Core.Path.{sym, ◌∙◌}
-use borrow.Author.Rules.{rules}
 use Rattle.rules.specs.Listing.{listing_causes}
 use Rattle.ledger.proofs.Column.{column, passes}
 use Rattle.ledger.proofs.listing.listing_refusal.Goals as goal

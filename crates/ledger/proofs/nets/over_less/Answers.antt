@@ -1,4 +1,3 @@
-use borrow.Author.Rules.{rules}
 use Rattle.std.specs.Prelude.{pos, ◌-ℤ◌}
 use Rattle.ledger.proofs.NetLaws.{over-is-unfit}
 use Rattle.ledger.proofs.nets.over_less.Goals as goal

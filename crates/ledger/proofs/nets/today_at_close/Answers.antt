@@ -1,5 +1,4 @@
 use native.Mathlib.Omega.{arith}
-use borrow.Author.Rules.{rules}
 use Rattle.std.specs.Prelude.{pos}
 use Rattle.ledger.proofs.NetLaws.{size-of-negative, size-of-sum, within-limit}
 use Rattle.ledger.proofs.nets.today_at_close.Goals as goal

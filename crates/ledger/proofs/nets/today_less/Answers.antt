@@ -1,5 +1,4 @@
 use native.Mathlib.Omega.{arith}
-use borrow.Author.Rules.{rules}
 use Rattle.ledger.proofs.NetLaws.{size-of-negative, within-limit}
 use Rattle.ledger.proofs.nets.today_less.Goals as goal
 

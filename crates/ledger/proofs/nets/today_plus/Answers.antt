@@ -1,5 +1,4 @@
 use native.Mathlib.Omega.{arith}
-use borrow.Author.Rules.{rules}
 use Rattle.ledger.proofs.NetLaws.{within-limit}
 use Rattle.ledger.proofs.nets.today_plus.Goals as goal
 

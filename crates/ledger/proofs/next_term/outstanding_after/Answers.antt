@@ -1,13 +1,10 @@
-use Rattle.std.specs.Prelude.{◌≡◌, ◌+◌, ◌-◌, ◌*◌, ◌≤◌, true}
-use mathlib.Core.Path.{ap, ◌∙◌}
+use Rattle.std.specs.Prelude.{◌≡◌, true}
+use mathlib.Core.Path.{ap}
 use native.Mathlib.Omega.{arith}
 use borrow.Author.Rules.{rules}
 use borrow.Author.Tests.{not-true, not-false}
-use Rattle.rules.specs.Trades.{outstanding}
-use Rattle.rules.specs.NextTerm.{starts, started_from}
-use Rattle.ledger.specs.Types.{Book}
-use Rattle.ledger.specs.Flat.{trade_at, trades_to}
-use Rattle.ledger.specs.NextTerm.{Meets}
+use Rattle.rules.specs.NextTerm.{starts}
+use Rattle.ledger.specs.Flat.{trade_at}
 use Rattle.ledger.proofs.RedemptionLaws.{kept-within}
 use Rattle.ledger.proofs.FlatLaws.{all-below}
 use Rattle.ledger.proofs.StartLaws.{no_more, with-at-most, none-started, started-more}

@@ -1,14 +1,13 @@
-use Rattle.std.specs.Prelude.{◌≡◌, ℕ, ◌+◌, ◌-◌, ◌≤◌, List}
-use mathlib.Core.Path.{sym, ap, subst, ◌∙◌}
+use Rattle.std.specs.Prelude.{◌≡◌, ℕ, ◌+◌, ◌-◌, ◌≤◌}
+use mathlib.Core.Path.{sym, ap, subst}
 use native.Mathlib.Omega.{arith}
-use borrow.Author.Rules.{rules}
 use Rattle.money.specs.declared.units.Sheets.{Sheets}
 use Rattle.money.specs.Units.{fen, sheets}
 use Rattle.rules.specs.Trades.{outstanding}
 use Rattle.rules.specs.NextTerm.{started_from}
 use Rattle.rules.specs.Close.{matured_sheets, matured_amount, outstanding_matured}
 use Rattle.rules.proofs.FitParts.{fit_parts, fit-securities, fits-cash, fit-postings}
-use Rattle.ledger.specs.Types.{Book, Trade}
+use Rattle.ledger.specs.Types.{Book}
 use Rattle.ledger.specs.Flat.{trades_to, trades_of, rows_of, book_of, Redeemable}
 use Rattle.ledger.specs.NextTerm.{Meets, Renewable}
 use Rattle.ledger.proofs.FitFacts.{fit-keeps, fit-redeemable}
@@ -88,3 +87,26 @@ returns c =
         day = renewable.day;
       },
     )
+
+pub overflow_sub-outstanding : goal.overflow_sub-outstanding
+overflow_sub-outstanding c =
+    let book : Book = book_of c.args.scalars (rows_of c.args.held.now c.args.kinds.now c.args.units.now) in
+    let day : ℕ = c.day_number-today.result in
+    let sheets-matured : c.maturity_plan-redeemed.result.sheets ≡ sheets (matured_sheets book (trades_of c.args.table.now)) = sheets-planned c.args.calendar.now book c.args.table.now c.requires.book.fits day c.payment_day-payment.result c.day_number-today.ensures c.payment_day-payment.ensures c.maturity_plan-redeemed.result c.maturity_plan-redeemed.ensures in
+    let enough : c.maturity_plan-redeemed.result.sheets.0 ≤ c.args.known.outstanding.0 = omega (arith, ap (λ (q : Sheets). q.0) sheets-matured, matured-left c.args.calendar.now book c.args.table.now c.requires.book.fits, c.requires.sheets) in
+    enough
+
+pub overflow_sub-more : goal.overflow_sub-more
+overflow_sub-more c =
+    let book : Book = book_of c.args.scalars (rows_of c.args.held.now c.args.kinds.now c.args.units.now) in
+    let met : Meets c.args.calendar.now book c.closing_of-closing.result c.args.held.now = c.closing_of-closing.ensures.0 c.args.calendar.now c.args.kinds.now c.args.units.now c.day_number-today.ensures c.payment_day-payment.ensures in
+    let left_is : c.outstanding_after-left.result.0 ≡ ((c.args.known.outstanding.0 - c.maturity_plan-redeemed.result.sheets.0)) + outstanding (started_from c.args.calendar.now book ((c.args.known.outstanding.0 - c.maturity_plan-redeemed.result.sheets.0)) (trades_to c.args.table.now c.args.scalars.trades)) = c.outstanding_after-left.ensures book met in
+    omega (arith, left_is)
+
+pub overflow_mul-started : goal.overflow_mul-started
+overflow_mul-started c =
+    let book : Book = book_of c.args.scalars (rows_of c.args.held.now c.args.kinds.now c.args.units.now) in
+    let met : Meets c.args.calendar.now book c.closing_of-closing.result c.args.held.now = c.closing_of-closing.ensures.0 c.args.calendar.now c.args.kinds.now c.args.units.now c.day_number-today.ensures c.payment_day-payment.ensures in
+    let left_is : c.outstanding_after-left.result.0 ≡ ((c.args.known.outstanding.0 - c.maturity_plan-redeemed.result.sheets.0)) + outstanding (started_from c.args.calendar.now book ((c.args.known.outstanding.0 - c.maturity_plan-redeemed.result.sheets.0)) (trades_to c.args.table.now c.args.scalars.trades)) = c.outstanding_after-left.ensures book met in
+    let few-started : outstanding (started_from c.args.calendar.now book ((c.args.known.outstanding.0 - c.maturity_plan-redeemed.result.sheets.0)) (trades_to c.args.table.now c.args.scalars.trades)) ≤ 10000000000 = started-bound c.args.calendar.now book c.args.table.now c.requires.book.fits ((c.args.known.outstanding.0 - c.maturity_plan-redeemed.result.sheets.0)) in
+    omega (arith, left_is, few-started)

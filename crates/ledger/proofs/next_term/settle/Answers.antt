@@ -1,14 +1,13 @@
-use Rattle.std.specs.Prelude.{◌≡◌, ℕ, ◌+◌, ◌-◌, ◌*◌, ◌≤◌, true, List, map, length}
+use Rattle.std.specs.Prelude.{◌≡◌, ℕ, true, List, map}
 use mathlib.Core.Path.{refl, sym, ap, subst, ◌∙◌}
 use native.Mathlib.Omega.{arith}
 use borrow.Author.Rules.{rules}
 use borrow.Author.Tests.{not-true, not-false}
-use Rattle.rules.specs.Trades.{outstanding, matured, over}
+use Rattle.rules.specs.Trades.{matured, over}
 use Rattle.rules.specs.Fit.{trade_fit}
-use Rattle.rules.specs.NextTerm.{starts, with_started, left_from, started_from}
-use Rattle.ledger.specs.Types.{Book, Trade}
-use Rattle.ledger.specs.Flat.{trade_at, trades_to, trades_of, capacity}
-use Rattle.ledger.specs.NextTerm.{Meets}
+use Rattle.rules.specs.NextTerm.{starts, with_started}
+use Rattle.ledger.specs.Types.{Trade}
+use Rattle.ledger.specs.Flat.{trade_at, trades_to, trades_of}
 use Rattle.ledger.proofs.RedemptionLaws.{kept-within}
 use Rattle.ledger.proofs.FlatLaws.{all-below}
 use Rattle.ledger.proofs.StartLaws.{all-matured, with-at-most, none-started, started-more, none-settled, trade-to-come, slot-more}
@@ -50,7 +49,7 @@ loop-place-preserved c =
     let trade = trade_at c.loop-place.table c.loop-place.place in
     let within = kept-within _ _ c.requires.1 c.loop-place.place c.loop-place-test.true in (
       search rules,
-      c.settle_slot-sum.auto.held.1.0 ∙ inv.1,
+      c.settle_slot-sum.auto.table ∙ inv.1,
       omega (arith, inv.2, (c.settle_slot-sum.ensures some.book some.met).0, with-at-most (starts c.args.calendar.now some.book c.loop-place.sum.0 trade) some.book trade c.loop-place.sum.0, ap (λ (t : Trade). t.sheets.0) as_before, within.sheets),
       λ book met.
           let done = c.settle_slot-sum.ensures book met in
@@ -64,4 +63,4 @@ loop-place-preserved c =
 pub returns : goal.returns
 returns c book met =
     let e : c.loop-place.place ≡ c.args.count = omega arith in
-    rw e c.1
+    rw e at (c.loop-place.invariant.3 book met).1

@@ -1,7 +1,6 @@
-use Rattle.std.specs.Prelude.{◌≡◌, ◌+◌, set}
+use Rattle.std.specs.Prelude.{◌+◌, set}
 use mathlib.Core.Path.{refl, ap, ◌∙◌}
 use native.Mathlib.Omega.{arith}
-use borrow.Author.Rules.{rules}
 use Rattle.rules.specs.Days.{day_number}
 use Rattle.rules.specs.Trades.{matured}
 use Rattle.rules.proofs.TradeLaws.{maturing-le}
@@ -23,4 +22,17 @@ returns c book met =
     rw (upheld (c.starts.ensures book met) (ap not c.if-not-starts.false)) (
       ap (λ (t : Trade). c.args.outstanding.0 + t.sheets.0) next,
       c.put_trade.ensures.0 ∙ ap (set (trades_of c.args.table.now) c.args.place) next,
+    )
+
+pub overflow_add-sum : goal.overflow_add-sum
+overflow_add-sum c =
+    let next = c.next_term-next in
+    let some = c.requires.0 in
+    let trade = trade_at c.args.table.now c.args.place in
+    omega (
+      arith,
+      ap (λ (t : Trade). t.sheets.0) (next.ensures some.book some.met),
+      maturing-le (day_number some.book.standing.day) trade,
+      (within_of trade c.requires.1.fits).sheets,
+      c.requires.2,
     )

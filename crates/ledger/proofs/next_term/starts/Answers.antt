@@ -1,14 +1,13 @@
 use Rattle.std.specs.Prelude.{◌≡◌, ℕ, ◌≤◌, pos}
 use mathlib.Core.Path.{sym, ap, ◌∙◌}
 use native.Mathlib.Omega.{arith}
-use borrow.Author.Rules.{rules}
 use borrow.Author.Tests.{not-true, not-false}
 use lib.Signed.{lt_z}
 use Rattle.money.specs.declared.units.Sheets.{Sheets}
 use Rattle.rules.specs.Book.{posting_at}
 use Rattle.rules.specs.Trades.{maturing}
 use Rattle.rules.specs.Vault.{headroom_of}
-use Rattle.ledger.specs.Types.{Trade, Posting}
+use Rattle.ledger.specs.Types.{Posting}
 use Rattle.ledger.specs.Flat.{trade_at, postings_of}
 use Rattle.ledger.proofs.RedemptionLaws.{within_of}
 use Rattle.ledger.proofs.StartLaws.{posting-within, none-due, not-posted, no-maturity, by-headroom}
@@ -53,3 +52,19 @@ returns c book met =
     by-headroom _ book _ _ met _ _ some-due c.requires.2 some-posted
     (posting-within _ c.requires.0.posted _ known).term (sym (rw term_of at c.matures.ensures) ∙ not-false _ (ap not c.if-not-matures.false)) _
     (c.above_headroom-lacks.ensures ∙ ap (λ (n : ℕ). lt_z (headroom_of c.args.closing.size.0 c.args.closing.value.0 c.args.outstanding.0) (pos n)) matures)
+
+pub overflow_cast-next : goal.overflow_cast-next
+overflow_cast-next c =
+    let known : (trade_at c.args.table.now c.args.place).product ≤ 16 = (within_of (trade_at c.args.table.now c.args.place) c.requires.1.fits).product in
+    let posted : c.posting_of-posting.result ≡ posting_at (postings_of c.args.held.now) (trade_at c.args.table.now c.args.place).product = c.posting_of-posting.ensures ∙ ap (posting_at (postings_of c.args.held.now)) c.product_at-product.ensures in
+    let term_of : c.posting_of-posting.result.term ≡ (posting_at (postings_of c.args.held.now) (trade_at c.args.table.now c.args.place).product).term = ap (λ (p : Posting). p.term) posted in
+    let short : c.posting_of-posting.result.term ≤ 365 = omega (arith, term_of, (posting-within _ c.requires.0.posted _ known).term) in
+    omega (arith, short)
+
+pub overflow_add-next : goal.overflow_add-next
+overflow_add-next c =
+    let known : (trade_at c.args.table.now c.args.place).product ≤ 16 = (within_of (trade_at c.args.table.now c.args.place) c.requires.1.fits).product in
+    let posted : c.posting_of-posting.result ≡ posting_at (postings_of c.args.held.now) (trade_at c.args.table.now c.args.place).product = c.posting_of-posting.ensures ∙ ap (posting_at (postings_of c.args.held.now)) c.product_at-product.ensures in
+    let term_of : c.posting_of-posting.result.term ≡ (posting_at (postings_of c.args.held.now) (trade_at c.args.table.now c.args.place).product).term = ap (λ (p : Posting). p.term) posted in
+    let short : c.posting_of-posting.result.term ≤ 365 = omega (arith, term_of, (posting-within _ c.requires.0.posted _ known).term) in
+    omega (arith, short, c.requires.0.day)

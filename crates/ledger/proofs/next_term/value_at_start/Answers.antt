@@ -1,5 +1,4 @@
 use native.Mathlib.Omega.{arith}
-use borrow.Author.Rules.{rules}
 use Rattle.rules.proofs.FitParts.{cash-fits}
 use Rattle.ledger.proofs.next_term.value_at_start.Goals as goal
 

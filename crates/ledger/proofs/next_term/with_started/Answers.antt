@@ -1,11 +1,9 @@
 use Rattle.std.specs.Prelude.{◌≡◌}
-use mathlib.Core.Path.{sym, ap, ◌∙◌}
+use mathlib.Core.Path.{ap, ◌∙◌}
 use native.Mathlib.Omega.{arith}
-use borrow.Author.Rules.{rules}
 use Rattle.money.specs.declared.units.Sheets.{Sheets}
 use Rattle.rules.specs.Trades.{maturing}
 use Rattle.rules.proofs.TradeLaws.{maturing-le}
-use Rattle.ledger.specs.Types.{Trade}
 use Rattle.ledger.specs.Flat.{trade_at}
 use Rattle.ledger.proofs.Fitting.{refuted, upheld}
 use Rattle.ledger.proofs.RedemptionLaws.{within_of}
@@ -20,3 +18,8 @@ pub returns : goal.returns
 returns c book met =
     let matures : c.maturing_at-due.result.0 ≡ maturing c.args.closing.today (trade_at c.args.table.now c.args.place) = ap (λ (q : Sheets). q.0) c.maturing_at-due.ensures in
     rw (upheld (c.starts.ensures book met) (ap not c.if-not-starts.false)) (omega (arith, matures ∙ ap (λ d. maturing d (trade_at c.args.table.now c.args.place)) met.today))
+
+pub overflow_add-sum : goal.overflow_add-sum
+overflow_add-sum c =
+    let matures : c.maturing_at-due.result.0 ≡ maturing c.args.closing.today (trade_at c.args.table.now c.args.place) = ap (λ (q : Sheets). q.0) c.maturing_at-due.ensures in
+    omega (arith, matures, maturing-le c.args.closing.today (trade_at c.args.table.now c.args.place), (within_of (trade_at c.args.table.now c.args.place) c.requires.1.fits).sheets, c.requires.2)

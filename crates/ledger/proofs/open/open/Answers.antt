@@ -1,4 +1,3 @@
-use borrow.Author.Rules.{rules}
 use Rattle.ledger.specs.Flat.{rows_of}
 use Rattle.ledger.proofs.OpenLaws.{forgotten, kept-posted}
 use Rattle.ledger.proofs.open.open.Goals as goal

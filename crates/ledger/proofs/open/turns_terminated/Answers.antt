@@ -1,5 +1,4 @@
 use mathlib.Core.Path.{refl, sym, ap, ◌∙◌}
-use borrow.Author.Rules.{rules}
 use Rattle.rules.specs.Book.{is_terminated}
 use Rattle.rules.specs.Open.{turns_terminated}
 use Rattle.ledger.proofs.open.turns_terminated.Goals as goal

@@ -1,10 +1,10 @@
-use Rattle.std.specs.Prelude.{◌≡◌, ◌-◌, ◌<◌, ◌≤◌, length}
+use Rattle.std.specs.Prelude.{◌≡◌, ◌<◌, length}
 use mathlib.Core.Path.{refl, ◌∙◌}
 use native.Mathlib.Omega.{arith}
 use borrow.Author.Rules.{rules}
 use Rattle.ledger.specs.Flat.{trades_of, capacity}
 use Rattle.ledger.proofs.FlatLaws.{length-trades}
-use Rattle.ledger.proofs.PackingLaws.{freed, none-freed, one-freed, all-freed}
+use Rattle.ledger.proofs.PackingLaws.{none-freed, one-freed, all-freed}
 use Rattle.ledger.proofs.packing.free_from.Goals as goal
 
 pub loop-i-init : goal.loop-i-init
@@ -19,7 +19,7 @@ pub loop-i-preserved : goal.loop-i-preserved
 loop-i-preserved c =
     let loop = c.loop-i in
     let inside : loop.i < length (trades_of c.args.table.now) = omega (arith, c.requires.1, length-trades c.args.table.now (capacity c.args.table.now)) in
-    (search rules, search rules, c.free.auto.0 ∙ loop.inv.2, c.free.ensures ∙ rw loop.inv.3 (one-freed _ _ _ loop.inv.0 inside))
+    (search rules, search rules, c.free.auto.table ∙ loop.invariant.2, c.free.ensures ∙ rw loop.invariant.3 (one-freed _ _ _ loop.invariant.0 inside))
 
 pub returns : goal.returns
 returns c =

@@ -1,10 +1,6 @@
-use Rattle.std.proofs.Common.{◌-◌, ◌≡◌, ◌≤◌, ◌++◌, length, take, drop, replicate, slice_set, ℕ, ◌+◌, ◌*◌, ◌<◌}
-use Rattle.rules.specs.Trades.{no_trade, remaining, packed}
-use Rattle.ledger.specs.Flat.{HasSlots, HasSlot, trades_to, trades_of}
-use mathlib.Core.Path.{refl, ◌∙◌}
-use Rattle.ledger.specs.Flat.{capacity}
-use Rattle.ledger.proofs.FlatLaws.{length-trades}
-use Rattle.ledger.proofs.PackingLaws.{freed, none-freed, one-freed, all-freed}
+use Rattle.std.proofs.Common.{◌-◌, ◌≡◌, ◌≤◌, length}
+use Rattle.ledger.specs.Flat.{trades_of}
+use Rattle.ledger.proofs.PackingLaws.{freed}
 use Rattle.ledger.proofs.packing.free_from.Given as goal
 
 abbrev pub invariant-loop-i : goal.invariant-loop-i

@@ -1,4 +1,3 @@
-use borrow.Author.Rules.{rules}
 use Rattle.ledger.proofs.pay.falls_short.Goals as goal
 
 pub returns : goal.returns

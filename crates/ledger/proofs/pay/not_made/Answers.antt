@@ -1,4 +1,3 @@
-use borrow.Author.Rules.{rules}
 use Rattle.rules.specs.Pay.{after_pay}
 use Rattle.ledger.proofs.pay.not_made.Goals as goal
 

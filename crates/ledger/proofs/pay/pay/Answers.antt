@@ -2,7 +2,6 @@ use Rattle.std.specs.Prelude.{◌≡◌, true, []}
 use mathlib.Core.Path.{sym, ◌∙◌}
 use mathlib.Core.Option.{none}
 use native.Mathlib.Omega.{arith}
-use borrow.Author.Rules.{rules}
 use borrow.Author.Tests.{ltb-false}
 use Rattle.money.specs.Causes.{first_of}
 use Rattle.rules.specs.Fit.{net_fit, nets_fit}

@@ -1,4 +1,3 @@
-use borrow.Author.Rules.{rules}
 use Rattle.rules.specs.Pay.{pay_causes}
 use Rattle.ledger.proofs.Column.{column}
 use Rattle.ledger.proofs.pay.pay_refusal.Goals as goal

@@ -1,5 +1,4 @@
 use mathlib.Core.Path.{sym, ◌∙◌}
-use borrow.Author.Rules.{rules}
 use Rattle.ledger.proofs.PayLaws.{client-holds, own-holds}
 use Rattle.ledger.proofs.pay.payer_holds.Goals as goal
 

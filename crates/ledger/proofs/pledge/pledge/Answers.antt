@@ -2,7 +2,6 @@ use Rattle.std.specs.Prelude.{◌≡◌, ℕ, ◌+◌, ◌<◌, ◌≤◌, List,
 use mathlib.Core.Path.{refl}
 use mathlib.Core.Option.{none}
 use native.Mathlib.Omega.{arith}
-use borrow.Author.Rules.{rules}
 use borrow.Author.Tests.{ltb-false, eq-eqb, ne_eqb}
 use Rattle.money.specs.Limits.{unit_limit}
 use Rattle.money.specs.Causes.{first_of}
@@ -76,3 +75,12 @@ returns c kinds amounts =
     let row = security-at-row a.held.now a.scalars.guarantee a.kind security-kind in
     carried-out _ _ (rows_of a.held.now kinds amounts) _ _ (none-applies kinds amounts) c.answered-2.ensures
     (rw (c.put_arrived.ensures.0, c.put_arrived.ensures.1, ne_eqb _ _ c.if-kind-eq-CASH_KIND.false, row))
+
+pub overflow_sub-own : goal.overflow_sub-own
+unfolding event_causes
+overflow_sub-own c =
+    let none-applies : (kinds amounts : List ℕ) → (let a = c.args in first_of (pledge_causes (book_of a.scalars (rows_of a.held.now kinds amounts)) a.kind a.units) ≡ none) = λ kinds amounts. let a = c.args in
+    done [] (book_of a.scalars (rows_of a.held.now kinds amounts)) [] (Pledge a.kind a.units) _ (c.pledge_refusal-refusal.ensures kinds amounts) c.if-refusal-ne0.false in
+    let covered : (let a = c.args in a.units ≤ a.scalars.cash.own.0) = let a = c.args in
+    owned (book_of a.scalars (rows_of a.held.now [] [])) a.kind a.units (none-applies [] []) c.if-kind-eq-CASH_KIND.true in
+    omega (arith, covered)

@@ -1,6 +1,5 @@
 use Rattle.std.specs.Prelude.{◌+◌, ◌<◌, ◌≤◌}
 use native.Mathlib.Omega.{arith}
-use borrow.Author.Rules.{rules}
 use Rattle.money.specs.Limits.{unit_limit}
 use Rattle.rules.specs.Vault.{security_at}
 use Rattle.rules.specs.Pledge.{pledge_causes}
@@ -58,3 +57,9 @@ returns c kinds amounts =
     let security = security_at (vault_of a.scalars.guarantee (securities_of a.held.now)) a.kind in
     let room : security.effective + security.arriving + a.units ≤ unit_limit = rw row (omega (arith, within, c.units_of.ensures)) in
     search column depth 20
+
+pub overflow_sub-units_of : goal.overflow_sub-units_of
+overflow_sub-units_of c =
+    let within : c.units_of.result ≤ unit_limit = let known : c.args.kind < 32 = omega arith in
+    omega (arith, c.units_of.ensures, (row_fits c.args.held.now c.args.scalars.guarantee c.requires.1 c.args.kind known).units) in
+    omega (arith, within)

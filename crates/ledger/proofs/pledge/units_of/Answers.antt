@@ -1,8 +1,11 @@
 use native.Mathlib.Omega.{arith}
-use borrow.Author.Rules.{rules}
 use Rattle.ledger.proofs.HeldFit.{row_fits}
 use Rattle.ledger.proofs.pledge.units_of.Goals as goal
 
 pub returns : goal.returns
 returns c =
     rw c.security_at-security.ensures
+
+pub overflow_add-result : goal.overflow_add-result
+overflow_add-result c =
+    rw c.security_at-security.ensures (omega (arith, (row_fits c.args.held.now c.args.guarantee c.requires.2 c.args.kind c.requires.0).units))

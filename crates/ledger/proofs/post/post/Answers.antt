@@ -1,7 +1,6 @@
-use Rattle.std.specs.Prelude.{◌≡◌, ℕ, ◌<◌, List, []}
+use Rattle.std.specs.Prelude.{◌≡◌, ℕ, ◌<◌, []}
 use mathlib.Core.Path.{refl}
 use mathlib.Core.Option.{none}
-use borrow.Author.Rules.{rules}
 use borrow.Author.Tests.{leb-false}
 use Rattle.money.specs.Causes.{first_of}
 use Rattle.rules.specs.Limits.{product_limit}

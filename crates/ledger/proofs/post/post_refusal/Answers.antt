@@ -1,4 +1,3 @@
-use borrow.Author.Rules.{rules}
 use Rattle.rules.specs.Post.{post_causes}
 use Rattle.ledger.proofs.Column.{column}
 use Rattle.ledger.proofs.post.post_refusal.Goals as goal

@@ -1,12 +1,10 @@
-use Rattle.std.specs.Prelude.{◌≡◌, ℕ, ◌-◌, ◌<◌, ◌≤◌, false, not}
-use mathlib.Core.Path.{sym, ap, ◌∙◌}
+use Rattle.std.specs.Prelude.{not}
+use mathlib.Core.Path.{sym, ap}
 use mathlib.Core.Bool.{false≢true}
 use native.Mathlib.Omega.{arith}
 use borrow.Author.Count.{below_more}
 use borrow.Author.Rules.{rules}
 use borrow.Author.Tests.{eq-eqb}
-use Rattle.rules.specs.Book.{is_posted}
-use Rattle.ledger.specs.Flat.{posting_in}
 use Rattle.ledger.proofs.postings.any_posted.Goals as goal
 
 pub loop-number-init : goal.loop-number-init
@@ -19,7 +17,7 @@ returns-then-posting-ne0 c e =
 
 pub loop-number-preserved : goal.loop-number-preserved
 loop-number-preserved c =
-    (search rules, below_more _ _ c.loop-number.invariant.1 (ap not (eq-eqb _ 0 (rw c.posting_at-posting.ensures c c.if-posting-ne0.false))))
+    (search rules, below_more _ _ c.loop-number.invariant.1 (ap not (eq-eqb _ 0 (rw c.posting_at-posting.ensures at c.if-posting-ne0.false))))
 
 pub returns : goal.returns
 returns c e k h =

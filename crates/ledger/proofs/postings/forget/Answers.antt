@@ -1,10 +1,9 @@
-use Rattle.std.specs.Prelude.{◌≡◌, ℕ, ◌-◌, ◌<◌, ◌≤◌, length, get_or}
-use mathlib.Core.Path.{refl, ◌∙◌}
+use mathlib.Core.Path.{refl}
 use native.Mathlib.Omega.{arith}
 use borrow.Author.Rules.{rules}
 use lib.ListN.{length-set}
 use Rattle.ledger.proofs.HeldLaws.{securities-kept}
-use Rattle.ledger.proofs.PostingLaws.{Forgotten, none-forgotten, one-forgotten, zeros-post-nothing}
+use Rattle.ledger.proofs.PostingLaws.{none-forgotten, one-forgotten, zeros-post-nothing}
 use Rattle.ledger.proofs.postings.forget.Goals as goal
 
 pub loop-at-init : goal.loop-at-init

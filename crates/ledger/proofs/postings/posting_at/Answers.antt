@@ -1,4 +1,3 @@
-use borrow.Author.Rules.{rules}
 use Rattle.ledger.specs.Flat.{posting_in}
 use Rattle.ledger.proofs.postings.posting_at.Goals as goal
 

@@ -1,4 +1,3 @@
-use borrow.Author.Rules.{rules}
 use borrow.Author.Tests.{le-leb, lt-leb}
 use Rattle.ledger.proofs.SumLaws.{test-fails, test-holds, none_left}
 use Rattle.ledger.proofs.postings.posting_fit.Goals as goal

@@ -1,6 +1,5 @@
 use mathlib.Core.Path.{refl, sym, ◌∙◌}
 use native.Mathlib.Omega.{arith}
-use borrow.Author.Rules.{rules}
 use Rattle.ledger.proofs.PostingLaws.{posting-for}
 use Rattle.ledger.proofs.postings.posting_of.Goals as goal
 
@@ -15,3 +14,7 @@ posting_at-requires c =
 pub returns : goal.returns
 returns c =
     c.posting_at.ensures ∙ sym (posting-for c.args.held.now c.args.product c.if-product-eq0.false c.requires.0)
+
+pub overflow_sub-product : goal.overflow_sub-product
+overflow_sub-product c =
+    omega arith

@@ -1,5 +1,4 @@
 use native.Mathlib.Omega.{arith}
-use borrow.Author.Rules.{rules}
 use lib.ListN.{length-set}
 use Rattle.ledger.proofs.HeldLaws.{securities-kept}
 use Rattle.ledger.proofs.PostingLaws.{posting-put, before-posting}

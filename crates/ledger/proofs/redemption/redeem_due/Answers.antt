@@ -1,9 +1,8 @@
-use Rattle.std.specs.Prelude.{◌≡◌, ◌-◌, ◌≤◌, map, length}
+use Rattle.std.specs.Prelude.{◌≡◌}
 use mathlib.Core.Path.{refl, ◌∙◌}
 use native.Mathlib.Omega.{arith}
 use borrow.Author.Rules.{rules}
-use Rattle.rules.specs.Trades.{matured, over}
-use Rattle.ledger.specs.Flat.{trades_to, trades_of}
+use Rattle.rules.specs.Trades.{matured}
 use Rattle.ledger.proofs.RedemptionLaws.{none-changed, map-one-more}
 use Rattle.ledger.proofs.redemption.redeem_due.Goals as goal
 
@@ -18,7 +17,7 @@ redeem_one-requires c =
 pub loop-i-preserved : goal.loop-i-preserved
 loop-i-preserved c =
     let loop = c.loop-i in
-    (search rules, c.redeem_one.auto.0 ∙ loop.inv.1, map-one-more (matured c.args.by) _ _ _ _ (omega (arith, c.requires)) loop.inv.1 loop.inv.2 c.redeem_one.ensures)
+    (search rules, c.redeem_one.auto.table ∙ loop.invariant.1, map-one-more (matured c.args.by) _ _ _ _ (omega (arith, c.requires)) loop.invariant.1 loop.invariant.2 c.redeem_one.ensures)
 
 pub returns : goal.returns
 returns c =

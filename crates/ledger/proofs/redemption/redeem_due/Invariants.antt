@@ -1,11 +1,6 @@
-use Rattle.std.proofs.Common.{◌-◌, ◌≡◌, ◌≤◌, map, slice_set, ℕ, ◌+◌, ◌*◌, ◌<◌, length}
-use Rattle.money.specs.Limits.{trade_limit, price_limit, term_limit}
-use Rattle.money.specs.Units.{fen, sheets}
-use Rattle.rules.specs.Trades.{redeemed, maturing, matured, over}
-use Rattle.ledger.specs.Flat.{HasSlots, HasSlot, trade_at, trades_to, trades_of, Redeemable}
-use Rattle.ledger.specs.Redemption.{maturity_of, termination_of}
-use mathlib.Core.Path.{refl, ◌∙◌}
-use Rattle.ledger.proofs.RedemptionLaws.{none-changed, map-one-more}
+use Rattle.std.proofs.Common.{◌-◌, ◌≡◌, ◌≤◌, map, length}
+use Rattle.rules.specs.Trades.{matured, over}
+use Rattle.ledger.specs.Flat.{trades_to, trades_of}
 use Rattle.ledger.proofs.redemption.redeem_due.Given as goal
 
 abbrev pub invariant-loop-i : goal.invariant-loop-i

@@ -1,7 +1,6 @@
 use Rattle.std.specs.Prelude.{◌-◌}
 use mathlib.Core.Path.{sym, ap}
 use native.Mathlib.Omega.{arith}
-use borrow.Author.Rules.{rules}
 use Rattle.money.proofs.Answers.{redemption-within}
 use Rattle.money.proofs.Bounds.{no-sheets}
 use Rattle.money.specs.Units.{fen}
@@ -13,5 +12,9 @@ returns-then-count-eq0 c =
 
 pub returns : goal.returns
 returns c =
-    let within = redemption-within c.args.count c.args.price (c.args.payment - c.first_at.result) c.requires.0.1 c.requires.0.2 (omega (arith, c.requires.1.1)) in
+    let within = redemption-within c.args.count c.args.price (c.args.payment - c.first_at.result) c.requires.has_slot.1 c.requires.has_slot.2 (omega (arith, c.requires.place_bound.1)) in
     rw (c.redemption-answer.ensures, within, c.first_at.ensures)
+
+pub overflow_sub-days : goal.overflow_sub-days
+overflow_sub-days c =
+    omega (arith, c.first_at.ensures, c.requires.place_bound.0)

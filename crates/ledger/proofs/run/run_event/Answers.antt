@@ -1,14 +1,13 @@
-use borrow.Author.Rules.{rules}
 use Rattle.std.specs.Prelude.{◌≡◌, true, length}
 use mathlib.Core.Path.{ap, ◌∙◌}
 use native.Mathlib.Omega.{arith}
 use lib.Seq.{sets}
 use Rattle.rules.specs.Fit.{fit}
 use Rattle.rules.specs.Entry.{decoded}
-use Rattle.rules.specs.Step.{Outcome, step}
+use Rattle.rules.specs.Step.{step}
 use Rattle.rules.proofs.FitParts.{fit_parts}
 use Rattle.ledger.specs.Figures.{Figures}
-use Rattle.ledger.specs.Flat.{Rows, rows_of, book_of, applied_at, trades_of, applied_of}
+use Rattle.ledger.specs.Flat.{rows_of, book_of, applied_at, trades_of, applied_of}
 use Rattle.ledger.proofs.FigureLaws.{moved-after}
 use Rattle.ledger.proofs.LineLaws.{line-told}
 use Rattle.ledger.proofs.RunLaws.{fit-after}
@@ -20,22 +19,21 @@ entry_on-done-requires c =
 
 pub figures_after-next-requires : goal.figures_after-next-requires
 figures_after-next-requires c =
-    let still-fit : fit c.args.calendar.now (book_of c.entry_on-done.result.scalars (rows_of c.entry_on-done.new.1.1.0 c.entry_on-done.new.1.1.1.0 c.entry_on-done.new.1.1.1.1.0)) (trades_of c.entry_on-done.new.1.1.1.1.1.0) ≡ true = fit-after _ _ _ _ c.requires.0.fits (applied_at c.entry_on-done.result (rows_of c.entry_on-done.new.1.1.0 c.entry_on-done.new.1.1.1.0 c.entry_on-done.new.1.1.1.1.0)) _ c.entry_on-done.ensures.0 c.entry_on-done.ensures.1 in
-    let still-long : length c.entry_on-done.new.1.1.0 ≡ 160 = c.entry_on-done.auto.1.1.0 ∙ c.requires.0.held-long in
-    (
-      record { kinds = c.entry_on-done.new.scalars.1.1.0; units = c.entry_on-done.new.scalars.1.1.1.0; held-long = still-long; few = c.requires.0.few; fits = still-fit },
-      moved-after _ _ _ _ c.requires.0.fits _ c.requires.1 (applied_at c.entry_on-done.result (rows_of c.entry_on-done.new.1.1.0 c.entry_on-done.new.1.1.1.0 c.entry_on-done.new.1.1.1.1.0)) _ c.entry_on-done.ensures.0 c.entry_on-done.ensures.1,
+    let still-fit : fit c.args.calendar.now (book_of c.entry_on-done.result.scalars (rows_of c.entry_on-done.new.held c.entry_on-done.new.kinds c.entry_on-done.new.units)) (trades_of c.entry_on-done.new.table) ≡ true = fit-after _ _ _ _ c.requires.0.fits (applied_at c.entry_on-done.result (rows_of c.entry_on-done.new.held c.entry_on-done.new.kinds c.entry_on-done.new.units)) _ c.entry_on-done.ensures.0 c.entry_on-done.ensures.1 in
+    let still-long : length c.entry_on-done.new.held ≡ 160 = c.entry_on-done.auto.held ∙ c.requires.0.held-long in (
+      record { kinds = c.entry_on-done.new.kinds; units = c.entry_on-done.new.units; held-long = still-long; few = c.requires.0.few; fits = still-fit },
+      moved-after _ _ _ _ c.requires.0.fits _ c.requires.1 (applied_at c.entry_on-done.result (rows_of c.entry_on-done.new.held c.entry_on-done.new.kinds c.entry_on-done.new.units)) _ c.entry_on-done.ensures.0 c.entry_on-done.ensures.1,
     )
 
 pub write_line-requires : goal.write_line-requires
 write_line-requires c =
-    let still-fit : fit c.args.calendar.now (book_of c.entry_on-done.result.scalars (rows_of c.entry_on-done.new.1.1.0 c.entry_on-done.new.1.1.1.0 c.entry_on-done.new.1.1.1.1.0)) (trades_of c.entry_on-done.new.1.1.1.1.1.0) ≡ true = fit-after _ _ _ _ c.requires.0.fits (applied_at c.entry_on-done.result (rows_of c.entry_on-done.new.1.1.0 c.entry_on-done.new.1.1.1.0 c.entry_on-done.new.1.1.1.1.0)) _ c.entry_on-done.ensures.0 c.entry_on-done.ensures.1 in
+    let still-fit : fit c.args.calendar.now (book_of c.entry_on-done.result.scalars (rows_of c.entry_on-done.new.held c.entry_on-done.new.kinds c.entry_on-done.new.units)) (trades_of c.entry_on-done.new.table) ≡ true = fit-after _ _ _ _ c.requires.0.fits (applied_at c.entry_on-done.result (rows_of c.entry_on-done.new.held c.entry_on-done.new.kinds c.entry_on-done.new.units)) _ c.entry_on-done.ensures.0 c.entry_on-done.ensures.1 in
     (c.requires.2, omega (arith, (fit_parts _ _ _ still-fit).cash.sum))
 
 pub returns : goal.returns
 returns c =
-    let applied : applied_at c.entry_on-done.result (rows_of c.entry_on-done.new.1.1.0 c.entry_on-done.new.1.1.1.0 c.entry_on-done.new.1.1.1.1.0) ≡ applied_of (step c.args.calendar.now (book_of c.args.scalars (rows_of c.args.held.now c.args.kinds.now c.args.units.now)) (trades_of c.args.table.now) (decoded c.args.bytes.now)) = rw c.decode-entry.ensures.0 at c.entry_on-done.ensures.0 in
-    let tabled : trades_of c.entry_on-done.new.1.1.1.1.1.0 ≡ (step c.args.calendar.now (book_of c.args.scalars (rows_of c.args.held.now c.args.kinds.now c.args.units.now)) (trades_of c.args.table.now) (decoded c.args.bytes.now)).table = rw c.decode-entry.ensures.0 at c.entry_on-done.ensures.1 in
+    let applied : applied_at c.entry_on-done.result (rows_of c.entry_on-done.new.held c.entry_on-done.new.kinds c.entry_on-done.new.units) ≡ applied_of (step c.args.calendar.now (book_of c.args.scalars (rows_of c.args.held.now c.args.kinds.now c.args.units.now)) (trades_of c.args.table.now) (decoded c.args.bytes.now)) = rw c.decode-entry.ensures.0 at c.entry_on-done.ensures.0 in
+    let tabled : trades_of c.entry_on-done.new.table ≡ (step c.args.calendar.now (book_of c.args.scalars (rows_of c.args.held.now c.args.kinds.now c.args.units.now)) (trades_of c.args.table.now) (decoded c.args.bytes.now)).table = rw c.decode-entry.ensures.0 at c.entry_on-done.ensures.1 in
     let a = c.args in
     let e = applied in
     let t = tabled in

@@ -1,10 +1,7 @@
-use Rattle.std.specs.Prelude.{◌≡◌, ◌+◌, ◌-◌, ◌*◌, length, take, drop}
+use Rattle.std.specs.Prelude.{◌≡◌, ◌+◌, ◌-◌, ◌*◌, take, drop}
 use mathlib.Core.Path.{refl, ap, ◌∙◌}
 use native.Mathlib.Omega.{arith}
-use borrow.Author.Rules.{rules}
-use Rattle.ledger.specs.Flat.{rows_of, book_of, trades_of}
-use Rattle.ledger.specs.Figures.{figures_at}
-use Rattle.ledger.proofs.RunLaws.{RunTo, none-run, next-run, all-run}
+use Rattle.ledger.proofs.RunLaws.{none-run, next-run, all-run}
 use Rattle.ledger.proofs.run.run_events.Goals as goal
 
 pub figures_of-figures-requires : goal.figures_of-figures-requires
@@ -27,17 +24,37 @@ pub loop-k-preserved : goal.loop-k-preserved
 loop-k-preserved c =
     let called = c.run_event-turn in
     let turn = c.loop-k in
-    let inv = turn.inv in
+    let inv = turn.invariant in
     let length-40 : 40 ≡ (turn.k * 40 + 40) - turn.k * 40 = omega arith in (
       next-run _ _ _ _ _ _ _ _ _ _ inv.0 c.loop-k-test.true (omega (arith, c.requires.1)) _
           (ap (λ n. take n (drop (turn.k * 40) c.args.events.now)) length-40)
-          _ _ _ called.auto.bytes.1.1.1.1.1.0 called.ensures.0 called.ensures.1 called.ensures.2,
-      called.auto.bytes.1.1.0 ∙ inv.1,
-      called.auto.bytes.1.1.1.0 ∙ inv.2,
-      called.auto.bytes.1.1.1.1.0 ∙ inv.3,
+          _ _ _ called.auto.table called.ensures.0 called.ensures.1 called.ensures.2,
+      called.auto.held ∙ inv.1,
+      called.auto.kinds ∙ inv.2,
+      called.auto.units ∙ inv.3,
       called.ensures.3,
     )
 
 pub returns : goal.returns
 returns c =
     all-run _ _ _ _ _ _ _ _ _ _ refl c.loop-k.invariant.0 c.loop-k-test.false (omega (arith, c.requires.1))
+
+pub overflow_mul-bytes : goal.overflow_mul-bytes
+overflow_mul-bytes c =
+    record { fits = omega (arith, c.loop-k-test.true, c.requires.1) }
+
+pub overflow_mul-bytes-in-loop-k : goal.overflow_mul-bytes-in-loop-k
+overflow_mul-bytes-in-loop-k c =
+    record { fits = omega (arith, c.loop-k-test.true, c.requires.1) }
+
+pub overflow_add-bytes : goal.overflow_add-bytes
+overflow_add-bytes c =
+    record { fits = omega (arith, c.loop-k-test.true, c.requires.1) }
+
+pub overflow_mul-k : goal.overflow_mul-k
+overflow_mul-k c =
+    record { fits = omega (arith, c.loop-k-test.true, c.requires.1) }
+
+pub overflow_add-k : goal.overflow_add-k
+overflow_add-k c =
+    omega (arith, c.loop-k-test.true, c.requires.1)

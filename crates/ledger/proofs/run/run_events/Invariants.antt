@@ -1,13 +1,7 @@
-use Rattle.std.proofs.Common.{◌-◌, ◌≡◌, ◌+◌, ◌*◌, ◌/◌, ◌≤◌, length, ℕ, ◌<◌}
-use Rattle.std.proofs.lemmas.List.Edits.{sets}
-use Rattle.rules.specs.Entry.{event_bytes, decoded}
-use Rattle.rules.specs.Step.{step}
-use Rattle.rules.specs.Listing.{line_numbers, line_of, run_done}
-use Rattle.ledger.specs.Flat.{FitsWhole, rows_of, book_of, trades_of}
+use Rattle.std.proofs.Common.{◌-◌, ◌≡◌, length}
+use Rattle.ledger.specs.Flat.{rows_of, book_of, trades_of}
 use Rattle.ledger.specs.Figures.{figures_at}
-use Rattle.std.specs.Prelude.{take, drop}
-use mathlib.Core.Path.{refl, ap, ◌∙◌}
-use Rattle.ledger.proofs.RunLaws.{RunTo, none-run, next-run, all-run}
+use Rattle.ledger.proofs.RunLaws.{RunTo}
 use Rattle.ledger.proofs.run.run_events.Given as goal
 
 abbrev pub invariant-loop-k : goal.invariant-loop-k

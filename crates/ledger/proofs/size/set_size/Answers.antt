@@ -1,7 +1,6 @@
 use Rattle.std.specs.Prelude.{◌≡◌, List, []}
 use mathlib.Core.Path.{refl}
 use mathlib.Core.Option.{none}
-use borrow.Author.Rules.{rules}
 use Rattle.money.specs.Causes.{first_of}
 use Rattle.rules.specs.Size.{size_causes, sized}
 use Rattle.rules.specs.Step.{event_causes}

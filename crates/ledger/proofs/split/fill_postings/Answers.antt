@@ -1,12 +1,10 @@
-use Rattle.std.specs.Prelude.{◌≡◌, ◌-◌, ◌≤◌, length}
+use Rattle.std.specs.Prelude.{◌≡◌}
 use mathlib.Core.Path.{refl, ◌∙◌}
 use native.Mathlib.Omega.{arith}
 use borrow.Author.Rules.{rules}
-use lib.ListN.{length-map}
 use Rattle.rules.specs.Book.{no_posting}
-use Rattle.ledger.specs.Flat.{securities_of, postings_of}
 use Rattle.ledger.proofs.PostingLaws.{length-postings}
-use Rattle.ledger.proofs.RowLaws.{Filled, none_filled, one-filled, all-filled}
+use Rattle.ledger.proofs.RowLaws.{none_filled, one-filled, all-filled}
 use Rattle.ledger.proofs.split.fill_postings.Goals as goal
 
 pub loop-number-init : goal.loop-number-init

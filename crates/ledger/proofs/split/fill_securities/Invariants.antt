@@ -1,10 +1,7 @@
-use Rattle.std.proofs.Common.{◌-◌, ◌≡◌, length, ℕ, ◌+◌, ◌*◌, ◌<◌, ◌≤◌}
-use Rattle.ledger.specs.Flat.{securities_of, postings_of, scalars_of, rows_of, book_of, held_length}
-use mathlib.Core.Path.{refl, ◌∙◌}
-use lib.ListN.{length-map}
+use Rattle.std.proofs.Common.{◌-◌, ◌≡◌, length, ◌≤◌}
+use Rattle.ledger.specs.Flat.{securities_of}
 use Rattle.rules.specs.Book.{no_security}
-use Rattle.ledger.proofs.HeldLaws.{length-securities}
-use Rattle.ledger.proofs.RowLaws.{Filled, none_filled, one-filled, all-filled}
+use Rattle.ledger.proofs.RowLaws.{Filled}
 use Rattle.ledger.proofs.split.fill_securities.Given as goal
 
 abbrev pub invariant-loop-kind : goal.invariant-loop-kind

@@ -1,12 +1,11 @@
-use Rattle.std.specs.Prelude.{◌≡◌, ◌-◌, ◌≤◌, length}
+use Rattle.std.specs.Prelude.{◌≡◌}
 use mathlib.Core.Path.{sym, ◌∙◌}
 use native.Mathlib.Omega.{arith}
 use borrow.Author.Rules.{rules}
 use lib.ListN.{length-set}
 use Rattle.rules.specs.Book.{no_posting}
-use Rattle.ledger.specs.Flat.{postings_of}
 use Rattle.ledger.proofs.PostingLaws.{length-postings, posting-below}
-use Rattle.ledger.proofs.RowLaws.{Filled, none_filled, one-filled, all-filled}
+use Rattle.ledger.proofs.RowLaws.{none_filled, one-filled, all-filled}
 use Rattle.ledger.proofs.split.postings_from.Goals as goal
 
 pub loop-number-init : goal.loop-number-init
@@ -14,12 +13,11 @@ loop-number-init c =
     (omega arith, search rules, none_filled no_posting _ _)
 
 pub loop-number-preserved : goal.loop-number-preserved
-loop-number-preserved c =
-    (
-      search rules,
-      simp length-set c.loop-number.invariant.1,
-      one-filled no_posting _ _ _ _ (omega (arith, c.loop-number.invariant.1)) c.loop-number.invariant.2 (c.posting_at.ensures ∙ sym (posting-below _ _ c.loop-number-test.true)),
-    )
+loop-number-preserved c = (
+  search rules,
+  simp length-set c.loop-number.invariant.1,
+  one-filled no_posting _ _ _ _ (omega (arith, c.loop-number.invariant.1)) c.loop-number.invariant.2 (c.posting_at.ensures ∙ sym (posting-below _ _ c.loop-number-test.true)),
+)
 
 pub returns : goal.returns
 returns c =

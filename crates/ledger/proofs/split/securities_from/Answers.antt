@@ -1,12 +1,11 @@
-use Rattle.std.specs.Prelude.{◌≡◌, ◌-◌, ◌≤◌, length}
+use Rattle.std.specs.Prelude.{◌≡◌}
 use mathlib.Core.Path.{sym, ◌∙◌}
 use native.Mathlib.Omega.{arith}
 use borrow.Author.Rules.{rules}
 use lib.ListN.{length-set}
 use Rattle.rules.specs.Book.{no_security}
-use Rattle.ledger.specs.Flat.{securities_of}
 use Rattle.ledger.proofs.HeldLaws.{length-securities, security-below}
-use Rattle.ledger.proofs.RowLaws.{Filled, none_filled, one-filled, all-filled}
+use Rattle.ledger.proofs.RowLaws.{none_filled, one-filled, all-filled}
 use Rattle.ledger.proofs.split.securities_from.Goals as goal
 
 pub loop-kind-init : goal.loop-kind-init

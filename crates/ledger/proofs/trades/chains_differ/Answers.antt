@@ -1,5 +1,4 @@
 use mathlib.Core.Path.{sym}
-use borrow.Author.Rules.{rules}
 use Rattle.ledger.proofs.trades.chains_differ.Goals as goal
 
 pub returns-in-Differs : goal.returns-in-Differs

@@ -1,7 +1,5 @@
-use Rattle.std.specs.Prelude.{◌-◌}
 use native.Mathlib.Omega.{arith}
-use borrow.Author.Rules.{rules}
-use Rattle.ledger.proofs.PlaceLaws.{Numbered, none-numbered, next-numbered, all-numbered}
+use Rattle.ledger.proofs.PlaceLaws.{none-numbered, next-numbered, all-numbered}
 use Rattle.ledger.proofs.trades.contract_numbers.Goals as goal
 
 pub loop-i-init : goal.loop-i-init

@@ -1,8 +1,7 @@
-use Rattle.std.specs.Prelude.{◌≡◌, ◌-◌, ◌≤◌, true}
+use Rattle.std.specs.Prelude.{◌≡◌}
 use mathlib.Core.Path.{sym}
 use native.Mathlib.Omega.{arith}
 use borrow.Author.Rules.{rules}
-use Rattle.rules.specs.Trades.{differ}
 use Rattle.ledger.specs.Flat.{trade_at, trades_to, place_of}
 use Rattle.ledger.proofs.PlaceLaws.{differ-none, differ-one-more, differ-fails}
 use Rattle.ledger.proofs.trades.few_differ.Goals as goal

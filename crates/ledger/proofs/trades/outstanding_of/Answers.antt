@@ -1,11 +1,10 @@
-use Rattle.std.specs.Prelude.{◌≡◌, ◌+◌, ◌-◌, ◌≤◌}
+use Rattle.std.specs.Prelude.{◌≡◌, ◌+◌, ◌≤◌}
 use mathlib.Core.Path.{sym}
 use native.Mathlib.Omega.{arith}
 use borrow.Author.Rules.{rules}
 use Rattle.money.specs.Limits.{trade_limit}
-use Rattle.rules.specs.Trades.{total, outstanding}
+use Rattle.rules.specs.Trades.{outstanding}
 use Rattle.rules.proofs.TradeLaws.{sheets_of}
-use Rattle.ledger.specs.Flat.{trades_to}
 use Rattle.ledger.proofs.FlatLaws.{total-none, total-more, next-at-most}
 use Rattle.ledger.proofs.RedemptionLaws.{kept-within}
 use Rattle.ledger.proofs.trades.outstanding_of.Goals as goal
@@ -26,3 +25,10 @@ pub returns : goal.returns
 unfolding outstanding
 returns c =
     let e : c.loop-place.place ≡ c.args.count = omega arith in rw e at c.loop-place.invariant.1
+
+pub overflow_add-sum : goal.overflow_add-sum
+overflow_add-sum c =
+    let room : c.loop-place.sum + c.sheets_at-left.result.0 ≤ 409600000000 = let kept = c.requires in
+    let bound = next-at-most sheets_of _ trade_limit _ (λ i l. (kept-within _ _ kept i l).sheets) _ c.loop-place-test.true in
+    rw (c.loop-place.invariant.1, c.sheets_at-left.ensures) (omega (arith, bound, kept.few)) in
+    omega (arith, room)

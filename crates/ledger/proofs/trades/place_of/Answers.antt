@@ -1,9 +1,9 @@
-use Rattle.std.specs.Prelude.{◌≡◌, ◌-◌, ◌≤◌, false}
+use Rattle.std.specs.Prelude.{◌≡◌}
 use mathlib.Core.Path.{sym, ◌∙◌}
 use native.Mathlib.Omega.{arith}
 use borrow.Author.Rules.{rules}
-use Rattle.rules.specs.Trades.{same, on_table}
-use Rattle.ledger.specs.Flat.{trade_at, trades_to}
+use Rattle.rules.specs.Trades.{same}
+use Rattle.ledger.specs.Flat.{trade_at}
 use Rattle.ledger.proofs.PlaceLaws.{off-none, off-one-more, place_found, place-past}
 use Rattle.ledger.proofs.trades.place_of.Goals as goal
 

@@ -1,20 +1,11 @@
-use Rattle.std.proofs.Common.{◌-◌, ◌≡◌, ◌<◌, ◌≤◌, max, length, replicate, ℕ, ◌+◌, ◌*◌}
-use Rattle.rules.specs.Limits.{capacity_limit}
-use Rattle.rules.specs.Trades.{outstanding, differ}
+use Rattle.std.proofs.Common.{◌-◌, ◌≡◌, ◌≤◌, ◌*◌}
 use Rattle.rules.specs.Fit.{trade_fit}
-use Rattle.ledger.specs.Flat.{HasSlots, HasSlot, trade_at, trades_to, place_of, contract_numbers, Kept}
-use Rattle.ledger.specs.Figures.{summary_of}
-use Rattle.ledger.specs.Chains.{most_buckets}
+use Rattle.ledger.specs.Flat.{trades_to}
 use Rattle.std.specs.Prelude.{true}
-use mathlib.Core.Path.{sym, ◌∙◌}
-use Rattle.money.specs.Limits.{trade_limit}
 use Rattle.rules.specs.Trades.{total}
 use Rattle.rules.specs.Fit.{all_trades}
 use Rattle.rules.proofs.TradeLaws.{sheets_of}
 use Rattle.ledger.specs.Figures.{latest_first}
-use Rattle.ledger.proofs.FlatLaws.{all_none, all_more, all-fails, total-none, total-more}
-use Rattle.ledger.proofs.RedemptionLaws.{within_of}
-use Rattle.ledger.proofs.SummaryLaws.{latest-none, latest-more, summary-fit, summary-unfit}
 use Rattle.ledger.proofs.trades.summary_of.Given as goal
 
 abbrev pub invariant-loop-i : goal.invariant-loop-i

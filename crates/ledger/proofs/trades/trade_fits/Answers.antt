@@ -1,6 +1,5 @@
 use Rattle.std.specs.Prelude.{◌≡◌, Bool, true, false, cond, leb}
 use mathlib.Core.Path.{refl}
-use borrow.Author.Rules.{rules}
 use borrow.Author.Tests.{le-leb, lt-leb}
 use Rattle.money.specs.Limits.{trade_limit, price_limit}
 use Rattle.rules.specs.Folds.{every}

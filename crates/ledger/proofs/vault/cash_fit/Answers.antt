@@ -1,5 +1,4 @@
 use native.Mathlib.Omega.{arith}
-use borrow.Author.Rules.{rules}
 use Rattle.ledger.proofs.VaultLaws.{cash-over, cash-frozen, cash-within}
 use Rattle.ledger.proofs.vault.cash_fit.Goals as goal
 

@@ -1,5 +1,4 @@
 use native.Mathlib.Omega.{arith}
-use borrow.Author.Rules.{rules}
 use borrow.Author.Tests.{eq-eqb, ne_eqb}
 use Rattle.ledger.proofs.HeldLaws.{security-at-row}
 use Rattle.ledger.proofs.vault.frozen_of.Goals as goal

@@ -1,10 +1,8 @@
-use Rattle.std.specs.Prelude.{◌≡◌, ℕ, ◌-◌, ◌<◌, ◌≤◌, true, get_or}
 use mathlib.Core.Path.{sym, ◌∙◌}
 use native.Mathlib.Omega.{arith}
 use borrow.Author.Count.{below_more}
 use borrow.Author.Rules.{rules}
 use borrow.Author.Tests.{not-true, not-false}
-use Rattle.rules.specs.Fit.{application_fit}
 use Rattle.ledger.proofs.VaultLaws.{too_many, one-unfit, all_fit}
 use mathlib.Core.Path.{ap}
 use Rattle.std.specs.Prelude.{not}

@@ -1,5 +1,4 @@
 use mathlib.Core.Path.{ap, ◌∙◌}
-use borrow.Author.Rules.{rules}
 use Rattle.money.proofs.Answers.{worth-within}
 use Rattle.money.specs.declared.collateral.Worth.{Worth}
 use Rattle.ledger.proofs.vault.worth.Goals as goal

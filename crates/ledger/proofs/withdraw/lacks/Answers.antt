@@ -1,7 +1,6 @@
 use mathlib.Core.Path.{sym}
 use Rattle.std.specs.Prelude.{ℕ, ◌+◌, ◌≤◌, cond}
 use native.Mathlib.Omega.{arith}
-use borrow.Author.Rules.{rules}
 use borrow.Author.Tests.{lt-ltb}
 use Rattle.money.specs.Limits.{unit_limit, cash_limit}
 use Rattle.money.specs.Collateral.{unit_limit_of}
@@ -25,3 +24,22 @@ returns-then-effective-count c =
 pub returns : goal.returns
 returns c =
     rw (c.applied_of.ensures, c.frozen_of-frozen.ensures, c.effective_of-effective.ensures)
+
+pub overflow_add-result : goal.overflow_add-result
+overflow_add-result c =
+    let sound : Sound (vault_of c.args.scalars.guarantee (securities_of c.args.held.now)) = let cash = cash-fits _ _ c.requires.0.cash in
+    (c.requires.0.securities, cash.free, omega (arith, cash.sum)) in
+    let few : c.args.count + c.frozen_of-frozen.result ≤ 20000000000000000 = let a = c.args in
+    let kind = kind_fits (vault_of a.scalars.guarantee (securities_of a.held.now)) sound a.kind c.requires.1 in
+    omega (arith, kind.free, kind.within, limit-within a.kind, c.frozen_of-frozen.ensures, c.effective_of-effective.ensures, c.if-effective-count.false) in
+    omega (arith, few)
+
+pub overflow_add-result-2 : goal.overflow_add-result-2
+overflow_add-result-2 c =
+    let sound : Sound (vault_of c.args.scalars.guarantee (securities_of c.args.held.now)) = let cash = cash-fits _ _ c.requires.0.cash in
+    (c.requires.0.securities, cash.free, omega (arith, cash.sum)) in
+    let few : c.args.count + c.frozen_of-frozen.result ≤ 20000000000000000 = let a = c.args in
+    let kind = kind_fits (vault_of a.scalars.guarantee (securities_of a.held.now)) sound a.kind c.requires.1 in
+    omega (arith, kind.free, kind.within, limit-within a.kind, c.frozen_of-frozen.ensures, c.effective_of-effective.ensures, c.if-effective-count.false) in
+    let a = c.args in
+    omega (arith, few, c.applied_of.ensures, applied-bound (book_of a.scalars (rows_of a.held.now a.kinds.now a.units.now)).withdrawals c.requires.0.withdrawals a.kind)

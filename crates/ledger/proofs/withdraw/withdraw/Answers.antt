@@ -2,9 +2,7 @@ use Rattle.std.specs.Prelude.{◌≡◌, ℕ, ◌<◌, []}
 use mathlib.Core.Path.{refl}
 use mathlib.Core.Option.{none}
 use native.Mathlib.Omega.{arith}
-use borrow.Author.Rules.{rules}
 use borrow.Author.Tests.{leb-false}
-use lib.ListN.{length-set}
 use Rattle.money.specs.Causes.{first_of}
 use Rattle.rules.specs.Limits.{application_limit}
 use Rattle.rules.specs.Withdraw.{withdraw_causes, withdrawn}
@@ -48,3 +46,21 @@ returns c =
     done [] (book_of a.scalars (rows_of a.held.now a.kinds.now a.units.now)) [] (Withdraw a.kind a.count) _ c.withdraw_refusal-refusal.ensures c.if-refusal-ne0.false in
     let a = c.args in
     carried-out _ _ (rows_of a.held.now a.kinds.now a.units.now) _ _ none-applies c.answered-2.ensures refl
+
+pub offset_bounds-units-at : goal.offset_bounds-units-at
+unfolding event_causes
+offset_bounds-units-at c =
+    let none-applies : (let a = c.args in first_of (withdraw_causes (book_of a.scalars (rows_of a.held.now a.kinds.now a.units.now)) a.kind a.count) ≡ none) = let a = c.args in
+    done [] (book_of a.scalars (rows_of a.held.now a.kinds.now a.units.now)) [] (Withdraw a.kind a.count) _ c.withdraw_refusal-refusal.ensures c.if-refusal-ne0.false in
+    let room : c.args.scalars.applications < 128 = let a = c.args in
+    room-for-one (book_of a.scalars (rows_of a.held.now a.kinds.now a.units.now)) a.kind a.count none-applies in
+    omega (arith, room)
+
+pub overflow_add-next : goal.overflow_add-next
+unfolding event_causes
+overflow_add-next c =
+    let none-applies : (let a = c.args in first_of (withdraw_causes (book_of a.scalars (rows_of a.held.now a.kinds.now a.units.now)) a.kind a.count) ≡ none) = let a = c.args in
+    done [] (book_of a.scalars (rows_of a.held.now a.kinds.now a.units.now)) [] (Withdraw a.kind a.count) _ c.withdraw_refusal-refusal.ensures c.if-refusal-ne0.false in
+    let room : c.args.scalars.applications < 128 = let a = c.args in
+    room-for-one (book_of a.scalars (rows_of a.held.now a.kinds.now a.units.now)) a.kind a.count none-applies in
+    omega (arith, room)

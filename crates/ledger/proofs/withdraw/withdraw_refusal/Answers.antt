@@ -1,4 +1,3 @@
-use borrow.Author.Rules.{rules}
 use Rattle.rules.specs.Withdraw.{withdraw_causes}
 use Rattle.ledger.proofs.Column.{column}
 use Rattle.ledger.proofs.withdraw.withdraw_refusal.Goals as goal
