@@ -1,10 +1,4 @@
 -- The laws that the book's proofs share.
 
--- walks by hand of the functions over a lent table
+-- trades that are copied one after another
 pub mod TableLaws
-pub mod WalkAgain
-pub mod WalkFront
-pub mod WalkArray
-pub mod WalkCopies
-pub mod WalkLoop
-pub mod WalkApply
