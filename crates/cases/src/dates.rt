@@ -11,6 +11,7 @@ fn day(year: u32, month: u32, day: u32) -> Found
     money::dates::day_of(Date { year, month, day })
 }
 
+#[tactic(auto, unfolding(money::specs::Dates::day_answer, money::specs::Dates::exists, money::specs::Dates::in_years, money::specs::Dates::day_of, money::specs::Dates::start_after, money::specs::Dates::length_after, money::specs::Dates::month_length, money::specs::Dates::february, money::specs::Dates::leap, money::specs::Causes::first_of))]
 pub fn to_days() {
     let first = day(2_000, 1, 1);
     check::expect(first.day == 0);
@@ -22,6 +23,7 @@ pub fn to_days() {
     check::expect(none.number == 19);
 }
 
+#[tactic(auto, unfolding(money::specs::Dates::date_answer, money::specs::Dates::date_of, money::specs::Dates::next_date, money::specs::Dates::month_length, money::specs::Dates::february, money::specs::Dates::leap, money::specs::Causes::first_of))]
 pub fn to_dates() {
     let leap = money::dates::date_of(59);
     check::expect(leap.date.day == 29);

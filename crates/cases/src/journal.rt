@@ -12,6 +12,7 @@ fn digit(number: u64, place: usize) -> u8
     ((number >> (place * 8)) % 256) as u8
 }
 
+#[tactic(auto, using(crate::proofs::JournalLaws::written))]
 fn write_numbers(bytes: &mut [u8], at: usize, numbers: &[u64])
     requires { at + length numbers.now * 8 ≤ length bytes.old }
     ensures { bytes.new ≡ sets bytes.old at (bytes_of numbers.now) }
@@ -24,6 +25,7 @@ fn write_numbers(bytes: &mut [u8], at: usize, numbers: &[u64])
 }
 
 // Whether the numbers from a place on are those of the lines.
+#[tactic(auto, using(crate::proofs::JournalLaws::none_yet), unfolding(crate::specs::Journal::same_numbers, money::specs::Causes::first_of))]
 fn same_numbers(numbers: &[u64], at: usize, lines: &[u64]) -> bool
     requires { at + length lines.now ≤ length numbers.now }
     ensures { result ≡ same_numbers numbers.now at lines.now }
@@ -39,6 +41,7 @@ fn same_numbers(numbers: &[u64], at: usize, lines: &[u64]) -> bool
 }
 
 // The bytes of a journal in three parts, at the front of a buffer for 48 events.
+#[tactic(auto, using(crate::proofs::JournalLaws::joined))]
 fn encoded(start: &[u64], earlier: &[u64], events: &[u64]) -> [u8; 1_920]
     requires { length start.now + length earlier.now + length events.now ≤ 240 }
     ensures { take ((length start.now + length earlier.now + length events.now) * 8) result
@@ -52,6 +55,7 @@ fn encoded(start: &[u64], earlier: &[u64], events: &[u64]) -> [u8; 1_920]
 }
 
 // The expectation that the listing of a journal in three parts ends with these lines.
+#[tactic(auto, using(crate::proofs::JournalLaws::ending))]
 pub fn expect_lines(calendar: &[u32], start: &[u64], earlier: &[u64], events: &[u64], lines: &[u64])
     requires { let all = length start.now + length earlier.now + length events.now in
         (length calendar.now ≤ 1200)

@@ -37,6 +37,7 @@ fn apply(calendar: &[u32], book: Book, mut table: [Trade; 4], entry: Entry) -> L
 }
 
 // Eight events on a fresh book, each accepted: the trade stands in the first slot.
+#[tactic(auto, using(crate::proofs::LedgerLaws::reached, crate::proofs::LedgerLaws::onward, crate::proofs::LedgerLaws::accepted, crate::proofs::LedgerLaws::asked, crate::proofs::LedgerLaws::first_slot), unfolding(crate::proofs::LedgerLaws::reached, money::specs::Causes::first_of))]
 pub fn first_trade() {
     let terms = Terms {
         contract: Contract(7),

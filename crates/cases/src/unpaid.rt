@@ -56,6 +56,7 @@ const EVENINGS_LINES: [u64; 16 * 7] = [
     0, 0, 61, 0, 5_600_000, 2_400_000, 0,
 ];
 
+#[tactic(auto, unfolding(crate::specs::Journal::ends_with, money::specs::Causes::first_of))]
 pub fn evenings() {
     journal::expect_lines(&DAILY, &ACCOUNTS, &COVER, &EVENINGS, &EVENINGS_LINES);
 }
