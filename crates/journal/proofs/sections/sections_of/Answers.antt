@@ -1,4 +1,4 @@
-use Rattle.std.proofs.Common.{ap, ◌∙◌}
+use Rattle.std.proofs.Common.{ap, ◌∙◌, arith}
 use Rattle.journal.proofs.SectionLaws.{no-calendar, to-events, no-events, to_end, some_left, none_left}
 use Rattle.journal.proofs.sections.sections_of.Goals as goal
 
@@ -23,7 +23,7 @@ returns-then-left-gt0 c =
     let ended = ap (λ r. r.now) c.past-reader-2.ensures.0 ∙ moved in
     let here = to-events bytes _ _ _ c.new-reader.ensures.1 (rw same at c.in-Whole.ensures) (rw same at c.past-reader.ensures.1) in
     let there = to_end bytes _ _ here _ _ (rw moved at c.in-Whole-section.ensures) (rw moved at c.past-reader-2.ensures.1) in
-    some_left bytes _ _ here _ _ _ there (rw ended at c.left.ensures) c.if-left-gt0.true
+    some_left bytes _ _ here _ _ _ there (rw ended at c.left.ensures) (omega (arith, c.if-left-gt0.true))
 
 pub returns : goal.returns
 returns c =
@@ -33,4 +33,4 @@ returns c =
     let ended = ap (λ r. r.now) c.past-reader-2.ensures.0 ∙ moved in
     let here = to-events bytes _ _ _ c.new-reader.ensures.1 (rw same at c.in-Whole.ensures) (rw same at c.past-reader.ensures.1) in
     let there = to_end bytes _ _ here _ _ (rw moved at c.in-Whole-section.ensures) (rw moved at c.past-reader-2.ensures.1) in
-    none_left bytes _ _ here _ _ _ there (rw ended at c.left.ensures) c.if-left-gt0.false
+    none_left bytes _ _ here _ _ _ there (rw ended at c.left.ensures) (omega (arith, c.if-left-gt0.false))
