@@ -1,12 +1,10 @@
 use Rattle.std.specs.Prelude.{◌≡◌, take}
 use mathlib.Core.Path.{sym, ◌∙◌}
 use native.Mathlib.Omega.{arith}
-use borrow.Author.Rules.{rules}
 use lib.Seq.{length-take-le}
 use Rattle.journal.specs.Sections.{calendar_of}
 use Rattle.journal.proofs.SectionLaws.{Journal, journal, no-journal}
 use Rattle.journal.proofs.ListingLaws.{refused-text, words-taken, length-calendar, events-taken, length-events, journal-text}
-use borrow.Author.Rules.{rules}
 use Rattle.journal.proofs.listing.write_listing.Goals as goal
 
 pub returns-in_default : goal.returns-in_default

@@ -1,12 +1,9 @@
 use Rattle.std.specs.Prelude.{◌≡◌, ℕ, ◌/◌, length, replicate}
-use mathlib.Core.Path.{sym}
 use native.Mathlib.Omega.{arith}
-use borrow.Author.Rules.{rules}
 use lib.ListN.{length-replicate}
 use Rattle.rules.specs.Listing.{listing_of}
 use Rattle.journal.specs.Listing.{lines_text}
 use Rattle.journal.proofs.LineLaws.{run-clear, run-lines}
-use borrow.Author.Rules.{rules}
 use Rattle.journal.proofs.listing.write_run.Goals as goal
 
 pub returns : goal.returns
