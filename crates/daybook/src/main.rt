@@ -5,7 +5,7 @@ ghost use Rattle.std.specs.Prelude.{◌≤◌, length, take};
 ghost use Rattle.daybook.specs.Input.{Lists, Within};
 
 use journal::limits::{JOURNAL_BYTES, LISTING_BYTES};
-use libc::{STDERR_FILENO, STDIN_FILENO, STDOUT_FILENO};
+use std::io::Read;
 
 // One byte more than the longest journal has, so that a longer input, cut there, is still malformed.
 const INPUT_BYTES: usize = JOURNAL_BYTES + 1;
@@ -21,16 +21,14 @@ enum Input {
 }
 
 // The input to its end, or as much of it as there is room for.
-fn read_input(room: &mut [u8]) -> Input
+fn read_input<R: Read>(input: &mut R, room: &mut [u8]) -> Input
     ensures { Within result (length room.new) }
 {
     let mut size = 0;
     while size < room.len() {
-        let got = libc::read(STDIN_FILENO, &mut room[size..]);
-        if got < 0 {
+        let Ok(count) = input.read(&mut room[size..]) else {
             return Input::Failed;
-        }
-        let count = io::count(got, &room[size..]);
+        };
         if count == 0 {
             return Input::Read(size);
         }
@@ -49,15 +47,15 @@ fn write_input(read: &[u8; INPUT_BYTES], size: usize, text: &mut [u8; TEXT_BYTES
     written.length
 }
 
-fn main() {
+fn main(rt: HostRuntime) {
     let mut read = [0; INPUT_BYTES];
-    let Input::Read(size) = read_input(&mut read) else {
-        io::write_all(STDERR_FILENO, b"daybook: cannot read standard input\n");
+    let Input::Read(size) = read_input(&mut rt.stdin(), &mut read) else {
+        let _ = eprintln!(rt; "daybook: cannot read standard input");
         return;
     };
     let mut text = [0; TEXT_BYTES];
     let length = write_input(&read, size, &mut text);
-    if !io::write_all(STDOUT_FILENO, &text[..length]) {
-        io::write_all(STDERR_FILENO, b"daybook: cannot write the listing\n");
+    if rt.write_all(&text[..length]).is_err() {
+        let _ = eprintln!(rt; "daybook: cannot write the listing");
     }
 }

@@ -4,8 +4,6 @@ pub mod WordLaws
 pub mod TextLaws
 pub mod LineLaws
 pub mod ListingLaws
--- the reader's calls as steps of a walk by hand
-pub mod WalkReader
 -- document 01's journal, computed
 pub mod Cases
 -- what callers cite

@@ -6,6 +6,7 @@ use crate::section;
 use crate::section::WORD_BYTES;
 
 // `count` words from a place on, put in front of the lent words.
+#[tactic(auto, using(crate::proofs::WordLaws::no_words))]
 pub fn read_words(journal: &[u8], at: usize, count: usize, words: &mut [u32])
     requires { (at + count * 4 ≤ length journal.now) × (count ≤ length words.old) }
     ensures { words.new ≡ words_of count (drop at journal.now) ++ drop count words.old }

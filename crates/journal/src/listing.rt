@@ -21,6 +21,7 @@ pub struct Written {
 }
 
 // How many bytes the lines of `count` events take.
+#[tactic(auto, using(crate::proofs::LineLaws::no_lines))]
 fn lines_length(lines: &[u64], count: usize) -> usize
     requires { (count ≤ event_limit) × (count * line_numbers ≤ length lines.now) }
     ensures { result ≡ length (lines_text count lines.now) }
@@ -34,6 +35,7 @@ fn lines_length(lines: &[u64], count: usize) -> usize
     total
 }
 
+#[tactic(auto, using(crate::proofs::TextLaws::nothing_put, crate::proofs::LineLaws::no_lines))]
 fn put_lines(text: &mut [u8], lines: &[u64], count: usize)
     requires { (count ≤ event_limit) × (count * line_numbers ≤ length lines.now) × (length (lines_text count lines.now) ≤ length text.old) }
     ensures { text.new ≡ placed text.old 0 (lines_text count lines.now) }
@@ -91,6 +93,7 @@ fn write_refused(text: &mut [u8]) -> Written
 }
 
 // The listing of any bytes, in front of a lent text.
+#[tactic(auto, using(crate::proofs::SectionLaws::journal))]
 pub fn write_listing(journal: &[u8], text: &mut [u8]) -> Written
     ensures { let written = listing_text journal.now in
         (result ≡ answer_of written text.old)

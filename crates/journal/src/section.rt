@@ -23,6 +23,7 @@ fn wide(byte: u8) -> u32
     byte as u32
 }
 
+#[tactic(auto, using(crate::proofs::WordLaws::two_bytes))]
 fn number2(bytes: &[u8], at: usize) -> u32
     requires { at + 2 ≤ length bytes.now }
     ensures { (result ≡ number_at at 2 bytes.now) × (result < 65536) }
@@ -68,6 +69,7 @@ pub fn section_at(journal: &[u8], at: usize, limit: u32, width: u32) -> Section
 }
 
 // The place past that section. A malformed one is not passed: the place stays, so that there always is one.
+#[tactic(auto, using(crate::proofs::SectionLaws::read))]
 pub fn past_section(journal: &[u8], at: usize, limit: u32, width: u32) -> usize
     ensures { result ≡ past_section limit width at journal.now }
 {

@@ -28,6 +28,7 @@ fn number_length(number: u64) -> usize
     io::decimal(number, &mut spelled)
 }
 
+#[tactic(auto, using(crate::proofs::TextLaws::spelled))]
 fn put_number(text: &mut [u8], at: usize, number: u64) -> usize
     requires { at + length (decimal number) ≤ length text.old }
     ensures { (result ≡ at + length (decimal number)) × (text.new ≡ placed text.old at (decimal number)) }
@@ -80,6 +81,7 @@ pub struct Line {
     pub guarantee: Fen,
 }
 
+#[tactic(auto, using(crate::proofs::LineLaws::row_read), unfolding(crate::specs::Text::line_from))]
 pub fn line_at(lines: &[u64], from: usize) -> Line
     requires { from + line_numbers ≤ length lines.now }
     ensures { result ≡ line_from (drop from lines.now) }
