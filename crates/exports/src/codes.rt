@@ -18,6 +18,7 @@ pub struct Codes {
 }
 
 // Whether each is the code of a case, and a day has its number only where there is one.
+#[tactic(auto, using(std::proofs::Common::refl, std::proofs::Common::rules, std::proofs::Common::ne_eqb), unfolding(crate::specs::Codes::is_well_formed, money::specs::Causes::first_of))]
 pub fn is_well_formed(codes: Codes) -> bool
     ensures { result ≡ is_well_formed codes }
 {
@@ -42,6 +43,7 @@ pub fn is_well_formed(codes: Codes) -> bool
     codes.day == 0
 }
 
+#[tactic(auto, using(std::proofs::Common::refl, std::proofs::Common::ne_eqb), unfolding(crate::specs::Codes::day_at, money::specs::Causes::first_of))]
 fn day_at(dated: u8, day: u32) -> Day
     ensures { result ≡ day_at dated day }
 {
@@ -51,6 +53,7 @@ fn day_at(dated: u8, day: u32) -> Day
     Day::Never
 }
 
+#[tactic(auto, using(std::proofs::Common::refl, std::proofs::Common::ne_eqb), unfolding(crate::specs::Codes::phase_at, money::specs::Causes::first_of))]
 fn phase_at(code: u8) -> Phase
     ensures { result ≡ phase_at code }
 {
@@ -61,6 +64,7 @@ fn phase_at(code: u8) -> Phase
     }
 }
 
+#[tactic(auto, using(std::proofs::Common::refl, std::proofs::Common::ne_eqb), unfolding(crate::specs::Codes::status_at, money::specs::Causes::first_of))]
 fn status_at(code: u8) -> Status
     ensures { result ≡ status_at code }
 {
@@ -71,6 +75,7 @@ fn status_at(code: u8) -> Status
     }
 }
 
+#[tactic(auto, using(std::proofs::Common::refl, std::proofs::Common::ne_eqb), unfolding(crate::specs::Codes::failed_at, money::specs::Causes::first_of))]
 fn failed_at(code: u8) -> FailedRun
     ensures { result ≡ failed_at code }
 {
@@ -81,6 +86,7 @@ fn failed_at(code: u8) -> FailedRun
     }
 }
 
+#[tactic(auto, using(std::proofs::Common::refl, std::proofs::Common::ne_eqb), unfolding(crate::specs::Codes::short_at, money::specs::Causes::first_of))]
 fn short_at(code: u8) -> ShortRun
     ensures { result ≡ short_at code }
 {
@@ -92,6 +98,7 @@ fn short_at(code: u8) -> ShortRun
     }
 }
 
+#[tactic(auto, using(std::proofs::Common::rules))]
 pub fn standing_at(codes: Codes) -> Standing
     ensures { result ≡ standing_at codes }
 {
@@ -163,6 +170,7 @@ fn short_number(short: ShortRun) -> u8
     }
 }
 
+#[tactic(auto, using(std::proofs::Common::rules))]
 pub fn codes_of(standing: Standing) -> Codes
     ensures { result ≡ codes_of standing }
 {

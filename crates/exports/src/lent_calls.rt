@@ -14,6 +14,7 @@ use scalars::headroom;
 
 // One event, as its 40 bytes.
 #[unsafe(no_mangle)]
+#[tactic(auto, using(std::proofs::Common::sym, std::proofs::Common::refl, std::proofs::Common::rules, ledger::proofs::Fitting::refuted, ledger::proofs::Fitting::upheld))]
 pub extern "C" fn lent_apply(
     calendar: &[u32],
     raw: RawScalars,
@@ -42,6 +43,7 @@ pub extern "C" fn lent_apply(
 
 // Headroom and O.
 #[unsafe(no_mangle)]
+#[tactic(auto, using(std::proofs::Common::rules, ledger::proofs::Fitting::refuted, ledger::proofs::Fitting::upheld))]
 pub extern "C" fn lent_cover(
     calendar: &[u32],
     raw: RawScalars,
@@ -61,6 +63,7 @@ pub extern "C" fn lent_cover(
 
 // Encoded events, 40 bytes each, and a line of seven numbers for each.
 #[unsafe(no_mangle)]
+#[tactic(auto, using(std::proofs::Common::sym, std::proofs::Common::refl, std::proofs::Common::rules, ledger::proofs::Fitting::refuted, ledger::proofs::Fitting::upheld))]
 pub extern "C" fn lent_run(
     calendar: &[u32],
     raw: RawScalars,

@@ -42,6 +42,7 @@ pub struct RawEnded {
     pub raw: RawScalars,
 }
 
+#[tactic(auto, using(std::proofs::Common::rules), unfolding(crate::specs::Raw::scalars_from, money::specs::Causes::first_of))]
 pub fn scalars_from(raw: RawScalars) -> Scalars
     ensures { result ≡ scalars_from raw }
 {
@@ -62,6 +63,7 @@ pub fn scalars_from(raw: RawScalars) -> Scalars
     }
 }
 
+#[tactic(auto, using(std::proofs::Common::rules), unfolding(crate::specs::Raw::raw_of, money::specs::Causes::first_of))]
 fn raw_of(scalars: Scalars) -> RawScalars
     ensures { result ≡ raw_of scalars }
 {
@@ -82,6 +84,7 @@ fn raw_of(scalars: Scalars) -> RawScalars
     }
 }
 
+#[tactic(auto, using(std::proofs::Common::rules))]
 pub fn of_done(done: Done) -> RawDone
     ensures { result ≡ record { answer = done.answer; raw = raw_of done.scalars } }
 {
@@ -92,6 +95,7 @@ pub fn of_done(done: Done) -> RawDone
     }
 }
 
+#[tactic(auto, using(std::proofs::Common::rules))]
 pub fn of_ended(ended: Ended) -> RawEnded
     ensures { result ≡ record { number = ended.number; raw = raw_of ended.scalars } }
 {
@@ -102,6 +106,7 @@ pub fn of_ended(ended: Ended) -> RawEnded
 }
 
 // What the calls answer to scalars that are not well-formed.
+#[tactic(auto, using(std::proofs::Common::rules))]
 pub fn refused(raw: RawScalars) -> RawDone
     ensures { result ≡ refused raw }
 {
