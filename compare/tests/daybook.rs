@@ -16,14 +16,14 @@ use model::generator::{corpus, generate_as, Profile};
 use model::journal::{listing, write, JOURNAL_REFUSED};
 use model::limits::{CALENDAR_WORDS, JOURNAL_EVENTS};
 
-const DAYBOOK: &str = concat!(env!("CARGO_MANIFEST_DIR"), "/../target/bin/daybook");
+const DAYBOOK: &str = concat!(env!("CARGO_MANIFEST_DIR"), "/../crates/daybook/out/daybook");
 const EXAMPLE: &str = concat!(env!("CARGO_MANIFEST_DIR"), "/../examples/worked.journal");
 /// Bytes of the largest journal.
 const LARGEST: usize = 4 + 4 * CALENDAR_WORDS + 4 + EVENT_BYTES * JOURNAL_EVENTS;
 const PAUSE: Duration = Duration::from_millis(2);
 
 fn start(input: Stdio, output: Stdio) -> Child {
-    assert!(Path::new(DAYBOOK).exists(), "there is no target/bin/daybook: `rt check daybook` builds it");
+    assert!(Path::new(DAYBOOK).exists(), "there is no crates/daybook/out/daybook: `rt run` builds it there");
     let mut program = Command::new(DAYBOOK);
     program.stdin(input).stdout(output).stderr(Stdio::piped()).spawn().expect("daybook starts")
 }
