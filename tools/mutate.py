@@ -2,7 +2,7 @@
 """mutate.py CRATE FOLDER [NUMBER/OF]: wrong rules, one at a time.
 
 Changes one thing in a definition of crates/CRATE/specs (a constant, a comparison, a sign, a connective, a field, an order),
-checks the crate with `rt dev`, and puts the file back. Works in a copy of the repository, FOLDER, and never in the repository
+checks the crate with `rt check`, and puts the file back. Works in a copy of the repository, FOLDER, and never in the repository
 itself. NUMBER/OF takes every OF-th, from NUMBER on, so that two copies can share the work.
 
 A wrong rule that the crate still proves is a survivor. `mutate.py CRATE FOLDER --on UPPER LIST` tries those of a saved list
@@ -26,10 +26,8 @@ SWAPS = [
     (".price", ".fallback"), (".fallback", ".price"), (".first", ".due"), (".due", ".first"), (".kinds", ".units"), (".units", ".kinds"),
     ("pos", "negsuc"), ("take", "drop"), ("drop", "take"), ("none", "some 1"),
 ]
-HOMES = {"ltb": "lib.Dec", "leb": "lib.Dec", "eqb": "lib.Dec", "&&": "mathlib.Core.Bool", "||": "mathlib.Core.Bool",
-         "true": "mathlib.Core.Bool", "false": "mathlib.Core.Bool", "+": "Prim.Native.Nat", "-": "Prim.Native.Nat",
-         "*": "Prim.Native.Nat", "/": "Prim.Native.Nat", "min": "Prim.Native.Nat", "max": "Prim.Native.Nat",
-         "+ℤ": "lib.IntN", "-ℤ": "lib.IntN", "negsuc": "lib.IntN", "take": "lib.ListN", "drop": "lib.ListN"}
+PRELUDE = "Rattle.std.specs.Prelude"
+HOMES = {name: PRELUDE for name in ("ltb", "leb", "eqb", "&&", "||", "true", "false", "+", "-", "*", "/", "min", "max", "+ℤ", "-ℤ", "negsuc", "take", "drop")}
 EDGE = r"(?<![\w.ℤ·])%s(?![\w'ℤ·])"
 
 
@@ -84,12 +82,12 @@ def changed(text, changes):
             lines[n] = lines[n][:at] + new + lines[n][at + len(old):]
     for n, at, old, new in changes:
         if new in HOMES:
-            with_use(lines, HOMES[new], new if re.match(r"\w", new) else "_%s_" % new)
+            with_use(lines, HOMES[new], new if re.match(r"\w", new) else "◌%s◌" % new)
     return "\n".join(lines)
 
 
 def check(folder, crate):
-    done = subprocess.run(["rt", "dev", crate], cwd=folder, capture_output=True, text=True, errors="replace")
+    done = subprocess.run(["rt", "check"], cwd=os.path.join(folder, "crates", crate), capture_output=True, text=True, errors="replace")
     return done.returncode, done.stdout + done.stderr
 
 
@@ -106,7 +104,7 @@ def unproved(folder, crate):
     """The functions that are not proved for a reason of their own, and the files in which something fails."""
     code, said = check(folder, crate)
     functions = re.findall(r"^fn (\S+): (?:not proved|no proof)(?!.*it calls)", said, re.M)
-    files = sorted(set(re.findall(r"crates/(\w+/proofs/\S+\.antt):\d+:\d+: error", said)))
+    files = sorted(set(re.findall(r"^\./(proofs/\S+\.antt):\d+:\d+: error", said, re.M)))
     return " ".join(functions or ["none"]) + "\t" + " ".join(files)
 
 

@@ -1,4 +1,4 @@
-//! The proved calls of the archive that `rt staticlib exports` makes, held
+//! The proved calls of the archive that `rt lib` makes in crates/exports, held
 //! against the model: `proved` has the calls behind safe functions, `listings`
 //! and `sides` compare them, `soak` does so for as many seeds as are asked for.
 
