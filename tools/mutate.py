@@ -13,7 +13,7 @@ function has to do with two of.
 import os, re, subprocess, sys
 
 SWAPS = [
-    ("ltb", "leb"), ("leb", "ltb"), ("eqb", "leb"),
+    ("ltb", "leb"), ("leb", "ltb"), ("eqb", "leb"), ("nat_lt", "nat_le"), ("nat_le", "nat_lt"),
     ("&&", "||"), ("||", "&&"),
     ("+ℤ", "-ℤ"), ("-ℤ", "+ℤ"), ("+", "-"), ("-", "+"), ("*", "+"), ("/", "*"), ("%", "/"), ("min", "max"), ("max", "min"),
     ("true", "false"), ("false", "true"),
@@ -27,7 +27,7 @@ SWAPS = [
     ("pos", "negsuc"), ("take", "drop"), ("drop", "take"), ("none", "some 1"),
 ]
 PRELUDE = "Rattle.std.specs.Prelude"
-HOMES = {name: PRELUDE for name in ("ltb", "leb", "eqb", "&&", "||", "true", "false", "+", "-", "*", "/", "min", "max", "+ℤ", "-ℤ", "negsuc", "take", "drop")}
+HOMES = {name: PRELUDE for name in ("ltb", "leb", "nat_lt", "nat_le", "&&", "||", "true", "false", "+", "-", "*", "/", "min", "max", "+ℤ", "-ℤ", "negsuc", "take", "drop")}
 EDGE = r"(?<![\w.ℤ·])%s(?![\w'ℤ·])"
 
 

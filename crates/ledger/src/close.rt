@@ -7,7 +7,7 @@ ghost use Rattle.money.specs.Days.{Calendar};
 ghost use Rattle.rules.specs.Limits.{application_limit};
 ghost use Rattle.rules.specs.Vault.{value};
 ghost use Rattle.rules.specs.Book.{no_applications};
-ghost use Rattle.rules.specs.Close.{may_close, left_trades, cleared_at_close, unpaid_at_close, claims_of, claims_at_close, served, evening as eveningOf, short_more, short_at_close, closed_standing, close_causes, closed_book, closed_table};
+ghost use Rattle.rules.specs.Close.{may_close, left_trades, cleared_at_close, unpaid_at_close, claims_of, claims_at_close, served, evening as evening_of, short_more, short_at_close, closed_standing, close_causes, closed_book, closed_table};
 ghost use Rattle.rules.specs.Trades.{outstanding, remaining};
 ghost use Rattle.ledger.specs.Types.{Trade};
 ghost use Rattle.ledger.specs.Figures.{CountedWhole};
@@ -107,7 +107,7 @@ fn evening_end(
 ) -> EveningScalars
     requires { RowsFit scalars held.old kinds.now units.now }
     ensures { let book = book_of scalars (rows_of held.old kinds.now units.now) in
-        (evening_at result (securities_of held.new) ≡ eveningOf book (claims_of left.0 unpaid.0))
+        (evening_at result (securities_of held.new) ≡ evening_of book (claims_of left.0 unpaid.0))
         × (result.value.0 ≡ value (vault_of result.guarantee (securities_of held.new)))
         × (postings_of held.new ≡ postings_of held.old) }
 {
@@ -149,7 +149,7 @@ fn closed_scalars(
         let book = book_of scalars rows in
         cleared ≡ record { today = signed_fen (pos 0); cleared = signed_fen (cleared_at_close calendar book table) }
         → unpaid ≡ unpaid_at_close calendar book table
-        → evening_at ended (securities_of held) ≡ eveningOf book (claims_at_close calendar book trades table)
+        → evening_at ended (securities_of held) ≡ evening_of book (claims_at_close calendar book trades table)
         → ended.value.0 ≡ value (vault_of ended.guarantee (securities_of held))
         → left.0 ≡ outstanding trades
         → kept ≡ length (remaining trades)

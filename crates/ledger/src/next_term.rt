@@ -3,11 +3,11 @@ ghost use Rattle.std.specs.Prelude.{◌≡◌, ℕ, ◌+◌, ◌≤◌, true, fa
 ghost use Rattle.money.specs.Days.{Calendar};
 ghost use Rattle.rules.specs.Limits.{product_limit};
 ghost use Rattle.rules.specs.Book.{is_normal};
-ghost use Rattle.rules.specs.Days.{today as todayOf, payment_day};
+ghost use Rattle.rules.specs.Days.{today as today_of, payment_day};
 ghost use Rattle.rules.specs.Vault.{value as value_of};
 ghost use Rattle.rules.specs.Fit.{securities_fit, cash_fit};
 ghost use Rattle.rules.specs.Trades.{outstanding as outstanding_of, over};
-ghost use Rattle.rules.specs.NextTerm.{starts as startsOf, next_term, with_started, in_slot, left_from, started_from};
+ghost use Rattle.rules.specs.NextTerm.{starts as starts_of, next_term, with_started, in_slot, left_from, started_from};
 ghost use Rattle.ledger.specs.Types.{Book, Trade};
 ghost use Rattle.ledger.specs.Flat.{Kept, trade_at, trades_to, trades_of, securities_of, vault_of, rows_of, book_of, held_length};
 ghost use Rattle.ledger.specs.Figures.{CountedWhole, IsValue};
@@ -51,7 +51,7 @@ fn may_start(scalars: Scalars, held: &[u64]) -> bool
         × (result ≡ false
         → (calendar : Calendar) (kinds units : List ℕ) (outstanding : ℕ) (trade : Trade) →
         trade.product ≤ product_limit
-        → startsOf calendar (book_of scalars (rows_of held.now kinds units)) outstanding trade ≡ false) }
+        → starts_of calendar (book_of scalars (rows_of held.now kinds units)) outstanding trade ≡ false) }
 {
     let standing = scalars.standing;
     if !standing::is_normal(standing) {
@@ -88,7 +88,7 @@ fn closing_of(
         × (IsValue value (value_of (vault_of scalars.guarantee (securities_of held.now)))) }
     ensures { ((calendar : Calendar) (kinds units : List ℕ) →
         let book = book_of scalars (rows_of held.now kinds units) in
-        today ≡ todayOf book → payment ≡ payment_day calendar scalars.standing.day → Meets calendar book result held.now)
+        today ≡ today_of book → payment ≡ payment_day calendar scalars.standing.day → Meets calendar book result held.now)
         × (result.today ≡ today) }
 {
     let size = scalars.size;
@@ -123,7 +123,7 @@ fn starts(
     requires { (Renewable calendar.now closing held.now) × (FitAt table.now place) × (closing.may_start ≡ true) }
     ensures { (book : Book) →
         Meets calendar.now book closing held.now
-        → result ≡ startsOf calendar.now book outstanding.0 (trade_at table.now place) }
+        → result ≡ starts_of calendar.now book outstanding.0 (trade_at table.now place) }
 {
     let due = redemption::maturing_at(table, place, closing.today);
     if due.0 == 0 {
@@ -183,7 +183,7 @@ fn with_started(
     ensures { let trade = trade_at table.now place in
         ((book : Book) →
         Meets calendar.now book closing held.now
-        → result.0 ≡ with_started (startsOf calendar.now book outstanding.0 trade) book trade outstanding.0) }
+        → result.0 ≡ with_started (starts_of calendar.now book outstanding.0 trade) book trade outstanding.0) }
 {
     if !starts(calendar, held, table, place, closing, outstanding) {
         return outstanding;
@@ -239,7 +239,7 @@ fn settle_slot(
     ensures { let trade = trade_at table.old place in
         ((book : Book) →
         Meets calendar.now book closing held.now
-        → let started = startsOf calendar.now book outstanding.0 trade in
+        → let started = starts_of calendar.now book outstanding.0 trade in
         (result.0 ≡ with_started started book trade outstanding.0)
         × (trades_of table.new ≡ slice_set (trades_of table.old) place (in_slot started calendar.now book trade))) }
 {
