@@ -2,7 +2,7 @@
 """twins.py FOLDER [CRATE..]: the twins of the must-fail edits, one at a time.
 
 A must-fail edit that is refused may only no longer fit its proof. Its twin, crates/CRATE/twins/NAME.edit, is an edit of the same
-place that changes nothing: it must be proved. Each is made in a copy of the repository, FOLDER, checked with `rt dev`, and undone.
+place that changes nothing: it must be proved. Each is made in a copy of the repository, FOLDER, checked with `rt check`, and undone.
 An edit that has no twin, and a twin that has no edit, is named. The exit status is 0 only where every edit has a twin that is proved.
 """
 import glob, os, shutil, subprocess, sys
@@ -32,7 +32,7 @@ def proved(folder, crate, path):
                 sys.exit(f"{path}: its old text is not in {file} once")
             with open(place, "w", encoding="utf-8") as out:
                 out.write(text.replace(old, new))
-        return subprocess.run(["rt", "dev", crate], cwd=folder, capture_output=True).returncode == 0
+        return subprocess.run(["rt", "check"], cwd=f"{folder}/crates/{crate}", capture_output=True).returncode == 0
     finally:
         for place, text in kept.items():
             with open(place, "w", encoding="utf-8") as out:
