@@ -1,15 +1,15 @@
 -- The month tried holds the day, or the one before it does.
-use Rattle.std.proofs.Common.{rules, ◌≡◌, ◌+◌, ◌-◌, ◌*◌, ◌/◌, ℕ, ◌<◌, ◌≤◌, sym, ap, ◌∙◌, refl, arith}
+use Rattle.std.proofs.Common.{rules, ◌≡◌, ◌+◌, ◌-◌, ℕ, ◌<◌, ◌≤◌, sym, ap, ◌∙◌, refl, arith}
 use Rattle.std.proofs.Math.Option.{none}
 use Rattle.money.specs.Limits.{last_day}
 use Rattle.money.specs.Dates.{start_after, length_after, dated}
-use Rattle.money.proofs.FirstTry.{its_own, the-next, OneBack, one-back, put-together}
+use Rattle.money.proofs.FirstTry.{Tried, its_own, the-next, OneBack, one-back, put-together}
 use Rattle.money.proofs.DateAnswers.{date-given, date-refused}
 use Rattle.money.proofs.dates.date_of.Goals as goal
 
 -- the day lies before the month tried
-back : (day : ℕ) {start length : ℕ} (within : day ≤ last_day) → start ≡ start_after (12 * (day + 1) / 365) → day < start → length ≡ length_after (12 * (day + 1) / 365 - 1) → OneBack day within start length
-back day within started early measured = one-back day within started (search rules) early refl measured
+back : (day : ℕ) {tried start length : ℕ} (within : day ≤ last_day) → start ≡ start_after tried → Tried day tried → day < start → length ≡ length_after (tried - 1) → OneBack day within start length
+back day within started near early measured = one-back day within started near early refl measured
 
 pub returns-then-day-gt-LAST_DAY : goal.returns-then-day-gt-LAST_DAY
 returns-then-day-gt-LAST_DAY c = sym (date-refused _ c.if-day-gt-LAST_DAY.true)
@@ -27,17 +27,17 @@ overflow_sub-months c = omega (arith, the-next c.args.day c.if-day-gt-LAST_DAY.f
 
 pub overflow_add-into : goal.overflow_add-into
 overflow_add-into c =
-    let b = back c.args.day c.if-day-gt-LAST_DAY.false c.start_after-start.ensures c.if-start-day.false c.length_after-length.ensures in
+    let b = back c.args.day c.if-day-gt-LAST_DAY.false c.start_after-start.ensures (search rules) c.if-start-day.false c.length_after-length.ensures in
     record { fits = omega (arith, b.spans, b.to) }
 
 pub overflow_sub-into : goal.overflow_sub-into
 overflow_sub-into c =
-    let b = back c.args.day c.if-day-gt-LAST_DAY.false c.start_after-start.ensures c.if-start-day.false c.length_after-length.ensures in
+    let b = back c.args.day c.if-day-gt-LAST_DAY.false c.start_after-start.ensures (search rules) c.if-start-day.false c.length_after-length.ensures in
     omega (arith, b.from, b.spans)
 
 pub date_at-requires-2 : goal.date_at-requires-2
 date_at-requires-2 c =
-    let b = back c.args.day c.if-day-gt-LAST_DAY.false c.start_after-start.ensures c.if-start-day.false c.length_after-length.ensures in
+    let b = back c.args.day c.if-day-gt-LAST_DAY.false c.start_after-start.ensures (search rules) c.if-start-day.false c.length_after-length.ensures in
     omega (arith, b.from, b.spans)
 
 pub returns : goal.returns
@@ -45,7 +45,7 @@ returns c =
     let day = c.args.day in
     let within = c.if-day-gt-LAST_DAY.false in
     let start = c.start_after-start.ensures in
-    let b = back day within start c.if-start-day.false c.length_after-length.ensures in
+    let b = back day within start (search rules) c.if-start-day.false c.length_after-length.ensures in
     let next = the-next day within start (search rules) c.if-start-day.false in
     c.date_at-2.ensures
     ∙ ap (dated none) (put-together day within _ (omega (arith, next)) (omega (arith, b.from, b.spans)))
