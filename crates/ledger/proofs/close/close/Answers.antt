@@ -36,7 +36,8 @@ pub returns-then-not-today_fit : goal.returns-then-not-today_fit
 returns-then-not-today_fit c =
     let book : Book = book_of c.args.scalars (rows_of c.args.held.now c.args.kinds.now c.args.units.now) in
     let may-go-on : not (may_close c.args.scalars.standing) ≡ false = denied-not c.may_close.ensures (ap not c.if-not-may_close.false) in
-    let net-at-close : c.today_at_close-at_close.result ≡ record { today = signed_fen (net_at_close c.args.calendar.now book (trades_of c.args.table.now)); cleared = c.args.scalars.nets.cleared } = let nets = c.args.scalars.nets in
+    let net-at-close : c.today_at_close-at_close.result ≡ record { today = signed_fen (net_at_close c.args.calendar.now book (trades_of c.args.table.now)); cleared = c.args.scalars.nets.cleared } =
+    let nets = c.args.scalars.nets in
     let plan = c.plan_of-plan.ensures.0 in
     c.today_at_close-at_close.ensures
     ∙ ap (λ (amount : Fen). record { today = signed_fen (nets.today.0 +ℤ pos amount.0 -ℤ pos c.plan_of-plan.result.started.0); cleared = nets.cleared }) plan.amount
@@ -49,7 +50,8 @@ returns-then-not-today_fit c =
 pub joined-cleared-requires : goal.joined-cleared-requires
 joined-cleared-requires c =
     let book : Book = book_of c.args.scalars (rows_of c.args.held.now c.args.kinds.now c.args.units.now) in
-    let net-at-close : c.today_at_close-at_close.result ≡ record { today = signed_fen (net_at_close c.args.calendar.now book (trades_of c.args.table.now)); cleared = c.args.scalars.nets.cleared } = let nets = c.args.scalars.nets in
+    let net-at-close : c.today_at_close-at_close.result ≡ record { today = signed_fen (net_at_close c.args.calendar.now book (trades_of c.args.table.now)); cleared = c.args.scalars.nets.cleared } =
+    let nets = c.args.scalars.nets in
     let plan = c.plan_of-plan.ensures.0 in
     c.today_at_close-at_close.ensures
     ∙ ap (λ (amount : Fen). record { today = signed_fen (nets.today.0 +ℤ pos amount.0 -ℤ pos c.plan_of-plan.result.started.0); cleared = nets.cleared }) plan.amount
@@ -61,12 +63,14 @@ pub returns-then-not-cleared_fit : goal.returns-then-not-cleared_fit
 returns-then-not-cleared_fit c =
     let book : Book = book_of c.args.scalars (rows_of c.args.held.now c.args.kinds.now c.args.units.now) in
     let may-go-on : not (may_close c.args.scalars.standing) ≡ false = denied-not c.may_close.ensures (ap not c.if-not-may_close.false) in
-    let net-at-close : c.today_at_close-at_close.result ≡ record { today = signed_fen (net_at_close c.args.calendar.now book (trades_of c.args.table.now)); cleared = c.args.scalars.nets.cleared } = let nets = c.args.scalars.nets in
+    let net-at-close : c.today_at_close-at_close.result ≡ record { today = signed_fen (net_at_close c.args.calendar.now book (trades_of c.args.table.now)); cleared = c.args.scalars.nets.cleared } =
+    let nets = c.args.scalars.nets in
     let plan = c.plan_of-plan.ensures.0 in
     c.today_at_close-at_close.ensures
     ∙ ap (λ (amount : Fen). record { today = signed_fen (nets.today.0 +ℤ pos amount.0 -ℤ pos c.plan_of-plan.result.started.0); cleared = nets.cleared }) plan.amount
     ∙ ap (λ (amount : Fen). record { today = signed_fen (net_with_matured c.args.calendar.now book (trades_of c.args.table.now) -ℤ pos amount.0); cleared = nets.cleared }) plan.started in
-    let all-joined : c.joined-cleared.result ≡ record { today = signed_fen (pos 0); cleared = signed_fen (cleared_at_close c.args.calendar.now book (trades_of c.args.table.now)) } = c.joined-cleared.ensures ∙ ap (λ (nets : Nets). record { today = signed_fen (pos 0); cleared = signed_fen (nets.cleared.0 +ℤ nets.today.0) }) net-at-close in
+    let all-joined : c.joined-cleared.result ≡ record { today = signed_fen (pos 0); cleared = signed_fen (cleared_at_close c.args.calendar.now book (trades_of c.args.table.now)) } =
+    c.joined-cleared.ensures ∙ ap (λ (nets : Nets). record { today = signed_fen (pos 0); cleared = signed_fen (nets.cleared.0 +ℤ nets.today.0) }) net-at-close in
     let cleared-asked : c.cleared_fit.result ≡ net_fit (cleared_at_close c.args.calendar.now book (trades_of c.args.table.now)) = c.cleared_fit.ensures ∙ ap (λ (nets : Nets). net_fit nets.cleared.0) all-joined in
     close-refused c.args.calendar.now c.args.scalars (rows_of c.args.held.now c.args.kinds.now c.args.units.now) (left_trades c.args.calendar.now book (trades_of c.args.table.now)) (trades_of c.args.table.now) 14 _
     (cleared-outside c.args.calendar.now book (trades_of c.args.table.now) may-go-on (refuted cleared-asked (ap not c.if-not-cleared_fit.true)))
@@ -109,12 +113,14 @@ closed-requires c =
 pub returns : goal.returns
 returns c =
     let book : Book = book_of c.args.scalars (rows_of c.args.held.now c.args.kinds.now c.args.units.now) in
-    let net-at-close : c.today_at_close-at_close.result ≡ record { today = signed_fen (net_at_close c.args.calendar.now book (trades_of c.args.table.now)); cleared = c.args.scalars.nets.cleared } = let nets = c.args.scalars.nets in
+    let net-at-close : c.today_at_close-at_close.result ≡ record { today = signed_fen (net_at_close c.args.calendar.now book (trades_of c.args.table.now)); cleared = c.args.scalars.nets.cleared } =
+    let nets = c.args.scalars.nets in
     let plan = c.plan_of-plan.ensures.0 in
     c.today_at_close-at_close.ensures
     ∙ ap (λ (amount : Fen). record { today = signed_fen (nets.today.0 +ℤ pos amount.0 -ℤ pos c.plan_of-plan.result.started.0); cleared = nets.cleared }) plan.amount
     ∙ ap (λ (amount : Fen). record { today = signed_fen (net_with_matured c.args.calendar.now book (trades_of c.args.table.now) -ℤ pos amount.0); cleared = nets.cleared }) plan.started in
-    let all-joined : c.joined-cleared.result ≡ record { today = signed_fen (pos 0); cleared = signed_fen (cleared_at_close c.args.calendar.now book (trades_of c.args.table.now)) } = c.joined-cleared.ensures ∙ ap (λ (nets : Nets). record { today = signed_fen (pos 0); cleared = signed_fen (nets.cleared.0 +ℤ nets.today.0) }) net-at-close in
+    let all-joined : c.joined-cleared.result ≡ record { today = signed_fen (pos 0); cleared = signed_fen (cleared_at_close c.args.calendar.now book (trades_of c.args.table.now)) } =
+    c.joined-cleared.ensures ∙ ap (λ (nets : Nets). record { today = signed_fen (pos 0); cleared = signed_fen (nets.cleared.0 +ℤ nets.today.0) }) net-at-close in
     let may-go-on : not (may_close c.args.scalars.standing) ≡ false = denied-not c.may_close.ensures (ap not c.if-not-may_close.false) in
     let today-asked : c.today_fit.result ≡ net_fit (net_at_close c.args.calendar.now book (trades_of c.args.table.now)) = c.today_fit.ensures ∙ ap (λ (nets : Nets). net_fit nets.today.0) net-at-close in
     let cleared-asked : c.cleared_fit.result ≡ net_fit (cleared_at_close c.args.calendar.now book (trades_of c.args.table.now)) = c.cleared_fit.ensures ∙ ap (λ (nets : Nets). net_fit nets.cleared.0) all-joined in

@@ -1,5 +1,5 @@
 -- The month tried holds the day, or the one before it does.
-use Rattle.std.proofs.Common.{rules, ◌≡◌, ◌+◌, ◌-◌, ℕ, ◌<◌, ◌≤◌, sym, ap, ◌∙◌, refl, arith}
+use Rattle.std.proofs.Common.{rules, ◌≡◌, ◌-◌, ℕ, ◌<◌, ◌≤◌, sym, ap, ◌∙◌, refl, arith}
 use Rattle.std.proofs.Math.Option.{none}
 use Rattle.money.specs.Limits.{last_day}
 use Rattle.money.specs.Dates.{start_after, length_after, dated}
