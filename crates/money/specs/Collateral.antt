@@ -1,10 +1,10 @@
 -- What a kind of collateral is worth. (01, Collateral and headroom; arts. 4, 41, 54)
 -- Assumes nothing.
-use Rattle.std.specs.Prelude.{ℕ, ◌-◌, ◌*◌, ◌/◌, cond, List, [], ◌∷◌, ltb, eqb}
+use Rattle.std.specs.Prelude.{ℕ, ◌-◌, ◌*◌, ◌/◌, cond, List, [], ◌∷◌, ltb, eqb, Result, Ok, Err}
 use Rattle.std.proofs.Math.Option.{Option}
 use Rattle.money.specs.Units.{Sheets, sheets}
 use Rattle.money.specs.Limits.{unit_limit, cash_limit, rate_limit}
-use Rattle.money.specs.Causes.{Cause, ◌⇒◌, first_of, number_of, result_of}
+use Rattle.money.specs.Causes.{Cause, ◌⇒◌, Refusal, first_of, number_of, result_of, refusal_number}
 pub use Rattle.money.specs.declared.collateral.Worth.{Worth}
 
 -- "Kind 32 is guarantee cash"
@@ -36,6 +36,10 @@ abbrev pub worth : Option ℕ → Sheets → Worth
 worth refusal value = record { number = number_of refusal; sheets = sheets (result_of refusal value.0) }
 
 -- the call: the number, and beside it the value
+abbrev pub worth_of : Result Sheets Refusal → Worth
+worth_of (Ok value) = record { number = 0; sheets = value }
+worth_of (Err refusal) = record { number = refusal_number refusal; sheets = sheets 0 }
+
 unfoldable pub kind_worth : (kind effective frozen rate : ℕ) → Worth
 kind_worth kind effective frozen rate =
     worth (first_of (worth_causes kind effective frozen rate)) (kind_value kind effective frozen rate)

@@ -1,9 +1,9 @@
 -- Dates of the Gregorian calendar, and the days that they are. (02, ask 1)
 -- Assumes nothing.
-use Rattle.std.specs.Prelude.{ℕ, zero, suc, ◌+◌, ◌-◌, ◌*◌, ◌/◌, ◌%◌, Bool, cond, not, ◌&&◌, ◌||◌, List, [], ◌∷◌, ltb, leb, eqb, get_or}
+use Rattle.std.specs.Prelude.{ℕ, zero, suc, ◌+◌, ◌-◌, ◌*◌, ◌/◌, ◌%◌, Bool, cond, not, ◌&&◌, ◌||◌, List, [], ◌∷◌, ltb, leb, eqb, get_or, Result, Ok, Err}
 use Rattle.std.proofs.Math.Option.{Option}
 use Rattle.money.specs.Limits.{first_year, last_year, last_day}
-use Rattle.money.specs.Causes.{Cause, ◌⇒◌, first_of, number_of, result_of}
+use Rattle.money.specs.Causes.{Cause, ◌⇒◌, Refusal, first_of, number_of, result_of, refusal_number}
 pub use Rattle.money.specs.declared.days.Found.{Found}
 pub use Rattle.money.specs.declared.dates.Date.{Date}
 pub use Rattle.money.specs.declared.dates.Dated.{Dated}
@@ -110,5 +110,9 @@ unfoldable pub day_answer : Date → Found
 day_answer d = numbered (first_of (date_causes d)) (day_of d)
 
 -- the number, and beside it the date
+abbrev pub dated_of : Result Date Refusal → Dated
+dated_of (Ok d) = record { number = 0; date = d }
+dated_of (Err refusal) = record { number = refusal_number refusal; date = date 0 0 0 }
+
 unfoldable pub date_answer : ℕ → Dated
 date_answer day = dated (first_of (day_causes day)) (date_of day)

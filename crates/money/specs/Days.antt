@@ -1,9 +1,9 @@
 -- Trading days. (01, Days; art. 61)
 -- Assumes nothing.
-use Rattle.std.specs.Prelude.{ℕ, zero, suc, ◌+◌, ◌-◌, ◌*◌, ◌/◌, ◌%◌, ◌^◌, Bool, true, false, cond, List, [], ◌∷◌, ltb, eqb, length, get_or}
+use Rattle.std.specs.Prelude.{ℕ, zero, suc, ◌+◌, ◌-◌, ◌*◌, ◌/◌, ◌%◌, ◌^◌, Bool, true, false, cond, List, [], ◌∷◌, ltb, eqb, length, get_or, Result, Ok, Err}
 use Rattle.std.proofs.Math.Option.{Option, none, some}
 use Rattle.money.specs.Limits.{calendar_limit}
-use Rattle.money.specs.Causes.{Cause, ◌⇒◌, first_of, number_of, result_of}
+use Rattle.money.specs.Causes.{Cause, ◌⇒◌, Refusal, first_of, number_of, result_of, refusal_number}
 pub use Rattle.money.specs.declared.days.Found.{Found}
 
 -- "The calendar is a lent list of at most 1,200 words of 32 bits"
@@ -47,5 +47,9 @@ abbrev pub searched : Option ℕ → Option ℕ → Found
 searched refusal found = record { number = number_of refusal; day = result_of refusal (day_or_0 found) }
 
 -- a call that searches: its number and the day found
+abbrev pub found_of : Result ℕ Refusal → Found
+found_of (Ok day) = record { number = 0; day = day }
+found_of (Err refusal) = record { number = refusal_number refusal; day = 0 }
+
 unfoldable pub search_result : Calendar → Option ℕ → Found
 search_result calendar found = searched (first_of (search_causes calendar found)) found

@@ -1,10 +1,10 @@
 -- Amounts of money. (01, Money; art. 60)
 -- Assumes nothing.
-use Rattle.std.specs.Prelude.{ℕ, ◌+◌, ◌*◌, ◌/◌, List, [], ◌∷◌, ltb}
+use Rattle.std.specs.Prelude.{ℕ, ◌+◌, ◌*◌, ◌/◌, List, [], ◌∷◌, ltb, Result, Ok, Err}
 use Rattle.std.proofs.Math.Option.{Option}
 use Rattle.money.specs.Units.{Fen, Sheets, Ticks, fen, sheet_fen}
 use Rattle.money.specs.Limits.{trade_limit, price_limit, term_limit}
-use Rattle.money.specs.Causes.{Cause, ◌⇒◌, first_of, number_of, result_of}
+use Rattle.money.specs.Causes.{Cause, ◌⇒◌, Refusal, first_of, number_of, result_of, refusal_number}
 pub use Rattle.money.specs.declared.amounts.Amount.{Amount}
 
 -- a quotient "rounded once to the nearest", "half upward"
@@ -35,6 +35,10 @@ abbrev pub amount : Option ℕ → Fen → Amount
 amount refusal due = record { number = number_of refusal; fen = fen (result_of refusal due.0) }
 
 -- the calls: the number, and beside it the amount
+abbrev pub amount_of : Result Fen Refusal → Amount
+amount_of (Ok due) = record { number = 0; fen = due }
+amount_of (Err refusal) = record { number = refusal_number refusal; fen = fen 0 }
+
 unfoldable pub initial_amount : Sheets → Amount
 initial_amount q = amount (first_of (initial_amount_causes q)) (principal q)
 

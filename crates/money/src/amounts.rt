@@ -1,11 +1,12 @@
 // Amounts of money (art. 60).
 ghost use Rattle.std.specs.Prelude.{◌≡◌};
-ghost use Rattle.money.specs.Money.{initial_amount, redemption_amount};
+ghost use Rattle.money.specs.Money.{amount_of, initial_amount, redemption_amount};
 
 use crate::limits::{PRICE_LIMIT, TERM_LIMIT, TRADE_LIMIT};
+use crate::refusal::Refusal;
 use crate::units::{Fen, SHEET_FEN, Sheets, Ticks};
 
-// An amount of money, or its refusal's number beside 0.
+// An amount of money as C has it: 0 beside it, or its refusal's number beside 0.
 #[repr(C)]
 #[derive(Clone, Copy)]
 pub struct Amount {
@@ -13,52 +14,48 @@ pub struct Amount {
     pub fen: Fen,
 }
 
+impl From<Result<Fen, Refusal>> for Amount {
+    ghost from_gives = { λ answer amount. amount ≡ amount_of answer };
+
+    fn from(answer: Result<Fen, Refusal>) -> Amount {
+        match answer {
+            Ok(fen) => Amount { number: 0, fen },
+            Err(refusal) => Amount {
+                number: refusal.into(),
+                fen: Fen(0),
+            },
+        }
+    }
+}
+
 // What an initial trade moves.
 #[tactic(auto, unfolding(crate::specs::Money::initial_amount, crate::specs::Money::principal, crate::specs::Causes::first_of))]
-pub fn initial(q: Sheets) -> Amount
-    ensures { result ≡ initial_amount q }
+pub fn initial(q: Sheets) -> Result<Fen, Refusal>
+    ensures { amount_of result ≡ initial_amount q }
 {
     let count = q.0;
     if count > TRADE_LIMIT {
-        return Amount {
-            number: 14,
-            fen: Fen(0),
-        };
+        return Err(Refusal::PastLimit);
     }
-    Amount {
-        number: 0,
-        fen: Fen(SHEET_FEN * count),
-    }
+    Ok(Fen(SHEET_FEN * count))
 }
 
 // What a redemption at a price over some days moves: the principal and, rounded once, the income.
 #[tactic(auto, using(crate::proofs::Bounds::product), unfolding(crate::specs::Money::redemption_amount, crate::specs::Money::redemption, crate::specs::Money::principal, crate::specs::Money::income, crate::specs::Causes::first_of))]
-pub fn redemption(q: Sheets, price: Ticks, days: u32) -> Amount
-    ensures { result ≡ redemption_amount q price days }
+pub fn redemption(q: Sheets, price: Ticks, days: u32) -> Result<Fen, Refusal>
+    ensures { amount_of result ≡ redemption_amount q price days }
 {
     let count = q.0;
     let yearly = price.0;
     if count > TRADE_LIMIT {
-        return Amount {
-            number: 14,
-            fen: Fen(0),
-        };
+        return Err(Refusal::PastLimit);
     }
     if yearly > PRICE_LIMIT {
-        return Amount {
-            number: 14,
-            fen: Fen(0),
-        };
+        return Err(Refusal::PastLimit);
     }
     if days > TERM_LIMIT {
-        return Amount {
-            number: 14,
-            fen: Fen(0),
-        };
+        return Err(Refusal::PastLimit);
     }
     let income = (count * (yearly as u64) * (days as u64) + 1_825) / 3_650;
-    Amount {
-        number: 0,
-        fen: Fen(SHEET_FEN * count + income),
-    }
+    Ok(Fen(SHEET_FEN * count + income))
 }

@@ -1,11 +1,12 @@
 // The value of a kind of collateral (arts. 4, 41).
 ghost use Rattle.std.specs.Prelude.{◌≡◌};
-ghost use Rattle.money.specs.Collateral.{kind_worth};
+ghost use Rattle.money.specs.Collateral.{worth_of, kind_worth};
 
 use crate::limits::{CASH_KIND, CASH_LIMIT, RATE_LIMIT, RATE_PARTS, UNIT_LIMIT};
+use crate::refusal::Refusal;
 use crate::units::Sheets;
 
-// A value in whole sheets, or its refusal's number beside 0.
+// A value in whole sheets as C has it: 0 beside it, or its refusal's number beside 0.
 #[repr(C)]
 #[derive(Clone, Copy)]
 pub struct Worth {
@@ -13,49 +14,42 @@ pub struct Worth {
     pub sheets: Sheets,
 }
 
+impl From<Result<Sheets, Refusal>> for Worth {
+    ghost from_gives = { λ answer worth. worth ≡ worth_of answer };
+
+    fn from(answer: Result<Sheets, Refusal>) -> Worth {
+        match answer {
+            Ok(sheets) => Worth { number: 0, sheets },
+            Err(refusal) => Worth {
+                number: refusal.into(),
+                sheets: Sheets(0),
+            },
+        }
+    }
+}
+
 // What a kind's unfrozen units are worth; of guarantee cash, kind 32, the rate is not looked at.
 #[tactic(auto, using(crate::proofs::Bounds::product), unfolding(crate::specs::Collateral::kind_worth, crate::specs::Collateral::kind_value, crate::specs::Causes::first_of))]
-pub fn kind_worth(kind: u8, effective: u64, frozen: u64, rate: u64) -> Worth
-    ensures { result ≡ kind_worth kind effective frozen rate }
+pub fn kind_worth(kind: u8, effective: u64, frozen: u64, rate: u64) -> Result<Sheets, Refusal>
+    ensures { worth_of result ≡ kind_worth kind effective frozen rate }
 {
     if kind > CASH_KIND {
-        return Worth {
-            number: 3,
-            sheets: Sheets(0),
-        };
+        return Err(Refusal::UnknownKind);
     }
     if frozen > effective {
-        return Worth {
-            number: 13,
-            sheets: Sheets(0),
-        };
+        return Err(Refusal::NotEnough);
     }
     if kind == CASH_KIND {
         if effective > CASH_LIMIT {
-            return Worth {
-                number: 14,
-                sheets: Sheets(0),
-            };
+            return Err(Refusal::PastLimit);
         }
-        return Worth {
-            number: 0,
-            sheets: Sheets((effective - frozen) / RATE_PARTS),
-        };
+        return Ok(Sheets((effective - frozen) / RATE_PARTS));
     }
     if effective > UNIT_LIMIT {
-        return Worth {
-            number: 14,
-            sheets: Sheets(0),
-        };
+        return Err(Refusal::PastLimit);
     }
     if rate > RATE_LIMIT {
-        return Worth {
-            number: 14,
-            sheets: Sheets(0),
-        };
+        return Err(Refusal::PastLimit);
     }
-    Worth {
-        number: 0,
-        sheets: Sheets((effective - frozen) * rate / RATE_PARTS),
-    }
+    Ok(Sheets((effective - frozen) * rate / RATE_PARTS))
 }

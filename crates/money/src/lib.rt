@@ -7,6 +7,9 @@ pub mod units;
 // How large numbers may be.
 pub mod limits;
 
+// Why a call is turned down.
+pub mod refusal;
+
 // Trading days.
 pub mod days;
 

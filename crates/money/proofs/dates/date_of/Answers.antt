@@ -20,7 +20,7 @@ returns-then-start-day c =
     let within = c.if-day-gt-LAST_DAY.false in
     let start = c.start_after-start.ensures in
     let own = its_own day within start (search rules) c.if-start-day.true in
-    c.date_at.ensures ∙ ap (dated none) (put-together day within _ own (omega (arith, start, ap start_after own))) ∙ sym (date-given day within)
+    ap (dated none) (c.date_at.ensures ∙ put-together day within _ own (omega (arith, start, ap start_after own))) ∙ sym (date-given day within)
 
 pub overflow_sub-months : goal.overflow_sub-months
 overflow_sub-months c = omega (arith, the-next c.args.day c.if-day-gt-LAST_DAY.false c.start_after-start.ensures (search rules) c.if-start-day.false)
@@ -47,6 +47,5 @@ returns c =
     let start = c.start_after-start.ensures in
     let b = back day within start (search rules) c.if-start-day.false c.length_after-length.ensures in
     let next = the-next day within start (search rules) c.if-start-day.false in
-    c.date_at-2.ensures
-    ∙ ap (dated none) (put-together day within _ (omega (arith, next)) (omega (arith, b.from, b.spans)))
+    ap (dated none) (c.date_at-2.ensures ∙ put-together day within _ (omega (arith, next)) (omega (arith, b.from, b.spans)))
     ∙ sym (date-given day within)

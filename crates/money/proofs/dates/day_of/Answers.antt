@@ -43,9 +43,9 @@ start_after-start-requires c =
     let v = in-years c.args.date (omega arith) (omega arith) (omega arith) (omega (arith, c.month_length-length.ensures)) in
     omega (arith, v.is-date.month-to)
 
-pub overflow_add-found : goal.overflow_add-found
+pub overflow_add-result : goal.overflow_add-result
 unfolding day_of
-overflow_add-found c =
+overflow_add-result c =
     let v = in-years c.args.date (omega arith) (omega arith) (omega arith) (omega (arith, c.month_length-length.ensures)) in
     record { fits = omega (arith, c.start_after-start.ensures, day-at-most-last c.args.date v) }
 
