@@ -6,9 +6,9 @@ ghost use Rattle.ledger.specs.Flat.{width, trades_of, applied_of};
 use ledger::{lent, split};
 use rules::answer::Applied;
 use rules::book::Book;
-use rules::event::Entry;
+use rules::event::Event;
 
-pub fn apply_flat(calendar: &[u32], book: Book, table: &mut [u64], entry: Entry) -> Applied
+pub fn apply_flat(calendar: &[u32], book: Book, table: &mut [u64], entry: Option<Event>) -> Applied
     requires { length table.old % width ≡ 0 }
     ensures { let trades = trades_of table.old in
         let next = step calendar.now book trades entry in

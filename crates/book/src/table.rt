@@ -11,7 +11,7 @@ use crate::{copies, numbers, refused};
 use ledger::layout::WIDTH;
 use rules::answer::Applied;
 use rules::book::Book;
-use rules::event::Entry;
+use rules::event::Event;
 use rules::limits::CAPACITY_LIMIT;
 use rules::trade::Trade;
 
@@ -21,7 +21,7 @@ fn apply_first(
     book: Book,
     flat: &mut [u64],
     count: usize,
-    entry: Entry,
+    entry: Option<Event>,
 ) -> Applied
     requires { HasSlots flat.old count }
     ensures { let trades = trades_to flat.old count in
@@ -39,7 +39,7 @@ fn apply_by(
     book: Book,
     table: &mut [Trade],
     flat: &mut [u64],
-    entry: Entry,
+    entry: Option<Event>,
 ) -> Applied
     requires { HasSlots flat.old (length table.old) }
     ensures { let next = step calendar.now book table.old entry in
@@ -54,7 +54,7 @@ fn apply_by(
 }
 
 // With numbers of its own, of the one size that every table fits.
-fn apply_in_numbers(calendar: &[u32], book: Book, table: &mut [Trade], entry: Entry) -> Applied
+fn apply_in_numbers(calendar: &[u32], book: Book, table: &mut [Trade], entry: Option<Event>) -> Applied
     requires { length table.old ≤ capacity_limit }
     ensures { let next = step calendar.now book table.old entry in
         (result ≡ applied_of next)
@@ -75,7 +75,7 @@ fn slots_used(book: Book, slots: usize) -> usize
 }
 
 // One entry on any book and any table.
-pub fn apply(calendar: &[u32], book: Book, table: &mut [Trade], entry: Entry) -> Applied
+pub fn apply(calendar: &[u32], book: Book, table: &mut [Trade], entry: Option<Event>) -> Applied
     ensures { let next = step calendar.now book table.old entry in
         (result ≡ applied_of next)
         × (table.new ≡ next.table) }

@@ -15,7 +15,7 @@ use Rattle.money.proofs.Refusals.{skip, clear}
 use Rattle.rules.specs.Folds.{all_below}
 use Rattle.rules.specs.declared.book.Book.{Book}
 use Rattle.rules.specs.declared.trade.Trade.{Trade}
-use Rattle.rules.specs.declared.event.Entry.{Entry}
+use Rattle.rules.specs.Entry.{Entry}
 use Rattle.rules.specs.Book.{fresh_book}
 use Rattle.rules.specs.Step.{step}
 use Rattle.rules.specs.Run.{run}

@@ -7,7 +7,7 @@ use native.Mathlib.Omega.{arith}
 use Rattle.rules.specs.declared.book.Book.{Book}
 use Rattle.rules.specs.declared.event.Event.{Event}
 use Rattle.rules.specs.declared.event.Event.TheVariants.{Open, Size, Rate, Pledge, Pay, Close, Initial}
-use Rattle.rules.specs.declared.event.Entry.TheVariants.{Known}
+use Rattle.std.specs.Prelude.{Some}
 use Rattle.rules.specs.declared.trade.Terms.{Terms}
 use Rattle.rules.specs.declared.trade.Trade.{Trade}
 use Rattle.rules.specs.Book.{answer, fresh_book}
@@ -26,14 +26,14 @@ events = Size (record { 0 = 1000 }) ∷ Rate 0 9000 ∷ Open ∷ Pledge 0 200 �
 -- after so many of them
 unfoldable pub reached : ℕ → Ledger
 reached zero = record { answer = answer 0; book = fresh_book; table = replicate 4 no_trade }
-reached (suc k) = ledger_of (step (206 ∷ []) (reached k).book (reached k).table (Known (get_or events k Open)))
+reached (suc k) = ledger_of (step (206 ∷ []) (reached k).book (reached k).table (Some (get_or events k Open)))
 
 pub record Done (k : ℕ) (book : Book) (table : List Trade) : Type 0 where
   pub few : k ≤ 8
   pub book-is : book ≡ (reached k).book
   pub table_is : table ≡ (reached k).table
 
-pub onward : (k : ℕ) (book : Book) (table : List Trade) → Done k book table → ledger_of (step (206 ∷ []) book table (Known (get_or events k Open))) ≡ reached (k + 1)
+pub onward : (k : ℕ) (book : Book) (table : List Trade) → Done k book table → ledger_of (step (206 ∷ []) book table (Some (get_or events k Open))) ≡ reached (k + 1)
 unfolding reached
 onward k book table d = rw (add-one, d.book-is, d.table_is) refl
 

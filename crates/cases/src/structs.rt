@@ -7,7 +7,7 @@ use crate::worked::WEEK;
 use money::units::{Sheets, Ticks};
 use rules::answer::{Answer, Applied};
 use rules::book::Book;
-use rules::event::{Entry, Event};
+use rules::event::Event;
 use rules::trade::{Contract, Terms, Trade};
 
 #[derive(Clone, Copy)]
@@ -29,7 +29,7 @@ fn left(applied: Applied, table: [Trade; 4]) -> Ledger
     }
 }
 
-fn apply(calendar: &[u32], book: Book, mut table: [Trade; 4], entry: Entry) -> Ledger
+fn apply(calendar: &[u32], book: Book, mut table: [Trade; 4], entry: Option<Event>) -> Ledger
     ensures { result ≡ ledger_of (step calendar.now book table entry) }
 {
     let applied = book::table::apply(calendar, book, &mut table, entry);
@@ -70,7 +70,7 @@ pub fn first_trade() {
     let mut table = [none; 4];
     let mut k = 0;
     while k < 8 {
-        let next = apply(&WEEK, book, table, Entry::Known(events[k]));
+        let next = apply(&WEEK, book, table, Some(events[k]));
         check::expect(next.answer.number == 0);
         book = next.book;
         table = next.table;

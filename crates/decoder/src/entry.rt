@@ -5,7 +5,7 @@ ghost use Rattle.rules.specs.Entry.{event_bytes, number_at, fields_of, rest_of, 
 
 use money::units::{Fen, Sheets, Ticks};
 use rules::book::Posting;
-use rules::event::{Account, Entry, Event, Fields};
+use rules::event::{Account, Event, Fields};
 use rules::limits::EVENT_BYTES;
 use rules::trade::{Contract, Terms};
 
@@ -59,57 +59,57 @@ fn fields_of(bytes: &[u8]) -> Fields
 
 // An event that may use kind and amount.
 #[tactic(auto, using(rules::proofs::Unused::unused_fields))]
-fn kind_and_amount(fields: Fields, event: Event) -> Entry
+fn kind_and_amount(fields: Fields, event: Event) -> Option<Event>
     ensures { result ≡ unless event (rest_of fields) }
 {
     if fields.product != 0 {
-        return Entry::Undecodable;
+        return None;
     }
     if fields.spare != 0 {
-        return Entry::Undecodable;
+        return None;
     }
     if fields.contract != 0 {
-        return Entry::Undecodable;
+        return None;
     }
     if fields.price != 0 {
-        return Entry::Undecodable;
+        return None;
     }
     if fields.fallback != 0 {
-        return Entry::Undecodable;
+        return None;
     }
     if fields.due != 0 {
-        return Entry::Undecodable;
+        return None;
     }
     if fields.last != 0 {
-        return Entry::Undecodable;
+        return None;
     }
-    Entry::Known(event)
+    Some(event)
 }
 
 // An event that may use the amount.
 #[tactic(auto, using(rules::proofs::Unused::unused_fields))]
-fn amount_only(fields: Fields, event: Event) -> Entry
+fn amount_only(fields: Fields, event: Event) -> Option<Event>
     ensures { result ≡ unless event (fields.kind ∷ rest_of fields) }
 {
     if fields.kind != 0 {
-        return Entry::Undecodable;
+        return None;
     }
     kind_and_amount(fields, event)
 }
 
 // An event that is its code.
 #[tactic(auto, using(rules::proofs::Unused::unused_fields))]
-fn code_only(fields: Fields, event: Event) -> Entry
+fn code_only(fields: Fields, event: Event) -> Option<Event>
     ensures { result ≡ unless event (fields.amount ∷ fields.kind ∷ rest_of fields) }
 {
     if fields.amount != 0 {
-        return Entry::Undecodable;
+        return None;
     }
     amount_only(fields, event)
 }
 
 // The account stands where other events have a kind: one event for each of the two.
-fn on_account(fields: Fields, own: Event, client: Event) -> Entry
+fn on_account(fields: Fields, own: Event, client: Event) -> Option<Event>
     ensures { (event : Account → Event) →
         own ≡ event Account.Own
         → client ≡ event Account.Client
@@ -119,22 +119,22 @@ fn on_account(fields: Fields, own: Event, client: Event) -> Entry
     match account {
         0 => kind_and_amount(fields, own),
         1 => kind_and_amount(fields, client),
-        _ => Entry::Undecodable,
+        _ => None,
     }
 }
 
 #[tactic(auto, using(rules::proofs::Unused::unused_fields))]
-fn initial(fields: Fields) -> Entry
+fn initial(fields: Fields) -> Option<Event>
     ensures { result ≡ unless (Event.Initial (terms_of fields)) (fields.kind ∷ fields.spare ∷ fields.last ∷ []) }
 {
     if fields.kind != 0 {
-        return Entry::Undecodable;
+        return None;
     }
     if fields.spare != 0 {
-        return Entry::Undecodable;
+        return None;
     }
     if fields.last != 0 {
-        return Entry::Undecodable;
+        return None;
     }
     let event = Event::Initial(Terms {
         contract: Contract(fields.contract),
@@ -144,72 +144,72 @@ fn initial(fields: Fields) -> Entry
         due: fields.due,
         product: fields.product,
     });
-    Entry::Known(event)
+    Some(event)
 }
 
 #[tactic(auto, using(rules::proofs::Unused::unused_fields))]
-fn early(fields: Fields) -> Entry
+fn early(fields: Fields) -> Option<Event>
     ensures { result ≡ unless (Event.Early (record { 0 = fields.contract }) (sheets fields.amount) (ticks fields.price))
         (fields.kind ∷ fields.product ∷ fields.spare ∷ fields.fallback ∷ fields.due ∷ fields.last ∷ []) }
 {
     if fields.kind != 0 {
-        return Entry::Undecodable;
+        return None;
     }
     if fields.product != 0 {
-        return Entry::Undecodable;
+        return None;
     }
     if fields.spare != 0 {
-        return Entry::Undecodable;
+        return None;
     }
     if fields.fallback != 0 {
-        return Entry::Undecodable;
+        return None;
     }
     if fields.due != 0 {
-        return Entry::Undecodable;
+        return None;
     }
     if fields.last != 0 {
-        return Entry::Undecodable;
+        return None;
     }
     let event = Event::Early(
         Contract(fields.contract),
         Sheets(fields.amount),
         Ticks(fields.price),
     );
-    Entry::Known(event)
+    Some(event)
 }
 
 // The product's number stands where other events have a kind, and its term where they have an amount.
 #[tactic(auto, using(rules::proofs::Unused::unused_fields))]
-fn post(fields: Fields) -> Entry
+fn post(fields: Fields) -> Option<Event>
     ensures { result ≡ unless (Event.Post fields.kind (posting_in fields))
         (fields.product ∷ fields.spare ∷ fields.contract ∷ fields.due ∷ fields.last ∷ []) }
 {
     if fields.product != 0 {
-        return Entry::Undecodable;
+        return None;
     }
     if fields.spare != 0 {
-        return Entry::Undecodable;
+        return None;
     }
     if fields.contract != 0 {
-        return Entry::Undecodable;
+        return None;
     }
     if fields.due != 0 {
-        return Entry::Undecodable;
+        return None;
     }
     if fields.last != 0 {
-        return Entry::Undecodable;
+        return None;
     }
     let posting = Posting {
         term: fields.amount,
         price: Ticks(fields.price),
         fallback: Ticks(fields.fallback),
     };
-    Entry::Known(Event::Post(fields.kind, posting))
+    Some(Event::Post(fields.kind, posting))
 }
 
 // Each code with its event, and with the test that the fields it does not use are 0.
 #[tactic(auto, unfolding(rules::specs::Entry::entry_of, money::specs::Causes::first_of))]
-fn entry_of(fields: Fields) -> Entry
+fn entry_of(fields: Fields) -> Option<Event>
     ensures { result ≡ entry_of fields }
 {
     let code = fields.code;
@@ -237,17 +237,17 @@ fn entry_of(fields: Fields) -> Entry
         11 => code_only(fields, Event::Pay),
         12 => code_only(fields, Event::Close),
         13 => post(fields),
-        _ => Entry::Undecodable,
+        _ => None,
     }
 }
 
 // The event of 40 bytes; any other number of bytes is no event.
 #[tactic(auto, unfolding(rules::specs::Entry::decoded, money::specs::Causes::first_of))]
-pub fn decode(bytes: &[u8]) -> Entry
+pub fn decode(bytes: &[u8]) -> Option<Event>
     ensures { IsEntryOf bytes.now result }
 {
     if bytes.len() != EVENT_BYTES {
-        return Entry::Undecodable;
+        return None;
     }
     entry_of(fields_of(bytes))
 }

@@ -1,8 +1,8 @@
 -- Scalars that go out and come back are as they were: first a book's, then what is well-formed.
 -- For the calls on a book in lent numbers. Assumes nothing.
 use Rattle.std.proofs.Common.{◌≡◌, ℕ, zero, suc, ◌≤◌, true, ◌||◌, eqb, sym, refl, arith, eqb-true, leb-true}
-use Rattle.rules.specs.declared.book.Day.{Day}
-use Rattle.rules.specs.declared.book.Day.TheVariants.{Never, On}
+use Rattle.rules.specs.Book.{Day}
+use Rattle.std.specs.Prelude.{None, Some}
 use Rattle.rules.specs.declared.book.Phase.{Phase}
 use Rattle.rules.specs.declared.book.Phase.TheVariants.{Closed, Trading, Paid}
 use Rattle.rules.specs.declared.book.Status.{Status}
@@ -23,8 +23,8 @@ use Rattle.exports.specs.Raw.{scalars_from, raw_of}
 
 day-back : (day : Day) → day_at (dated_number day) (day_number day) ≡ day
 unfolding day_at
-day-back Never = refl
-day-back (On day) = refl
+day-back None = refl
+day-back (Some day) = refl
 
 phase-back : (phase : Phase) → phase_at (phase_number phase) ≡ phase
 unfolding phase_at

@@ -4,8 +4,8 @@ use Rattle.std.specs.Prelude.{ℕ, Bool, cond, ◌||◌, [], ◌∷◌, ◌==◌
 use Rattle.rules.specs.Folds.{every}
 use Rattle.rules.specs.Days.{day_number}
 use Rattle.rules.specs.declared.book.Standing.{Standing}
-use Rattle.rules.specs.declared.book.Day.{Day}
-use Rattle.rules.specs.declared.book.Day.TheVariants.{Never, On}
+use Rattle.rules.specs.Book.{Day}
+use Rattle.std.specs.Prelude.{None, Some}
 use Rattle.rules.specs.declared.book.Phase.{Phase}
 use Rattle.rules.specs.declared.book.Phase.TheVariants.{Closed, Trading, Paid}
 use Rattle.rules.specs.declared.book.Status.{Status}
@@ -34,7 +34,7 @@ is_well_formed codes =
 -- ---- where a firm stands, from its codes
 
 unfoldable pub day_at : (dated day : ℕ) → Day
-day_at dated day = cond (dated == 1) (On day) Never
+day_at dated day = cond (dated == 1) (Some day) None
 
 unfoldable pub phase_at : ℕ → Phase
 phase_at code = cond (code == 0) Closed (cond (code == 1) Trading Paid)
@@ -60,8 +60,8 @@ standing_at codes = record {
 -- ---- the codes of where a firm stands; where there is no day its number is 0
 
 abbrev pub dated_number : Day → ℕ
-dated_number Never = 0
-dated_number (On day) = 1
+dated_number None = 0
+dated_number (Some day) = 1
 
 abbrev pub phase_number : Phase → ℕ
 phase_number Closed = 0

@@ -3,7 +3,7 @@ ghost use Rattle.std.specs.Prelude.{◌≡◌};
 ghost use Rattle.rules.specs.Days.{day_number};
 ghost use Rattle.exports.specs.Codes.{is_well_formed, day_at, phase_at, status_at, failed_at, short_at, standing_at, dated_number, phase_number, status_number, failed_number, short_number, codes_of};
 
-use rules::book::{Day, FailedRun, Phase, ShortRun, Standing, Status};
+use rules::book::{FailedRun, Phase, ShortRun, Standing, Status};
 
 // `dated` is 1 where there is a day, and else 0, and so is `day`: from C every byte is a number.
 #[repr(C)]
@@ -44,13 +44,13 @@ pub fn is_well_formed(codes: Codes) -> bool
 }
 
 #[tactic(auto, using(std::proofs::Common::refl, std::proofs::Common::ne_eqb), unfolding(crate::specs::Codes::day_at, money::specs::Causes::first_of))]
-fn day_at(dated: u8, day: u32) -> Day
+fn day_at(dated: u8, day: u32) -> Option<u32>
     ensures { result ≡ day_at dated day }
 {
     if dated == 1 {
-        return Day::On(day);
+        return Some(day);
     }
-    Day::Never
+    None
 }
 
 #[tactic(auto, using(std::proofs::Common::refl, std::proofs::Common::ne_eqb), unfolding(crate::specs::Codes::phase_at, money::specs::Causes::first_of))]
@@ -111,21 +111,21 @@ pub fn standing_at(codes: Codes) -> Standing
     }
 }
 
-fn dated_number(day: Day) -> u8
+fn dated_number(day: Option<u32>) -> u8
     ensures { result ≡ dated_number day }
 {
     match day {
-        Day::Never => 0,
-        Day::On(_) => 1,
+        None => 0,
+        Some(_) => 1,
     }
 }
 
-fn day_number(day: Day) -> u32
+fn day_number(day: Option<u32>) -> u32
     ensures { result ≡ day_number day }
 {
     match day {
-        Day::Never => 0,
-        Day::On(number) => number,
+        None => 0,
+        Some(number) => number,
     }
 }
 

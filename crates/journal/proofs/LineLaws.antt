@@ -16,7 +16,7 @@ use Rattle.money.proofs.Refusals.{hit, skip, clear}
 use Rattle.rules.specs.Book.{fresh_book}
 use Rattle.rules.specs.declared.book.Book.{Book}
 use Rattle.rules.specs.declared.trade.Trade.{Trade}
-use Rattle.rules.specs.declared.event.Entry.{Entry}
+use Rattle.rules.specs.Entry.{Entry}
 use Rattle.rules.specs.Step.{step}
 use Rattle.rules.specs.Run.{run}
 use Rattle.rules.specs.Listing.{journal_table, entries_of, line_of, lines_of, listing_of, length_causes, listing_causes, written_by}

@@ -32,14 +32,14 @@ use Rattle.rules.proofs.Accepted.{all-clear}
 use Rattle.rules.proofs.Answers.{turned_down}
 use Rattle.rules.proofs.FitParts.{fit_parts}
 use Rattle.rules.proofs.StaysFit.{others-clear}
-use Rattle.ledger.specs.Types.{Book, Contract, Trade, Terms, Event, Open, FundIn, FundOut, Size, Rate, Pledge, Freeze, Withdraw, Initial, Early, Pay, Close, Post, Entry, Known, Undecodable, Applied}
+use Rattle.ledger.specs.Types.{Book, Contract, Trade, Terms, Event, Open, FundIn, FundOut, Size, Rate, Pledge, Freeze, Withdraw, Initial, Early, Pay, Close, Post, Entry, Some, None, Applied}
 use Rattle.ledger.specs.Flat.{applied_of}
 use Rattle.ledger.specs.Figures.{Figures, figures_of, MovedBy}
 
 -- what a number that is not 0 tells of any entry
 pub unmoved : (entry : Entry) (number : ℕ) (before after : Figures) → MovedBy entry number before after → (number ≡ 0 → ⊥) → after ≡ before
-unmoved (Known event) number before after m z = m.0 z
-unmoved Undecodable number before after m z = m
+unmoved (Some event) number before after m z = m.0 z
+unmoved None number before after m z = m
 
 -- 0 is 0
 never : {A : Type 0} → (◌≡◌ {A = ℕ} 0 0 → ⊥) → A
@@ -68,7 +68,7 @@ module _ (calendar : Calendar) (book : Book) (table : List Trade) (fits : fit ca
 
   -- an event that is done; only a payment that fails has another number than 0
   done-moves : (event : Event) → first_of (event_causes calendar book table event) ≡ none
-      → MovedBy (Known event) (act calendar book table event).answer.number (figures_of book table) (figures_of (act calendar book table event).book (act calendar book table event).table)
+      → MovedBy (Some event) (act calendar book table event).answer.number (figures_of book table) (figures_of (act calendar book table event).book (act calendar book table event).table)
   unfolding event_causes act opened_book funded_in funded_out sized rated pledged frozen withdrawn initial_book early_book after_pay close_answer posted
   done-moves Open e = (never, λ _. refl)
   done-moves (FundIn account amount) e = (never, λ _. refl)
@@ -90,13 +90,13 @@ module _ (calendar : Calendar) (book : Book) (table : List Trade) (fits : fit ca
 
   -- one that is turned down
   refused-moves : (entry : Entry) (n : ℕ) → accepted n ≡ false → MovedBy entry n (figures_of book table) (figures_of book table)
-  refused-moves (Known event) n a = (λ _. refl, λ z. absurd (false≢true (sym a ∙ ap accepted z)))
-  refused-moves Undecodable n a = refl
+  refused-moves (Some event) n a = (λ _. refl, λ z. absurd (false≢true (sym a ∙ ap accepted z)))
+  refused-moves None n a = refl
 
   acted-moves : (entry : Entry) → first_of (entry_causes calendar book table entry) ≡ none
       → MovedBy entry (act_on calendar book table entry).answer.number (figures_of book table) (figures_of (act_on calendar book table entry).book (act_on calendar book table entry).table)
-  acted-moves (Known event) e = done-moves event e
-  acted-moves Undecodable e = refl
+  acted-moves (Some event) e = done-moves event e
+  acted-moves None e = refl
 
   pub step-moves : (entry : Entry)
       → MovedBy entry (step calendar book table entry).answer.number (figures_of book table) (figures_of (step calendar book table entry).book (step calendar book table entry).table)

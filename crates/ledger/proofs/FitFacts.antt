@@ -15,7 +15,7 @@ use Rattle.rules.specs.Fit.{capacity_fit, trade_fit, all_trades, net_fit, day_fi
 use Rattle.money.proofs.TwoTests.{both}
 use Rattle.rules.proofs.FoldLaws.{every_holds}
 use Rattle.rules.proofs.FitParts.{CapacityFits, capacity-fits, fit_parts}
-use Rattle.ledger.specs.Types.{Book, Day, Never, On, Phase}
+use Rattle.ledger.specs.Types.{Book, Day, None, Some, Phase}
 use Rattle.ledger.specs.Flat.{HasSlots, trades_to, capacity, trades_of, Kept, Redeemable}
 use Rattle.ledger.proofs.FlatLaws.{length-trades, take-trades, all_none}
 
@@ -23,8 +23,8 @@ use Rattle.ledger.proofs.FlatLaws.{length-trades, take-trades, all_none}
 
 found_within : (calendar : Calendar) (day : Day) (d : ℕ) → following calendar day ≡ some d → d < 32 * length calendar
 unfolding following
-found_within calendar Never d e = (earliest-is-least calendar d e).within
-found_within calendar (On today) d e = (next-is-least calendar today d e).within
+found_within calendar None d e = (earliest-is-least calendar d e).within
+found_within calendar (Some today) d e = (next-is-least calendar today d e).within
 
 pub payment-within : (calendar : Calendar) (day : Day) → length calendar ≤ 1200 → payment_day calendar day ≤ term_limit
 unfolding payment_day
@@ -38,9 +38,9 @@ payment-within calendar day h = by-found (following calendar day) refl
 
 begun-by-payment : (calendar : Calendar) (day : Day) (phase : Phase) (table : List ℕ) (count : ℕ) → day_fit calendar day phase (trades_to table count) count ≡ true
     → all_trades (λ trade. leb trade.first (payment_day calendar day)) (trades_to table count) ≡ true
-begun-by-payment calendar Never phase table count e =
-    rw (eqb-true count 0 (both (is_closed phase) (eqb count 0) e).1) (all_none (λ trade. leb trade.first (payment_day calendar Never)) table)
-begun-by-payment calendar (On today) phase table count e = (every_holds _ e).1.1.0
+begun-by-payment calendar None phase table count e =
+    rw (eqb-true count 0 (both (is_closed phase) (eqb count 0) e).1) (all_none (λ trade. leb trade.first (payment_day calendar None)) table)
+begun-by-payment calendar (Some today) phase table count e = (every_holds _ e).1.1.0
 
 -- ---- of a table that has room
 

@@ -17,7 +17,7 @@ use Rattle.rules.specs.Initial.{bad_count, initial_causes}
 use Rattle.rules.proofs.FoldLaws.{neither, every_holds}
 use Rattle.rules.proofs.FitParts.{fit_parts}
 use Rattle.rules.proofs.Accepted.{all-clear}
-use Rattle.ledger.specs.Types.{Book, Day, Never, On, Phase, Terms, Trade, Initial}
+use Rattle.ledger.specs.Types.{Book, Day, None, Some, Phase, Terms, Trade, Initial}
 use Rattle.ledger.specs.Flat.{capacity, trades_of}
 use Rattle.ledger.proofs.FlatLaws.{length-trades}
 use Rattle.ledger.proofs.Refusing.{done}
@@ -31,8 +31,8 @@ trading-within calendar day e = side (dec_le (32 * length calendar) day)
     side (no l) = omega arith
 
 day-within : (calendar : Calendar) (day : Day) (phase : Phase) (l : List Trade) (count : ℕ) → length calendar ≤ 1200 → day_fit calendar day phase l count ≡ true → day_number day < 38400
-day-within calendar Never phase l count h e = omega arith
-day-within calendar (On today) phase l count h e = omega (arith, trading-within calendar today (every_holds _ e).0)
+day-within calendar None phase l count h e = omega arith
+day-within calendar (Some today) phase l count h e = omega (arith, trading-within calendar today (every_holds _ e).0)
 
 pub today-within : (calendar : Calendar) (book : Book) (table : List Trade) → fit calendar book table ≡ true → length calendar ≤ 1200 → day_number book.standing.day < 38400
 today-within calendar book table fits h =

@@ -10,7 +10,7 @@ use Rattle.money.proofs.Refusals.{hit, skip}
 use Rattle.rules.specs.Book.{answer}
 use Rattle.rules.specs.Fit.{fit}
 use Rattle.rules.specs.Step.{Outcome, outcome, unfit, event_causes, entry_causes, causes, act, act_on, refuse_or, step}
-use Rattle.ledger.specs.Types.{Book, Trade, Event, Entry, Known, Applied}
+use Rattle.ledger.specs.Types.{Book, Trade, Event, Entry, Some, Applied}
 use Rattle.ledger.specs.Flat.{given_by, table_by, applied_of}
 
 module _ (calendar : Calendar) (book : Book) (table : List Trade) where
@@ -45,12 +45,12 @@ module _ (calendar : Calendar) (book : Book) (table : List Trade) (fits : fit ca
   abbrev refusal : Option ℕ
   refusal = first_of (event_causes calendar book table event)
 
-  by-step : (left : Outcome) → act calendar book table event ≡ left → (r : Applied) (after : List Trade) → Gives (refuse_or refusal book table left) r after → Gives (step calendar book table (Known event)) r after
-  by-step left acts r after given = rw (fit-step calendar book table fits few (Known event), acts) given
+  by-step : (left : Outcome) → act calendar book table event ≡ left → (r : Applied) (after : List Trade) → Gives (refuse_or refusal book table left) r after → Gives (step calendar book table (Some event)) r after
+  by-step left acts r after given = rw (fit-step calendar book table fits few (Some event), acts) given
 
   -- an event that may change the table
   pub changes-table : (done : Applied) (changed : List Trade) → act calendar book table event ≡ outcome done.answer done.book changed
-      → (r : Applied) (after : List Trade) → (r ≡ given_by refusal book done) × (after ≡ table_by refusal table changed) → Gives (step calendar book table (Known event)) r after
+      → (r : Applied) (after : List Trade) → (r ≡ given_by refusal book done) × (after ≡ table_by refusal table changed) → Gives (step calendar book table (Some event)) r after
   changes-table done changed acts r after e = by-step _ acts r after (by-refusal refusal e)
     where
       by-refusal : (o : Option ℕ) → (r ≡ given_by o book done) × (after ≡ table_by o table changed) → Gives (refuse_or o book table (outcome done.answer done.book changed)) r after
@@ -58,7 +58,7 @@ module _ (calendar : Calendar) (book : Book) (table : List Trade) (fits : fit ca
       by-refusal (some n) e = e
 
   -- one that leaves it
-  pub leaves_table : (done : Applied) → act calendar book table event ≡ outcome done.answer done.book table → (r : Applied) → r ≡ given_by refusal book done → Gives (step calendar book table (Known event)) r table
+  pub leaves_table : (done : Applied) → act calendar book table event ≡ outcome done.answer done.book table → (r : Applied) → r ≡ given_by refusal book done → Gives (step calendar book table (Some event)) r table
   leaves_table done acts r e = changes-table done table acts r table (e, same refusal)
     where
       same : (o : Option ℕ) → table ≡ table_by o table table

@@ -6,7 +6,7 @@ use Rattle.money.specs.Days.{Calendar}
 use Rattle.rules.specs.Trades.{in_use, outstanding}
 use Rattle.rules.specs.Vault.{value, outstanding_of}
 use Rattle.rules.specs.Fit.{trade_fit, all_trades}
-use Rattle.ledger.specs.Types.{Trade, Book, Event, Open, FundIn, FundOut, Size, Rate, Pledge, Freeze, Withdraw, Initial, Early, Pay, Close, Post, Entry, Known, Undecodable}
+use Rattle.ledger.specs.Types.{Trade, Book, Event, Open, FundIn, FundOut, Size, Rate, Pledge, Freeze, Withdraw, Initial, Early, Pay, Close, Post, Entry, Some, None}
 use Rattle.ledger.specs.Flat.{FitsWhole, FitsHeld, vault_of, securities_of}
 use Rattle.scalars.specs.declared.state.Scalars.{Scalars}
 pub use Rattle.ledger.specs.declared.figures.Figures.{Figures}
@@ -65,8 +65,8 @@ Moved (Post product posting) before after = after ≡ before
 
 -- after any entry, by its number
 abbrev pub MovedBy : Entry → (number : ℕ) → (before after : Figures) → Type 0
-MovedBy (Known event) number before after = ((number ≢ 0) → after ≡ before) × (number ≡ 0 → Moved event before after)
-MovedBy Undecodable number before after = after ≡ before
+MovedBy (Some event) number before after = ((number ≢ 0) → after ≡ before) × (number ≡ 0 → Moved event before after)
+MovedBy None number before after = after ≡ before
 
 -- ---- what one walk over trades tells
 

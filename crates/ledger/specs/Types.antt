@@ -7,8 +7,7 @@ pub use Rattle.rules.specs.declared.book.Security.{Security}
 pub use Rattle.rules.specs.declared.book.Posting.{Posting}
 pub use Rattle.rules.specs.declared.book.Guarantee.{Guarantee}
 pub use Rattle.rules.specs.declared.book.Vault.{Vault}
-pub use Rattle.rules.specs.declared.book.Day.{Day}
-pub use Rattle.rules.specs.declared.book.Day.TheVariants.{Never, On}
+pub use Rattle.rules.specs.Book.{Day}
 pub use Rattle.rules.specs.declared.book.Phase.{Phase}
 pub use Rattle.rules.specs.declared.book.Phase.TheVariants.{Closed, Trading, Paid}
 pub use Rattle.rules.specs.declared.book.Standing.{Standing}
@@ -21,8 +20,8 @@ pub use Rattle.rules.specs.declared.event.Account.{Account}
 pub use Rattle.rules.specs.declared.event.Account.TheVariants.{Own, Client}
 pub use Rattle.rules.specs.declared.event.Event.{Event}
 pub use Rattle.rules.specs.declared.event.Event.TheVariants.{Open, FundIn, FundOut, Size, Rate, Pledge, Freeze, Withdraw, Initial, Early, Pay, Close, Post}
-pub use Rattle.rules.specs.declared.event.Entry.{Entry}
-pub use Rattle.rules.specs.declared.event.Entry.TheVariants.{Known, Undecodable}
+pub use Rattle.rules.specs.Entry.{Entry}
+pub use Rattle.std.specs.Prelude.{Some, None}
 pub use Rattle.rules.specs.declared.answer.Applied.{Applied}
 pub use Rattle.rules.specs.declared.answer.Ran.{Ran}
 pub use Rattle.rules.specs.declared.answer.Cover.{Cover}

@@ -6,32 +6,31 @@ ghost use Rattle.money.specs.Days.{at_or_after, search_result};
 ghost use Rattle.rules.specs.Days.{following, to_day, day_number, payment_day, followed};
 
 use money::days::Found;
-use rules::book::Day;
 
 // The next day to open.
 #[tactic(auto, unfolding(rules::specs::Days::following, money::specs::Causes::first_of))]
-fn next_found(calendar: &[u32], day: Day) -> Found
+fn next_found(calendar: &[u32], day: Option<u32>) -> Found
     ensures { result ≡ search_result calendar.now (following calendar.now day) }
 {
     match day {
-        Day::Never => money::days::earliest_day(calendar),
-        Day::On(today) => money::days::next_after(calendar, today),
+        None => money::days::earliest_day(calendar),
+        Some(today) => money::days::next_after(calendar, today),
     }
 }
 
 // Today's number.
-pub fn day_number(day: Day) -> u32
+pub fn day_number(day: Option<u32>) -> u32
     ensures { result ≡ day_number day }
 {
     match day {
-        Day::Never => 0,
-        Day::On(today) => today,
+        None => 0,
+        Some(today) => today,
     }
 }
 
 // The payment day of a day is the next trading day.
 #[tactic(auto, unfolding(rules::specs::Days::payment_day, money::specs::Causes::first_of))]
-pub fn payment_day(calendar: &[u32], day: Day) -> u32
+pub fn payment_day(calendar: &[u32], day: Option<u32>) -> u32
     requires { length calendar.now ≤ calendar_limit }
     ensures { result ≡ payment_day calendar.now day }
 {
@@ -60,7 +59,7 @@ pub fn matures(calendar: &[u32], due: u32) -> bool
 }
 
 // Whether there is a day to open with another following.
-pub fn opens(calendar: &[u32], day: Day) -> bool
+pub fn opens(calendar: &[u32], day: Option<u32>) -> bool
     requires { length calendar.now ≤ calendar_limit }
     ensures { result ≡ followed calendar.now (following calendar.now day) }
 {
@@ -73,13 +72,13 @@ pub fn opens(calendar: &[u32], day: Day) -> bool
 
 // The day to open, or never.
 #[tactic(auto, using(money::proofs::Answers::none_elsewhere))]
-pub fn next_day(calendar: &[u32], day: Day) -> Day
+pub fn next_day(calendar: &[u32], day: Option<u32>) -> Option<u32>
     requires { length calendar.now ≤ calendar_limit }
     ensures { result ≡ to_day (following calendar.now day) }
 {
     let found = next_found(calendar, day);
     if found.number != 0 {
-        return Day::Never;
+        return None;
     }
-    Day::On(found.day)
+    Some(found.day)
 }

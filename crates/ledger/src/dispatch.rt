@@ -7,7 +7,7 @@ ghost use Rattle.ledger.specs.Figures.{CountedWhole};
 
 use crate::figures::KnownFigures;
 use crate::{close, early, freeze, funds, initial, open, pay, pledge, post, rate, size, withdraw};
-use rules::event::{Entry, Event};
+use rules::event::Event;
 use scalars::done;
 use scalars::done::Done;
 use scalars::state::Scalars;
@@ -27,7 +27,7 @@ fn event_on(
     requires { CountedWhole calendar.now scalars held.old kinds.old units.old (trades_of table.old) known }
     ensures { let book = book_of scalars (rows_of held.old kinds.old units.old) in
         let trades = trades_of table.old in
-        let next = step calendar.now book trades (Known event) in
+        let next = step calendar.now book trades (Some event) in
         (applied_at result (rows_of held.new kinds.new units.new) ≡ applied_of next)
         × (trades_of table.new ≡ next.table) }
 {
@@ -61,7 +61,7 @@ pub fn entry_on(
     units: &mut [u64],
     table: &mut [u64],
     known: KnownFigures,
-    entry: Entry,
+    entry: Option<Event>,
 ) -> Done
     requires { CountedWhole calendar.now scalars held.old kinds.old units.old (trades_of table.old) known }
     ensures { let book = book_of scalars (rows_of held.old kinds.old units.old) in
@@ -71,7 +71,7 @@ pub fn entry_on(
         × (trades_of table.new ≡ next.table) }
 {
     match entry {
-        Entry::Known(event) => event_on(calendar, scalars, held, kinds, units, table, known, event),
-        Entry::Undecodable => done::answered(2, scalars),
+        Some(event) => event_on(calendar, scalars, held, kinds, units, table, known, event),
+        None => done::answered(2, scalars),
     }
 }

@@ -6,7 +6,7 @@ ghost use Rattle.ledger.specs.Flat.{FitsHeld, trades_of};
 
 use crate::{trades, vault};
 use money::units::Sheets;
-use rules::event::{Entry, Event};
+use rules::event::Event;
 use scalars::state::Scalars;
 
 #[derive(Clone, Copy)]
@@ -144,7 +144,7 @@ fn figures_moved(
 pub fn figures_after(
     calendar: &[u32],
     before: Figures,
-    entry: Entry,
+    entry: Option<Event>,
     number: u8,
     scalars: Scalars,
     held: &[u64],
@@ -159,7 +159,7 @@ pub fn figures_after(
         return before;
     }
     match entry {
-        Entry::Known(event) => figures_moved(calendar, before, event, scalars, held, table),
-        Entry::Undecodable => before,
+        Some(event) => figures_moved(calendar, before, event, scalars, held, table),
+        None => before,
     }
 }

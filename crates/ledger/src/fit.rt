@@ -12,7 +12,7 @@ ghost use Rattle.ledger.specs.Figures.{outstanding_at, latest_first, summary_of}
 use crate::trades::Summary;
 use crate::{days, layout, nets, postings, trades, vault};
 use money::units::{Fen, Sheets};
-use rules::book::{Day, Nets, Standing, Sums};
+use rules::book::{Nets, Standing, Sums};
 use rules::limits::{CAPACITY_LIMIT, SIZE_LIMIT};
 use scalars::state::Scalars;
 use scalars::{standing, unpaid};
@@ -80,7 +80,7 @@ fn opened_fit(calendar: &[u32], today: u32, latest: u32) -> bool
     if !days::has_next(calendar, today) {
         return false;
     }
-    latest <= days::payment_day(calendar, Day::On(today))
+    latest <= days::payment_day(calendar, Some(today))
 }
 
 fn day_fit(calendar: &[u32], standing: Standing, count: usize, latest: u32) -> bool
@@ -90,8 +90,8 @@ fn day_fit(calendar: &[u32], standing: Standing, count: usize, latest: u32) -> b
 {
     let day = standing.day;
     match day {
-        Day::Never => unopened_fit(standing, count),
-        Day::On(today) => opened_fit(calendar, today, latest),
+        None => unopened_fit(standing, count),
+        Some(today) => opened_fit(calendar, today, latest),
     }
 }
 

@@ -14,7 +14,6 @@ use crate::figures::KnownFigures;
 use crate::{days, figures, flat, nets, postings, prices, trades};
 use money::limits::TRADE_LIMIT;
 use money::units::{Fen, Sheets};
-use rules::book::Day;
 use rules::limits::{AHEAD_LIMIT, PRODUCT_LIMIT};
 use rules::trade::{Contract, Terms, Trade};
 use scalars::done::Done;
@@ -33,7 +32,7 @@ fn bad_count(count: Sheets) -> bool
     count.0 > TRADE_LIMIT
 }
 
-fn bad_due(calendar: &[u32], day: Day, due: u32) -> bool
+fn bad_due(calendar: &[u32], day: Option<u32>, due: u32) -> bool
     requires { (length calendar.now ≤ calendar_limit) × (day_number day < term_limit) }
     ensures { result ≡ bad_due calendar.now (day_number day) due }
 {

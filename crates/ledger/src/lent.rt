@@ -16,7 +16,7 @@ use crate::layout::HELD_LENGTH;
 use crate::{cover, dispatch, figures, fit, flat, layout, run};
 use money::units::Sheets;
 use rules::answer::Cover;
-use rules::event::Entry;
+use rules::event::Event;
 use rules::limits::{APPLICATION_LIMIT, EVENT_BYTES, EVENT_LIMIT, LINE_NUMBERS};
 use rules::trade::Trade;
 use scalars::done::Done;
@@ -82,7 +82,7 @@ pub fn apply(
     kinds: &mut [u8],
     units: &mut [u64],
     table: &mut [u64],
-    entry: Entry,
+    entry: Option<Event>,
 ) -> Done
     ensures { let before = lent scalars held.old kinds.old units.old table.old in
         let after = lent result.scalars held.new kinds.new units.new table.new in

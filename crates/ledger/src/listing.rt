@@ -9,7 +9,7 @@ use crate::layout::{HELD_LENGTH, WIDTH};
 use crate::{lent, run};
 use money::units::{Fen, Sheets, SignedFen};
 use rules::book::{
-    Cash, Day, FailedRun, Guarantee, Nets, Phase, ShortRun, Standing, Status, Sums, Unpaid,
+    Cash, FailedRun, Guarantee, Nets, Phase, ShortRun, Standing, Status, Sums, Unpaid,
 };
 use rules::limits::{APPLICATION_LIMIT, JOURNAL_CAPACITY};
 use scalars::state;
@@ -41,7 +41,7 @@ fn fresh_scalars() -> Scalars
         },
         size: Sheets(0),
         standing: Standing {
-            day: Day::Never,
+            day: None,
             phase: Phase::Closed,
             status: Status::Normal,
             failed: FailedRun::NotFailed,

@@ -12,7 +12,7 @@ use Rattle.money.specs.Days.{Calendar, day_or_0}
 use Rattle.rules.specs.Book.{Day, Status, Normal, Suspended, Terminated, Book, is_terminated}
 use Rattle.rules.specs.Days.{following, to_day, day_number, payment_day}
 use Rattle.rules.specs.Trades.{Trade, in_use, outstanding, remaining}
-use Rattle.rules.specs.Entry.{Event, Entry, Known}
+use Rattle.rules.specs.Entry.{Event, Entry, Some}
 use Rattle.rules.specs.Step.{act}
 use Rattle.rules.specs.Run.{Seen}
 use Rattle.rules.specs.Tally.{Tally, day_after, paid_on, says_terminated, tell}
@@ -77,7 +77,7 @@ right calendar t seen nothing paid agrees =
     }
 
 abbrev pub acted : Calendar → Book → List Trade → Event → Seen
-acted calendar book table event = record { book = book; table = table; entry = Known event; left = act calendar book table event }
+acted calendar book table event = record { book = book; table = table; entry = Some event; left = act calendar book table event }
 
 -- ---- days
 

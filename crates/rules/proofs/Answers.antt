@@ -14,7 +14,7 @@ use Rattle.money.specs.Days.{Calendar}
 use Rattle.money.proofs.Smallest.{rising, Least, least-cause}
 use Rattle.rules.specs.Book.{Book}
 use Rattle.rules.specs.Trades.{Trade}
-use Rattle.rules.specs.Entry.{Event, Open, FundIn, FundOut, Size, Rate, Pledge, Freeze, Withdraw, Initial, Early, Pay, Close, Post, Entry, Known, Undecodable}
+use Rattle.rules.specs.Entry.{Event, Open, FundIn, FundOut, Size, Rate, Pledge, Freeze, Withdraw, Initial, Early, Pay, Close, Post, Entry, Some, None}
 use Rattle.rules.specs.Open.{open_causes}
 use Rattle.rules.specs.Funds.{fund_in_causes, fund_out_causes}
 use Rattle.rules.specs.Size.{size_causes}
@@ -92,8 +92,8 @@ event-numbers calendar book table Close = record { ordered = refl; sized = refl;
 event-numbers calendar book table (Post product posting) = record { ordered = refl; sized = refl; listed = refl; known = refl }
 
 entry-numbers : (calendar : Calendar) (book : Book) (table : List Trade) (entry : Entry) → Computed (entry_causes calendar book table entry)
-entry-numbers calendar book table (Known event) = event-numbers calendar book table event
-entry-numbers calendar book table Undecodable = record { ordered = refl; sized = refl; listed = refl; known = refl }
+entry-numbers calendar book table (Some event) = event-numbers calendar book table event
+entry-numbers calendar book table None = record { ordered = refl; sized = refl; listed = refl; known = refl }
 
 -- ---- the first number in order is given: nothing that applies stands before it
 
@@ -142,24 +142,24 @@ turned_down calendar book table entry n e = go (unfit calendar book table) e
 
 acted-accepted : (calendar : Calendar) (book : Book) (table : List Trade) (entry : Entry) → accepted (act_on calendar book table entry).answer.number ≡ true
 unfolding act close_answer
-acted-accepted calendar book table (Known Open) = refl
-acted-accepted calendar book table (Known (FundIn account amount)) = refl
-acted-accepted calendar book table (Known (FundOut account amount)) = refl
-acted-accepted calendar book table (Known (Size size)) = refl
-acted-accepted calendar book table (Known (Rate kind rate)) = refl
-acted-accepted calendar book table (Known (Pledge kind units)) = refl
-acted-accepted calendar book table (Known (Freeze kind units)) = refl
-acted-accepted calendar book table (Known (Withdraw kind units)) = refl
-acted-accepted calendar book table (Known (Initial terms)) = refl
-acted-accepted calendar book table (Known (Early contract count price)) = refl
-acted-accepted calendar book table (Known Pay) = paid (fails book)
+acted-accepted calendar book table (Some Open) = refl
+acted-accepted calendar book table (Some (FundIn account amount)) = refl
+acted-accepted calendar book table (Some (FundOut account amount)) = refl
+acted-accepted calendar book table (Some (Size size)) = refl
+acted-accepted calendar book table (Some (Rate kind rate)) = refl
+acted-accepted calendar book table (Some (Pledge kind units)) = refl
+acted-accepted calendar book table (Some (Freeze kind units)) = refl
+acted-accepted calendar book table (Some (Withdraw kind units)) = refl
+acted-accepted calendar book table (Some (Initial terms)) = refl
+acted-accepted calendar book table (Some (Early contract count price)) = refl
+acted-accepted calendar book table (Some Pay) = paid (fails book)
   where
     paid : (failing : Bool) → accepted (pay_number failing) ≡ true
     paid true = refl
     paid false = refl
-acted-accepted calendar book table (Known Close) = refl
-acted-accepted calendar book table (Known (Post product posting)) = refl
-acted-accepted calendar book table Undecodable = refl
+acted-accepted calendar book table (Some Close) = refl
+acted-accepted calendar book table (Some (Post product posting)) = refl
+acted-accepted calendar book table None = refl
 
 pub accepted-where-none-applies : (calendar : Calendar) (book : Book) (table : List Trade) (entry : Entry) → first_of (causes calendar book table entry) ≡ none → accepted (step calendar book table entry).answer.number ≡ true
 unfolding step

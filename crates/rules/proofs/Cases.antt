@@ -13,7 +13,7 @@ use Rattle.rules.specs.Book.{Status, Normal, Suspended, Terminated, Book, Answer
 use Rattle.rules.specs.Days.{today, payment_day}
 use Rattle.rules.specs.Trades.{Trade, no_trade, in_use, trade_of}
 use Rattle.rules.specs.Vault.{value, headroom}
-use Rattle.rules.specs.Entry.{Own, Client, Open, FundIn, FundOut, Size, Rate, Pledge, Initial, Pay, Close, Entry, Known}
+use Rattle.rules.specs.Entry.{Own, Client, Open, FundIn, FundOut, Size, Rate, Pledge, Initial, Pay, Close, Entry, Some}
 use Rattle.rules.specs.Step.{step}
 use Rattle.rules.specs.Run.{last_book, last_table}
 use Rattle.rules.specs.Demand3.{seen_from}
@@ -31,20 +31,20 @@ no_trades = replicate 8 no_trade
 
 abbrev pub initial : (count contract price fallback due : ℕ) → Entry
 initial count contract price fallback due =
-    Known (Initial (record { contract = record { 0 = contract }; sheets = sheets count; price = ticks price; fallback = ticks fallback; due = due; product = 0 }))
+    Some (Initial (record { contract = record { 0 = contract }; sheets = sheets count; price = ticks price; fallback = ticks fallback; due = due; product = 0 }))
 
 -- up to the second Open: cover of 180 sheets, no trade yet
 abbrev pub cover180 : List Entry
 cover180 =
-    Known (Size (sheets 1000))
-    ∷ Known (FundIn Own (fen 5000000))
-    ∷ Known (FundIn Client (fen 3000000))
-    ∷ Known (Rate 0 9000)
-    ∷ Known Open
-    ∷ Known (Pledge 0 200)
-    ∷ Known Pay
-    ∷ Known Close
-    ∷ Known Open
+    Some (Size (sheets 1000))
+    ∷ Some (FundIn Own (fen 5000000))
+    ∷ Some (FundIn Client (fen 3000000))
+    ∷ Some (Rate 0 9000)
+    ∷ Some Open
+    ∷ Some (Pledge 0 200)
+    ∷ Some Pay
+    ∷ Some Close
+    ∷ Some Open
     ∷ []
 
 abbrev pub ◌then◌ : List Entry → List Entry → List Entry
@@ -55,8 +55,8 @@ infixr 20 ◌then◌
 abbrev pub journal : List Entry
 journal =
     cover180
-    then (initial 100 7 3650 1000 4 ∷ Known Pay ∷ Known Close ∷ Known Open ∷ [])
-    then (initial 90 8 3650 1000 6 ∷ Known Pay ∷ Known Close ∷ [])
+    then (initial 100 7 3650 1000 4 ∷ Some Pay ∷ Some Close ∷ Some Open ∷ [])
+    then (initial 90 8 3650 1000 6 ∷ Some Pay ∷ Some Close ∷ [])
 
 -- of each event: answer, headroom's sign and size, O, own, client, guarantee cash
 abbrev listing : List (List ℕ)
@@ -135,14 +135,14 @@ status_after calendar entries = pos (status_number (after calendar entries).stan
 -- two kinds of 5 units at 9,000 that have arrived
 abbrev two_kinds : List Entry
 two_kinds =
-    Known (Rate 0 9000) ∷ Known (Rate 1 9000) ∷ Known Open ∷ Known (Pledge 0 5) ∷ Known (Pledge 1 5) ∷ Known Pay ∷ Known Close ∷ []
+    Some (Rate 0 9000) ∷ Some (Rate 1 9000) ∷ Some Open ∷ Some (Pledge 0 5) ∷ Some (Pledge 1 5) ∷ Some Pay ∷ Some Close ∷ []
 
 -- day 6, paid: contract 7 was due on day 4, a holiday
 abbrev until_day_6 : List Entry
-until_day_6 = journal then (Known Open ∷ Known Pay ∷ [])
+until_day_6 = journal then (Some Open ∷ Some Pay ∷ [])
 
 abbrev closed_day_6 : List Entry
-closed_day_6 = until_day_6 then (Known Close ∷ [])
+closed_day_6 = until_day_6 then (Some Close ∷ [])
 
 -- the days that contract 7 has run by then: from its first payment day to that day's payment day
 abbrev days_counted : ℕ
@@ -152,7 +152,7 @@ days_counted =
 
 -- a trade begun on day 3, paid on day 6
 abbrev from_day_3 : List Entry
-from_day_3 = cover180 then (Known Pay ∷ Known Close ∷ Known Open ∷ initial 100 9 3650 1000 6 ∷ Known Pay ∷ Known Close ∷ Known Open ∷ Known Pay ∷ [])
+from_day_3 = cover180 then (Some Pay ∷ Some Close ∷ Some Open ∷ initial 100 9 3650 1000 6 ∷ Some Pay ∷ Some Close ∷ Some Open ∷ Some Pay ∷ [])
 
 -- every day trades
 abbrev pub daily : Calendar
@@ -162,10 +162,10 @@ daily = 255 ∷ []
 abbrev pub failed_once : List Entry
 failed_once =
     cover180
-    then (Known (FundOut Client (fen 3000000)) ∷ initial 100 7 3650 1000 6 ∷ Known Pay ∷ Known Close ∷ Known Open ∷ Known Pay ∷ Known Close ∷ [])
+    then (Some (FundOut Client (fen 3000000)) ∷ initial 100 7 3650 1000 6 ∷ Some Pay ∷ Some Close ∷ Some Open ∷ Some Pay ∷ Some Close ∷ [])
 
 abbrev pub failed_twice : List Entry
-failed_twice = failed_once then (Known Open ∷ Known Pay ∷ Known Close ∷ [])
+failed_twice = failed_once then (Some Open ∷ Some Pay ∷ Some Close ∷ [])
 
 abbrev pub cases : List Case
 cases =
@@ -181,9 +181,9 @@ cases =
     ∷ (M7 is headroom_after week cover180 ∷ number_to week cover180 (initial 180 7 3650 1000 4) ∷ headroom_after week (cover180 then (initial 180 7 3650 1000 4 ∷ [])) ∷ [] gives pos 180 ∷ pos 0 ∷ pos 0 ∷ [])
     ∷ (M8 is headroom_after week cover180 ∷ number_to week cover180 (initial 190 7 3650 1000 4) ∷ [] gives pos 180 ∷ pos 12 ∷ [])
     -- "contract 7 above matures at the Close of day 6 over 7 - 3 = 4 days": the day, the days, the sheets, the net that is cleared
-    ∷ (M9 is pos (today (after week until_day_6)) ∷ pos days_counted ∷ pos (answer_to week until_day_6 (Known Close)).matured.0 ∷ (after week closed_day_6).nets.cleared.0 ∷ [] gives pos 6 ∷ pos 4 ∷ pos 100 ∷ pos 1000400 ∷ [])
+    ∷ (M9 is pos (today (after week until_day_6)) ∷ pos days_counted ∷ pos (answer_to week until_day_6 (Some Close)).matured.0 ∷ (after week closed_day_6).nets.cleared.0 ∷ [] gives pos 6 ∷ pos 4 ∷ pos 100 ∷ pos 1000400 ∷ [])
     -- "failed runs 1 and 2 open suspended and terminated"
-    ∷ (M10 is status_after daily (failed_once then (Known Open ∷ [])) ∷ status_after daily (failed_twice then (Known Open ∷ [])) ∷ [] gives pos 1 ∷ pos 2 ∷ [])
+    ∷ (M10 is status_after daily (failed_once then (Some Open ∷ [])) ∷ status_after daily (failed_twice then (Some Open ∷ [])) ∷ [] gives pos 1 ∷ pos 2 ∷ [])
     ∷ []
 
 pub worked-cases : map {B = Name × List ℤ} (λ (c : Case). (c.name, c.gives)) cases ≡ map {B = Name × List ℤ} (λ (c : Case). (c.name, c.says)) cases
@@ -196,11 +196,11 @@ all-ten = refl
 -- ---- beside them
 
 -- a trade begun on day 3 and due on day 6 runs over 7 - 6 = 1 day, not 3
-pub one-day-over-a-holiday : (after week (from_day_3 then (Known Close ∷ []))).nets.cleared.0 ≡ pos 1000100
+pub one-day-over-a-holiday : (after week (from_day_3 then (Some Close ∷ []))).nets.cleared.0 ≡ pos 1000100
 unfolding every_rule last_book last_table
 one-day-over-a-holiday = refl
 
 -- on termination contract 7 is redeemed whole at its fallback price, 1,000 ticks over 3 days, into the net that waits
-pub terminated-at-fallback : (after daily (failed_twice then (Known Open ∷ []))).nets.cleared.0 ≡ pos 82
+pub terminated-at-fallback : (after daily (failed_twice then (Some Open ∷ []))).nets.cleared.0 ≡ pos 82
 unfolding every_rule last_book last_table
 terminated-at-fallback = refl

@@ -11,7 +11,7 @@ use lib.Dec.{leb, eqb}
 use lib.ListN.{length}
 use Rattle.money.specs.Causes.{Cause, ◌⇒◌, first_of, number_of}
 use Rattle.money.specs.Units.{fen}
-use Rattle.rules.specs.Entry.{Account, Own, Client, Event, FundIn, FundOut, Entry, Undecodable, Fields, fields_of, rest_of, unless, on_account, entry_of, decoded, entry_number, among, field_causes, decoding_causes, IsEntryOf}
+use Rattle.rules.specs.Entry.{Account, Own, Client, Event, FundIn, FundOut, Entry, None, Fields, fields_of, rest_of, unless, on_account, entry_of, decoded, entry_number, among, field_causes, decoding_causes, IsEntryOf}
 use Rattle.rules.proofs.FoldLaws.{by-test}
 
 -- ---- an event and the fields that it does not use
@@ -24,13 +24,13 @@ unfolding unless first_of
 unless-number event [] = refl
 unless-number event (field ∷ unused) =
     by-test
-    (λ zero. entry_number (cond zero (unless event unused) Undecodable) ≡ number_of (cond (not zero) (some 2) (first_of (straying unused))))
+    (λ zero. entry_number (cond zero (unless event unused) None) ≡ number_of (cond (not zero) (some 2) (first_of (straying unused))))
     (eqb field 0)
     (λ e. unless-number event unused)
     (λ e. refl)
 
 client-number : (event : Event) (unused : List ℕ) (client : Bool)
-    → entry_number (cond client (unless event unused) Undecodable) ≡ number_of (cond (not client) (some 2) (first_of (straying unused)))
+    → entry_number (cond client (unless event unused) None) ≡ number_of (cond (not client) (some 2) (first_of (straying unused)))
 client-number event unused true = unless-number event unused
 client-number event unused false = refl
 
@@ -39,7 +39,7 @@ account-number : (account : ℕ) (event : Account → Event) (unused : List ℕ)
 unfolding first_of
 account-number account event unused =
     by-test
-    (λ own. entry_number (cond own (unless (event Own) unused) (cond (eqb account 1) (unless (event Client) unused) Undecodable))
+    (λ own. entry_number (cond own (unless (event Own) unused) (cond (eqb account 1) (unless (event Client) unused) None))
     ≡ number_of (cond (not (own || eqb account 1)) (some 2) (first_of (straying unused))))
     (eqb account 0)
     (λ e. unless-number (event Own) unused)
@@ -101,7 +101,7 @@ module _ (f : Fields) where
       none n1 n2 n3 n4 n5 n6 n7 n8 n9 n10 n11 n12 n13)))))))))))))
 
 whole-number : (bytes : List ℕ) (whole : Bool)
-    → entry_number (cond whole (entry_of (fields_of bytes)) Undecodable) ≡ number_of (cond (not whole) (some 2) (first_of (field_causes (fields_of bytes))))
+    → entry_number (cond whole (entry_of (fields_of bytes)) None) ≡ number_of (cond (not whole) (some 2) (first_of (field_causes (fields_of bytes))))
 whole-number bytes true = fields-number (fields_of bytes)
 whole-number bytes false = refl
 

@@ -11,7 +11,7 @@ use Rattle.money.specs.Causes.{first_of}
 use Rattle.money.specs.Days.{Calendar}
 use Rattle.rules.specs.Book.{Book, fresh_book}
 use Rattle.rules.specs.Trades.{Trade, total, outstanding, remaining}
-use Rattle.rules.specs.Entry.{Open, FundIn, FundOut, Size, Rate, Pledge, Freeze, Withdraw, Initial, Early, Pay, Close, Post, Entry, Known, Undecodable}
+use Rattle.rules.specs.Entry.{Open, FundIn, FundOut, Size, Rate, Pledge, Freeze, Withdraw, Initial, Early, Pay, Close, Post, Entry, Some, None}
 use Rattle.rules.specs.Step.{causes, act_on, refuse_or, step, accepted}
 use Rattle.rules.specs.Run.{Seen, see, run, Follows, last_book, last_table}
 use Rattle.rules.specs.Tally.{Tally, blank, tell, tally_of}
@@ -44,20 +44,20 @@ module _ (calendar : Calendar) (book : Book) (table : List Trade) (t : Tally) (i
 
   accepted-right : (entry : Entry) → Clear (causes calendar book table entry) → Right calendar t (record { book = book; table = table; entry = entry; left = act_on calendar book table entry })
   unfolding causes
-  accepted-right (Known Open) clear = at_open calendar book table t i clear
-  accepted-right (Known (FundIn account amount)) clear = at-fund_in calendar book table t i account amount
-  accepted-right (Known (FundOut account amount)) clear = at-fund_out calendar book table t i account amount clear
-  accepted-right (Known (Size size)) clear = at_size calendar book table t i size
-  accepted-right (Known (Rate kind rate)) clear = at-rate calendar book table t i kind rate
-  accepted-right (Known (Pledge kind units)) clear = at-pledge calendar book table t i kind units clear
-  accepted-right (Known (Freeze kind units)) clear = at-freeze calendar book table t i kind units
-  accepted-right (Known (Withdraw kind units)) clear = at-withdraw calendar book table t i kind units
-  accepted-right (Known (Initial terms)) clear = at-initial calendar book table t i terms clear
-  accepted-right (Known (Early contract count price)) clear = at-early calendar book table t i contract count price clear
-  accepted-right (Known Pay) clear = at-pay calendar book table t i
-  accepted-right (Known Close) clear = at-close calendar book table t i clear
-  accepted-right (Known (Post product posting)) clear = at-post calendar book table t i product posting
-  accepted-right Undecodable clear = let applies : true ≡ false = clear 2 in let z : ◌≡◌ {A = ℕ} 0 1 = cc in absurd (omega arith)
+  accepted-right (Some Open) clear = at_open calendar book table t i clear
+  accepted-right (Some (FundIn account amount)) clear = at-fund_in calendar book table t i account amount
+  accepted-right (Some (FundOut account amount)) clear = at-fund_out calendar book table t i account amount clear
+  accepted-right (Some (Size size)) clear = at_size calendar book table t i size
+  accepted-right (Some (Rate kind rate)) clear = at-rate calendar book table t i kind rate
+  accepted-right (Some (Pledge kind units)) clear = at-pledge calendar book table t i kind units clear
+  accepted-right (Some (Freeze kind units)) clear = at-freeze calendar book table t i kind units
+  accepted-right (Some (Withdraw kind units)) clear = at-withdraw calendar book table t i kind units
+  accepted-right (Some (Initial terms)) clear = at-initial calendar book table t i terms clear
+  accepted-right (Some (Early contract count price)) clear = at-early calendar book table t i contract count price clear
+  accepted-right (Some Pay) clear = at-pay calendar book table t i
+  accepted-right (Some Close) clear = at-close calendar book table t i clear
+  accepted-right (Some (Post product posting)) clear = at-post calendar book table t i product posting
+  accepted-right None clear = let applies : true ≡ false = clear 2 in let z : ◌≡◌ {A = ℕ} 0 1 = cc in absurd (omega arith)
 
   step_right : (entry : Entry) → Right calendar t (see calendar book table entry)
   unfolding step

@@ -19,7 +19,7 @@ use Rattle.rules.specs.Book.{Posting, Book, answer, is_terminated}
 use Rattle.rules.specs.Days.{following, to_day, day_number, payment_day}
 use Rattle.rules.specs.Trades.{Contract, Terms, Trade, in_use, total, outstanding, on_table, trade_of, take_off, emptied, matured, maturity_amount, fallback_amount, remaining, packed, over}
 use Rattle.rules.specs.Vault.{value, headroom}
-use Rattle.rules.specs.Entry.{Account, Open, FundIn, FundOut, Size, Rate, Pledge, Freeze, Withdraw, Initial, Early, Pay, Close, Post, Known}
+use Rattle.rules.specs.Entry.{Account, Open, FundIn, FundOut, Size, Rate, Pledge, Freeze, Withdraw, Initial, Early, Pay, Close, Post, Some}
 use Rattle.rules.specs.Open.{next_status, turns_terminated, net_with_fallbacks, opened_book, opened_table}
 use Rattle.rules.specs.Funds.{funded_in, funded_out, fund_out_causes}
 use Rattle.rules.specs.Size.{sized}
@@ -70,7 +70,7 @@ module _ (calendar : Calendar) (book : Book) (table : List Trade) (t : Tally) (i
   at-fund_in account amount =
       right calendar t _ refl refl (with-cash _ _ (ap pos (funds-in-add book account amount) ∙ ap (λ sum. sum +ℤ pos amount.0) i.cash))
 
-  pub at-fund_out : (account : Account) (amount : Fen) → Clear (causes calendar book table (Known (FundOut account amount))) → Right calendar t (acted calendar book table (FundOut account amount))
+  pub at-fund_out : (account : Account) (amount : Fen) → Clear (causes calendar book table (Some (FundOut account amount))) → Right calendar t (acted calendar book table (FundOut account amount))
   unfolding act counted tell funded_out causes event_causes fund_out_causes
   at-fund_out account amount clear =
       right calendar t _ refl refl
@@ -84,7 +84,7 @@ module _ (calendar : Calendar) (book : Book) (table : List Trade) (t : Tally) (i
   unfolding act counted tell rated
   at-rate kind rate = right calendar t _ refl refl i
 
-  pub at-pledge : (kind units : ℕ) → Clear (causes calendar book table (Known (Pledge kind units))) → Right calendar t (acted calendar book table (Pledge kind units))
+  pub at-pledge : (kind units : ℕ) → Clear (causes calendar book table (Some (Pledge kind units))) → Right calendar t (acted calendar book table (Pledge kind units))
   unfolding act counted tell pledged causes event_causes pledge_causes
   at-pledge kind units clear =
       right calendar t _ refl refl (with-cash _ _ (ap pos (pledge-keeps-cash book kind units (clear 13)) ∙ i.cash))
@@ -101,7 +101,7 @@ module _ (calendar : Calendar) (book : Book) (table : List Trade) (t : Tally) (i
   payment-day : paid_on calendar t.day ≡ payment_day calendar book.standing.day
   payment-day = rw i.day (sym (payment_day-is-paid_on calendar t.day))
 
-  pub at-initial : (terms : Terms) → Clear (causes calendar book table (Known (Initial terms))) → Right calendar t (acted calendar book table (Initial terms))
+  pub at-initial : (terms : Terms) → Clear (causes calendar book table (Some (Initial terms))) → Right calendar t (acted calendar book table (Initial terms))
   unfolding act counted tell initial_book initial_table causes event_causes initial_causes headroom
   at-initial terms clear =
       let new : Trade = begun calendar book terms in
@@ -124,7 +124,7 @@ module _ (calendar : Calendar) (book : Book) (table : List Trade) (t : Tally) (i
         moves = +ℤ_idr t.paid;
       }
 
-  pub at-early : (contract : Contract) (count : Sheets) (price : Ticks) → Clear (causes calendar book table (Known (Early contract count price))) → Right calendar t (acted calendar book table (Early contract count price))
+  pub at-early : (contract : Contract) (count : Sheets) (price : Ticks) → Clear (causes calendar book table (Some (Early contract count price))) → Right calendar t (acted calendar book table (Early contract count price))
   unfolding act counted tell early_book early_table causes event_causes early_causes
   at-early contract count price clear =
       let q : ℕ = count.0 in
@@ -152,7 +152,7 @@ module _ (calendar : Calendar) (book : Book) (table : List Trade) (t : Tally) (i
   unfolding act counted tell after_pay
   at-pay = go (fails book) refl
     where
-      go : (b : Bool) → fails book ≡ b → Right calendar t (record { book = book; table = table; entry = Known Pay; left = outcome (answer (pay_number b)) (after_pay b book) table })
+      go : (b : Bool) → fails book ≡ b → Right calendar t (record { book = book; table = table; entry = Some Pay; left = outcome (answer (pay_number b)) (after_pay b book) table })
       go true e = record {
         agrees = i;
         initial = λ h a. absurd h;
@@ -176,7 +176,7 @@ module _ (calendar : Calendar) (book : Book) (table : List Trade) (t : Tally) (i
         moves = rw (payment-moves-net book.cash book.nets.cleared.0 e) (+ℤ_comm t.paid book.nets.cleared.0 ∙ sym i.cleared);
       }
 
-  pub at-close : Clear (causes calendar book table (Known Close)) → Right calendar t (acted calendar book table Close)
+  pub at-close : Clear (causes calendar book table (Some Close)) → Right calendar t (acted calendar book table Close)
   unfolding act counted tell causes closed_book closed_table close_answer matured_trades matured_amount left_trades started_terms started_principal
   at-close clear =
       let d : ℕ = day_number book.standing.day in
@@ -263,7 +263,7 @@ module _ (calendar : Calendar) (book : Book) (table : List Trade) (t : Tally) (i
         ended = λ p. rw rows (remaining-emptied trades);
       }
 
-  pub at_open : Clear (causes calendar book table (Known Open)) → Right calendar t (acted calendar book table Open)
+  pub at_open : Clear (causes calendar book table (Some Open)) → Right calendar t (acted calendar book table Open)
   unfolding act counted tell opened_book opened_table turns_terminated causes event_causes
   at_open clear =
       let terminated : Bool = is_terminated (next_status book.standing) in

@@ -11,7 +11,7 @@ use lib.Dec.{eqb}
 use lib.IntN.{ℤ, pos, negsuc, nat_abs, ◌-ℤ◌}
 use Rattle.rules.specs.Book.{FailedRun, NotFailed, FailedOnce, FailedTwice, Book, fresh_book, answer, with_cash, with_standing, with_postings}
 use Rattle.rules.specs.Trades.{Trade}
-use Rattle.rules.specs.Entry.{Open, Pay, Close, Entry, Known}
+use Rattle.rules.specs.Entry.{Open, Pay, Close, Entry, Some}
 use Rattle.rules.specs.Step.{Outcome, outcome, step}
 use Rattle.rules.specs.Run.{Seen, see, run, Follows, last_book, last_table}
 use Rattle.rules.specs.Tally.{Tally, blank, counted, tell, tally_of}
@@ -61,12 +61,12 @@ abbrev first_batch : List Entry
 first_batch =
     cover180
     then (initial 100 7 3650 1000 2 ∷ initial 90 8 3650 1000 6 ∷ initial 50 9 3650 1000 6 ∷ [])
-    then (Known Pay ∷ Known Close ∷ Known Open ∷ [])
-    then (Known Pay ∷ Known Close ∷ Known Open ∷ [])
+    then (Some Pay ∷ Some Close ∷ Some Open ∷ [])
+    then (Some Pay ∷ Some Close ∷ Some Open ∷ [])
 
 -- the second batch, 1,000,100 fen from own to client, is paid on day 3
 abbrev two_batches : List Entry
-two_batches = first_batch then (Known Pay ∷ [])
+two_batches = first_batch then (Some Pay ∷ [])
 
 -- ---- by the rules
 
@@ -211,7 +211,7 @@ never_terminates = record {
 
 -- the day after two failed payments
 abbrev third_opening : List Entry
-third_opening = failed_twice then (Known Open ∷ [])
+third_opening = failed_twice then (Some Open ∷ [])
 
 -- its trade stands, which by the rules is redeemed
 pub left-and-redeemed : (outstanding_after no_trades (seen_on never_terminates third_opening) ≡ 100)
@@ -238,7 +238,7 @@ keeps_postings = record {
 
 -- the product was posted on the day before alone
 abbrev due_unposted : List Entry
-due_unposted = begun100 then (Known Pay ∷ Known Close ∷ [])
+due_unposted = begun100 then (Some Pay ∷ Some Close ∷ [])
 
 -- a next term stands, which by the rules did not start
 pub started-and-not-told : (outstanding_after no_trades (seen_on keeps_postings due_unposted) ≡ 100)

@@ -18,7 +18,7 @@ use Rattle.rules.specs.Book.{Book}
 use Rattle.rules.specs.Trades.{Contract, Trade, Terms, no_trade, in_use, take_off, emptied, remaining, packed, over}
 use Rattle.rules.specs.Vault.{headroom}
 use Rattle.rules.specs.Fit.{capacity_fit, fit}
-use Rattle.rules.specs.Entry.{Event, Open, FundIn, FundOut, Size, Rate, Pledge, Freeze, Withdraw, Initial, Early, Pay, Close, Post, Entry, Known, Undecodable}
+use Rattle.rules.specs.Entry.{Event, Open, FundIn, FundOut, Size, Rate, Pledge, Freeze, Withdraw, Initial, Early, Pay, Close, Post, Entry, Some, None}
 use Rattle.rules.specs.Open.{turns_terminated, open_causes, opened_book, opened_table}
 use Rattle.rules.specs.Size.{size_causes}
 use Rattle.rules.specs.Initial.{initial_causes, begun, initial_table}
@@ -144,8 +144,8 @@ module _ (calendar : Calendar) (book : Book) (front rest : List Trade) (room : b
   -- ---- the entry
 
   entry-front : (entry : Entry) → (entry_causes calendar book (front ++ rest) entry ≡ entry_causes calendar book front entry) × (act_on calendar book (front ++ rest) entry ≡ with_rest (act_on calendar book front entry) rest)
-  entry-front (Known event) = (causes-front event, act-front event)
-  entry-front Undecodable = (refl, refl)
+  entry-front (Some event) = (causes-front event, act-front event)
+  entry-front None = (refl, refl)
 
   pub step-front : (entry : Entry) → step calendar book (front ++ rest) entry ≡ with_rest (step calendar book front entry) rest
   unfolding step causes

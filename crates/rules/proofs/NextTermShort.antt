@@ -13,7 +13,7 @@ use Rattle.rules.specs.Book.{NotShort, Vault, Book}
 use Rattle.rules.specs.Days.{today}
 use Rattle.rules.specs.Trades.{Trade, in_use, total, outstanding, maturing, remaining}
 use Rattle.rules.specs.Vault.{value, headroom}
-use Rattle.rules.specs.Entry.{Close, Known}
+use Rattle.rules.specs.Entry.{Close, Some}
 use Rattle.rules.specs.NextTerm.{next_term, starts, with_started, if_started, started_from}
 use Rattle.rules.specs.Close.{matured_trades, outstanding_matured, left_trades, started_terms, all_arrived, evening, claims_at_close, is_short_close, closed_table, closed_book}
 use Rattle.rules.specs.Step.{act, step, accepted}
@@ -71,12 +71,12 @@ module _ (calendar : Calendar) (book : Book) (table : List Trade) (some : starte
   starting-is-not-short = not_short book left kept (omega (arith, left-covered)) kept-covers
 
   -- so where it is accepted, headroom is 0 or above after it, and the short run is 0
-  pub close-with-starts : accepted (step calendar book table (Known Close)).answer.number ≡ true
-      → let after = step calendar book table (Known Close) in (pos 0 ≤ℤ headroom after.book after.table) × (after.book.standing.short ≡ NotShort)
+  pub close-with-starts : accepted (step calendar book table (Some Close)).answer.number ≡ true
+      → let after = step calendar book table (Some Close) in (pos 0 ≤ℤ headroom after.book after.table) × (after.book.standing.short ≡ NotShort)
   unfolding step act closed_book closed_table headroom
   close-with-starts done =
       let room : outstanding left ≤ min book.size.0 (value kept) = omega (arith, left-covered, kept-covers) in
-      rw (accepted-only-where-none-applies calendar book table (Known Close) done) (
+      rw (accepted-only-where-none-applies calendar book table (Some Close) done) (
         rw (take-packed book.trades (remaining left) table, outstanding-remaining left) (sub-at-least-0 (min book.size.0 (value kept)) (outstanding left) room),
         rw starting-is-not-short refl,
       )

@@ -11,7 +11,7 @@ use Rattle.money.specs.Units.{fen, sheets, ticks}
 use Rattle.money.specs.Days.{Calendar}
 use Rattle.rules.specs.Book.{FailedOnce, FailedTwice, ShortOnce, ShortTwice, ShortThrice}
 use Rattle.rules.specs.Vault.{headroom}
-use Rattle.rules.specs.Entry.{Own, Client, Open, FundIn, FundOut, Size, Rate, Pledge, Freeze, Withdraw, Early, Pay, Close, Entry, Known, Undecodable, Fields, unless, entry_of, code_of}
+use Rattle.rules.specs.Entry.{Own, Client, Open, FundIn, FundOut, Size, Rate, Pledge, Freeze, Withdraw, Early, Pay, Close, Entry, Some, None, Fields, unless, entry_of, code_of}
 use Rattle.rules.specs.Pay.{failed_more}
 use Rattle.rules.specs.Close.{short_more}
 use Rattle.rules.specs.Run.{Seen}
@@ -45,10 +45,10 @@ abbrev rows_after : Calendar → (earlier entries : List Entry) → List (List �
 rows_after = rows_by row_of
 
 abbrev early : (contract : ℕ) → Entry
-early contract = Known (Early (record { 0 = contract }) (sheets 10) (ticks 1825))
+early contract = Some (Early (record { 0 = contract }) (sheets 10) (ticks 1825))
 
 -- frozen units do not count; kind 32 has no rate to set, kind 33 is no kind; a refused Close carries 0 for all; what does not decode is 2
-pub units-and-kinds : rows_after daily cover180 (Known (Freeze 0 50) ∷ Known (Rate 32 9000) ∷ Known (Rate 31 9000) ∷ Known (Pledge 33 1) ∷ Known Close ∷ Undecodable ∷ []) ≡
+pub units-and-kinds : rows_after daily cover180 (Some (Freeze 0 50) ∷ Some (Rate 32 9000) ∷ Some (Rate 31 9000) ∷ Some (Pledge 33 1) ∷ Some Close ∷ None ∷ []) ≡
     (0 ∷ 0 ∷ 0 ∷ 135 ∷ 5000000 ∷ [])
     ∷ (3 ∷ 0 ∷ 0 ∷ 135 ∷ 5000000 ∷ [])
     ∷ (0 ∷ 0 ∷ 0 ∷ 135 ∷ 5000000 ∷ [])
@@ -78,7 +78,7 @@ unfolding rows_by
 sheets-and-terms = refl
 
 -- a suspended firm begins no trade, and may redeem early what is on its table
-pub suspended : rows_after daily failed_once (Known Open ∷ initial 10 8 3650 1000 6 ∷ early 9 ∷ early 7 ∷ []) ≡
+pub suspended : rows_after daily failed_once (Some Open ∷ initial 10 8 3650 1000 6 ∷ early 9 ∷ early 7 ∷ []) ≡
     (0 ∷ 0 ∷ 0 ∷ 80 ∷ 5000000 ∷ [])
     ∷ (6 ∷ 0 ∷ 0 ∷ 80 ∷ 5000000 ∷ [])
     ∷ (10 ∷ 0 ∷ 0 ∷ 80 ∷ 5000000 ∷ [])
@@ -90,20 +90,20 @@ suspended = refl
 -- 200 units of kind 0 and 10,000 fen of guarantee cash count from day 1 on
 abbrev with_cash : List Entry
 with_cash =
-    Known (Size (sheets 1000))
-    ∷ Known (FundIn Own (fen 5000000))
-    ∷ Known (FundIn Client (fen 3000000))
-    ∷ Known (Rate 0 9000)
-    ∷ Known Open
-    ∷ Known (Pledge 0 200)
-    ∷ Known (Pledge 32 10000)
-    ∷ Known Pay
-    ∷ Known Close
-    ∷ Known Open
+    Some (Size (sheets 1000))
+    ∷ Some (FundIn Own (fen 5000000))
+    ∷ Some (FundIn Client (fen 3000000))
+    ∷ Some (Rate 0 9000)
+    ∷ Some Open
+    ∷ Some (Pledge 0 200)
+    ∷ Some (Pledge 32 10000)
+    ∷ Some Pay
+    ∷ Some Close
+    ∷ Some Open
     ∷ []
 
 -- on the due day it is too late to redeem early
-pub due : rows_after daily (with_cash then (initial 100 7 3650 1000 2 ∷ Known Pay ∷ Known Close ∷ Known Open ∷ [])) (early 7 ∷ []) ≡
+pub due : rows_after daily (with_cash then (initial 100 7 3650 1000 2 ∷ Some Pay ∷ Some Close ∷ Some Open ∷ [])) (early 7 ∷ []) ≡
     (9 ∷ 0 ∷ 0 ∷ 81 ∷ 4990000 ∷ [])
     ∷ []
 unfolding rows_by
@@ -111,10 +111,10 @@ due = refl
 
 -- 100 sheets stand, and three applications: the second asks for more than cover allows
 abbrev applied3 : List Entry
-applied3 = with_cash then (initial 100 7 3650 1000 6 ∷ Known (Withdraw 0 50) ∷ Known (Withdraw 0 100) ∷ Known (Withdraw 32 10000) ∷ Known Pay ∷ [])
+applied3 = with_cash then (initial 100 7 3650 1000 6 ∷ Some (Withdraw 0 50) ∷ Some (Withdraw 0 100) ∷ Some (Withdraw 32 10000) ∷ Some Pay ∷ [])
 
 -- withdrawals: done, dropped for want of cover, done; cash goes to own
-pub withdrawals : rows_after daily applied3 (Known Close ∷ []) ≡
+pub withdrawals : rows_after daily applied3 (Some Close ∷ []) ≡
     (0 ∷ 2 ∷ 1 ∷ 35 ∷ 5000000 ∷ [])
     ∷ []
 unfolding rows_by
@@ -124,10 +124,10 @@ withdrawals = refl
 abbrev applied_not_paid : List Entry
 applied_not_paid =
     with_cash
-    then (Known (FundOut Client (fen 3000000)) ∷ initial 100 7 3650 1000 6 ∷ Known Pay ∷ Known Close ∷ Known Open ∷ Known (Withdraw 0 50) ∷ Known Pay ∷ [])
+    then (Some (FundOut Client (fen 3000000)) ∷ initial 100 7 3650 1000 6 ∷ Some Pay ∷ Some Close ∷ Some Open ∷ Some (Withdraw 0 50) ∷ Some Pay ∷ [])
 
 -- on such a day every application is dropped
-pub not-paid : rows_after daily applied_not_paid (Known Close ∷ []) ≡
+pub not-paid : rows_after daily applied_not_paid (Some Close ∷ []) ≡
     (0 ∷ 0 ∷ 1 ∷ 81 ∷ 4990000 ∷ [])
     ∷ []
 unfolding rows_by

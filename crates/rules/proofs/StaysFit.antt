@@ -14,7 +14,7 @@ use Rattle.money.specs.Days.{Calendar}
 use Rattle.rules.specs.Book.{Book, no_security, fresh_book}
 use Rattle.rules.specs.Trades.{Trade, outstanding, total, differ}
 use Rattle.rules.specs.Fit.{all_trades, fit}
-use Rattle.rules.specs.Entry.{Event, Open, FundIn, FundOut, Size, Rate, Pledge, Freeze, Withdraw, Initial, Early, Pay, Close, Post, Entry, Known, Undecodable}
+use Rattle.rules.specs.Entry.{Event, Open, FundIn, FundOut, Size, Rate, Pledge, Freeze, Withdraw, Initial, Early, Pay, Close, Post, Entry, Some, None}
 use Rattle.rules.specs.Step.{event_causes, entry_causes, causes, act, act_on, refuse_or, step}
 use Rattle.rules.specs.Run.{run}
 use Rattle.rules.specs.Demand3.{All}
@@ -73,8 +73,8 @@ act-keeps-fit calendar book table f (Post product posting) e = posted-fits calen
 
 acted-fit : (calendar : Calendar) (book : Book) (table : List Trade) → fit calendar book table ≡ true → (entry : Entry) → first_of (entry_causes calendar book table entry) ≡ none
     → fit calendar (act_on calendar book table entry).book (act_on calendar book table entry).table ≡ true
-acted-fit calendar book table f (Known event) e = parts-fit calendar _ _ (act-keeps-fit calendar book table (fit_parts calendar book table f) event e)
-acted-fit calendar book table f Undecodable e = f
+acted-fit calendar book table f (Some event) e = parts-fit calendar _ _ (act-keeps-fit calendar book table (fit_parts calendar book table f) event e)
+acted-fit calendar book table f None e = f
 
 pub step-keeps-fit : (calendar : Calendar) (book : Book) (table : List Trade) → fit calendar book table ≡ true → (entry : Entry)
     → fit calendar (step calendar book table entry).book (step calendar book table entry).table ≡ true

@@ -9,7 +9,7 @@ use Rattle.money.specs.Units.{fen, sheets, ticks}
 use Rattle.money.specs.Days.{Calendar}
 use Rattle.rules.specs.Book.{Book, with_unpaid}
 use Rattle.rules.specs.Vault.{value, outstanding_of}
-use Rattle.rules.specs.Entry.{Client, Open, FundOut, Withdraw, Early, Pay, Close, Entry, Known}
+use Rattle.rules.specs.Entry.{Client, Open, FundOut, Withdraw, Early, Pay, Close, Entry, Some}
 use Rattle.rules.specs.Close.{taken_out}
 use Rattle.rules.specs.Step.{step}
 use Rattle.rules.specs.Run.{Seen, last_book, last_table}
@@ -28,15 +28,15 @@ row_of seen =
     ∷ []
 
 abbrev early : (count price : ℕ) → Entry
-early count price = Known (Early (record { 0 = 7 }) (sheets count) (ticks price))
+early count price = Some (Early (record { 0 = 7 }) (sheets count) (ticks price))
 
 -- V is 180; contract 7 runs with 100 sheets since yesterday; today 40 of them are redeemed at some price
 abbrev redeemed40 : (price : ℕ) → List Entry
-redeemed40 price = cover180 then (initial 100 7 3650 1000 4 ∷ Known Pay ∷ Known Close ∷ Known Open ∷ early 40 price ∷ [])
+redeemed40 price = cover180 then (initial 100 7 3650 1000 4 ∷ Some Pay ∷ Some Close ∷ Some Open ∷ early 40 price ∷ [])
 
 -- units of kind 0 applied for, then the day's end
 abbrev evening : (units : ℕ) → List Entry
-evening units = Known (Withdraw 0 units) ∷ Known Pay ∷ Known Close ∷ []
+evening units = Some (Withdraw 0 units) ∷ Some Pay ∷ Some Close ∷ []
 
 -- ---- either side, and equality
 
@@ -69,7 +69,7 @@ unfolding rows_by
 one-fen-more = refl
 
 -- once they are paid the clients hold the pledge no more: the next evening the 89 units go
-pub paid-evening : rows_by row_of daily (redeemed40 0 then evening 89) (Known Open ∷ evening 89) ≡
+pub paid-evening : rows_by row_of daily (redeemed40 0 then evening 89) (Some Open ∷ evening 89) ≡
     (0 ∷ 0 ∷ 0 ∷ 0 ∷ 400000 ∷ [])
     ∷ (0 ∷ 0 ∷ 0 ∷ 0 ∷ 400000 ∷ [])
     ∷ (0 ∷ 0 ∷ 0 ∷ 0 ∷ 0 ∷ [])
@@ -80,7 +80,7 @@ paid-evening = refl
 
 -- this Close's own maturities are unpaid as well: 60 sheets mature over 3 days, none stands, and of 199 units none goes
 abbrev until_maturity : List Entry
-until_maturity = redeemed40 0 then (Known Pay ∷ Known Close ∷ Known Open ∷ Known Pay ∷ Known Close ∷ Known Open ∷ [])
+until_maturity = redeemed40 0 then (Some Pay ∷ Some Close ∷ Some Open ∷ Some Pay ∷ Some Close ∷ Some Open ∷ [])
 
 pub maturing-evening : rows_by row_of daily until_maturity (evening 199) ≡
     (0 ∷ 0 ∷ 0 ∷ 0 ∷ 0 ∷ [])
@@ -94,7 +94,7 @@ maturing-evening = refl
 
 -- today's initial trade is larger than what is redeemed: the clients pay the net, and U is cleared all the same; what is redeemed
 -- before that payment stays
-pub net-below-zero : rows_by row_of daily (redeemed40 0) (initial 80 8 3650 1000 5 ∷ Known Pay ∷ Known Close ∷ Known Open ∷ early 10 0 ∷ Known Pay ∷ []) ≡
+pub net-below-zero : rows_by row_of daily (redeemed40 0) (initial 80 8 3650 1000 5 ∷ Some Pay ∷ Some Close ∷ Some Open ∷ early 10 0 ∷ Some Pay ∷ []) ≡
     (0 ∷ 0 ∷ 0 ∷ 400000 ∷ 0 ∷ [])
     ∷ (0 ∷ 0 ∷ 0 ∷ 400000 ∷ 0 ∷ [])
     ∷ (0 ∷ 0 ∷ 0 ∷ 0 ∷ 400000 ∷ [])
@@ -109,11 +109,11 @@ net-below-zero = refl
 abbrev owed_for_10 : List Entry
 owed_for_10 =
     cover180
-    then (Known (FundOut Client (fen 3000000)) ∷ initial 100 7 3650 1000 6 ∷ early 10 0 ∷ Known Pay ∷ Known Close ∷ Known Open ∷ [])
+    then (Some (FundOut Client (fen 3000000)) ∷ initial 100 7 3650 1000 6 ∷ early 10 0 ∷ Some Pay ∷ Some Close ∷ Some Open ∷ [])
 
 -- a payment that fails keeps both parts; the second failure terminates, and contract 7 joins the cleared part at its fallback price,
 -- 80 sheets over 3 days; there it stays, for Pay is 5
-pub failed-and-terminated : rows_by row_of daily owed_for_10 (early 10 0 ∷ Known Pay ∷ Known Close ∷ Known Open ∷ Known Pay ∷ Known Close ∷ Known Open ∷ Known Pay ∷ []) ≡
+pub failed-and-terminated : rows_by row_of daily owed_for_10 (early 10 0 ∷ Some Pay ∷ Some Close ∷ Some Open ∷ Some Pay ∷ Some Close ∷ Some Open ∷ Some Pay ∷ []) ≡
     (0 ∷ 0 ∷ 0 ∷ 100000 ∷ 100000 ∷ [])
     ∷ (99 ∷ 0 ∷ 0 ∷ 100000 ∷ 100000 ∷ [])
     ∷ (0 ∷ 0 ∷ 0 ∷ 0 ∷ 200000 ∷ [])
@@ -144,7 +144,7 @@ unfolding every_rule last_book last_table
 early-by-todays-part = refl
 
 -- 60 sheets mature at 600,180 fen
-pub close-at-limit : map (number_at daily (until_maturity then (Known Pay ∷ [])) (Known Close) 0) (3999999999999399820 ∷ 3999999999999399821 ∷ []) ≡ (0 ∷ 14 ∷ [])
+pub close-at-limit : map (number_at daily (until_maturity then (Some Pay ∷ [])) (Some Close) 0) (3999999999999399820 ∷ 3999999999999399821 ∷ []) ≡ (0 ∷ 14 ∷ [])
 unfolding every_rule last_book last_table
 close-at-limit = refl
 
@@ -152,17 +152,17 @@ close-at-limit = refl
 abbrev five_days : Calendar
 five_days = 31 ∷ []
 
-pub open-at-limit : map (number_at daily failed_twice (Known Open) 0) (3999999999998999918 ∷ 3999999999998999919 ∷ []) ≡ (0 ∷ 14 ∷ [])
+pub open-at-limit : map (number_at daily failed_twice (Some Open) 0) (3999999999998999918 ∷ 3999999999998999919 ∷ []) ≡ (0 ∷ 14 ∷ [])
 unfolding every_rule last_book last_table
 open-at-limit = refl
 
-pub no-day-at-limit : map (number_at five_days failed_twice (Known Open) 0) (3999999999998999918 ∷ 3999999999998999919 ∷ []) ≡ (16 ∷ 16 ∷ [])
+pub no-day-at-limit : map (number_at five_days failed_twice (Some Open) 0) (3999999999998999918 ∷ 3999999999998999919 ∷ []) ≡ (16 ∷ 16 ∷ [])
 unfolding every_rule last_book last_table
 no-day-at-limit = refl
 
 -- U at its limit is fit, and past it is 1, by either part alone and by both together
 abbrev pay_owing : (today cleared : ℕ) → ℕ
-pay_owing = number_at daily (redeemed40 0) (Known Pay)
+pay_owing = number_at daily (redeemed40 0) (Some Pay)
 
 pub unfit-past-limit : (pay_owing 2000000000000000000 2000000000000000000 ∷ pay_owing 2000000000000000001 2000000000000000000 ∷ pay_owing 4000000000000000001 0 ∷ pay_owing 0 4000000000000000001 ∷ []) ≡ (0 ∷ 1 ∷ 1 ∷ 1 ∷ [])
 unfolding every_rule last_book last_table

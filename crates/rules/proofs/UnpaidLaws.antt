@@ -15,7 +15,7 @@ use Rattle.rules.specs.Book.{Book, answer, fresh_book}
 use Rattle.rules.specs.Unpaid.{unpaid_sum, unpaid_of, cleared_plus}
 use Rattle.rules.specs.Trades.{Trade, outstanding, remaining}
 use Rattle.rules.specs.Vault.{value, outstanding_of}
-use Rattle.rules.specs.Entry.{Event, Open, FundIn, FundOut, Size, Rate, Pledge, Freeze, Withdraw, Initial, Early, Pay, Close, Post, Entry, Known}
+use Rattle.rules.specs.Entry.{Event, Open, FundIn, FundOut, Size, Rate, Pledge, Freeze, Withdraw, Initial, Early, Pay, Close, Post, Entry, Some}
 use Rattle.rules.specs.Open.{turns_terminated, fallback_sum, opened_book}
 use Rattle.rules.specs.Funds.{funded_in, funded_out}
 use Rattle.rules.specs.Size.{sized}
@@ -38,7 +38,7 @@ use Rattle.rules.proofs.EveningFit.{gone, over-evening}
 
 -- ---- what is redeemed joins U: of every accepted event but a payment that was made
 
-act-grows : (calendar : Calendar) (book : Book) (table : List Trade) (event : Event) → (is_pay (Known event) && eqb (act calendar book table event).answer.number 0) ≡ false
+act-grows : (calendar : Calendar) (book : Book) (table : List Trade) (event : Event) → (is_pay (Some event) && eqb (act calendar book table event).answer.number 0) ≡ false
     → unpaid_of (act calendar book table event).book ≡ unpaid_of book + amount_redeemed calendar book table event
 unfolding act opened_book funded_in funded_out sized rated pledged frozen withdrawn initial_book early_book after_pay closed_book close_answer posted
 act-grows calendar book table Open other = go (turns_terminated book.standing)
@@ -65,12 +65,12 @@ act-grows calendar book table Close other = omega arith
 act-grows calendar book table (Post product posting) other = omega arith
 
 pub unpaid-grows : (calendar : Calendar) (book : Book) (table : List Trade) (event : Event)
-    → let after = step calendar book table (Known event) in
-    accepted after.answer.number ≡ true → (is_pay (Known event) && eqb after.answer.number 0) ≡ false
+    → let after = step calendar book table (Some event) in
+    accepted after.answer.number ≡ true → (is_pay (Some event) && eqb after.answer.number 0) ≡ false
     → unpaid_of after.book ≡ unpaid_of book + amount_redeemed calendar book table event
 unfolding step
 unpaid-grows calendar book table event done other =
-    let clear = accepted-only-where-none-applies calendar book table (Known event) done in
+    let clear = accepted-only-where-none-applies calendar book table (Some event) done in
     rw clear (act-grows calendar book table event (rw clear at other))
 
 -- ---- "Pay made sets the cleared part to 0 and keeps the part of today."
@@ -80,24 +80,24 @@ module _ (calendar : Calendar) (book : Book) (table : List Trade) where
   abbrev after-pay : Option ℕ → (failing : Bool) → Outcome
   after-pay cause failing = refuse_or cause book table (outcome (answer (pay_number failing)) (after_pay failing book) table)
 
-  pub pay-clears : let after = step calendar book table (Known Pay) in
+  pub pay-clears : let after = step calendar book table (Some Pay) in
       after.answer.number ≡ 0 → (after.book.sums.unpaid.cleared.0 ≡ 0) × (after.book.sums.unpaid.today ≡ book.sums.unpaid.today)
   unfolding step act after_pay
-  pay-clears made = go (first_of (causes calendar book table (Known Pay))) refl (fails book) made
+  pay-clears made = go (first_of (causes calendar book table (Some Pay))) refl (fails book) made
     where
-      go : (cause : Option ℕ) → first_of (causes calendar book table (Known Pay)) ≡ cause → (failing : Bool) → (after-pay cause failing).answer.number ≡ 0
+      go : (cause : Option ℕ) → first_of (causes calendar book table (Some Pay)) ≡ cause → (failing : Bool) → (after-pay cause failing).answer.number ≡ 0
           → ((after-pay cause failing).book.sums.unpaid.cleared.0 ≡ 0) × ((after-pay cause failing).book.sums.unpaid.today ≡ book.sums.unpaid.today)
       go none e false made = (refl, refl)
       go none e true made = absurd (omega arith)
       go (some n) e failing made =
-          let refused = turned_down calendar book table (Known Pay) n e in
+          let refused = turned_down calendar book table (Some Pay) n e in
           let not-0 : accepted 0 ≡ false = rw made at refused in
           let z : ◌≡◌ {A = ℕ} 0 1 = cc in absurd (omega arith)
 
   -- one that is not made, failed or refused, keeps both parts
-  pub pay-not-made : let after = step calendar book table (Known Pay) in (after.answer.number ≡ 0 → ⊥) → after.book.sums.unpaid ≡ book.sums.unpaid
+  pub pay-not-made : let after = step calendar book table (Some Pay) in (after.answer.number ≡ 0 → ⊥) → after.book.sums.unpaid ≡ book.sums.unpaid
   unfolding step act after_pay
-  pay-not-made other = go (first_of (causes calendar book table (Known Pay))) (fails book) other
+  pay-not-made other = go (first_of (causes calendar book table (Some Pay))) (fails book) other
     where
       go : (cause : Option ℕ) (failing : Bool) → ((after-pay cause failing).answer.number ≡ 0 → ⊥) → (after-pay cause failing).book.sums.unpaid ≡ book.sums.unpaid
       go none false other = absurd (other refl)
@@ -106,7 +106,7 @@ module _ (calendar : Calendar) (book : Book) (table : List Trade) where
 
 -- over every list of entries, from a fresh book too: right after a Pay that was made, U's cleared part is 0
 run-clears : (calendar : Calendar) (book : Book) (table : List Trade) (entries : List Entry)
-    → All (λ seen. seen.entry ≡ Known Pay → number seen ≡ 0 → seen.left.book.sums.unpaid.cleared.0 ≡ 0) (run calendar book table entries)
+    → All (λ seen. seen.entry ≡ Some Pay → number seen ≡ 0 → seen.left.book.sums.unpaid.cleared.0 ≡ 0) (run calendar book table entries)
 unfolding run
 run-clears calendar book table [] = tt
 run-clears calendar book table (entry ∷ entries) = (
@@ -114,11 +114,11 @@ run-clears calendar book table (entry ∷ entries) = (
   run-clears calendar (step calendar book table entry).book (step calendar book table entry).table entries,
 )
   where
-    cleared : (entry : Entry) → entry ≡ Known Pay → number (see calendar book table entry) ≡ 0 → (step calendar book table entry).book.sums.unpaid.cleared.0 ≡ 0
+    cleared : (entry : Entry) → entry ≡ Some Pay → number (see calendar book table entry) ≡ 0 → (step calendar book table entry).book.sums.unpaid.cleared.0 ≡ 0
     cleared entry pays made = rw pays (pay-clears calendar book table (rw pays at made)).0
 
 pub paid-and-cleared : (calendar : Calendar) (table : List Trade) (entries : List Entry)
-    → All (λ seen. seen.entry ≡ Known Pay → number seen ≡ 0 → seen.left.book.sums.unpaid.cleared.0 ≡ 0) (seen_from calendar table entries)
+    → All (λ seen. seen.entry ≡ Some Pay → number seen ≡ 0 → seen.left.book.sums.unpaid.cleared.0 ≡ 0) (seen_from calendar table entries)
 paid-and-cleared calendar table entries = run-clears calendar fresh_book table entries
 
 -- ---- an evening that lets anything go leaves outstanding sheets and U covered
@@ -149,9 +149,9 @@ closed-covered calendar book left table some-went =
     (omega (arith, evening-covered book (claims_of (outstanding left) (unpaid_sum (unpaid_at_close calendar book table))) some-went))
 
 -- so it does after a Close that let anything go
-pub close-covered : (calendar : Calendar) (book : Book) (table : List Trade) → 0 < (step calendar book table (Known Close)).answer.done → Covered (step calendar book table (Known Close))
+pub close-covered : (calendar : Calendar) (book : Book) (table : List Trade) → 0 < (step calendar book table (Some Close)).answer.done → Covered (step calendar book table (Some Close))
 unfolding step act
-close-covered calendar book table some-went = go (first_of (causes calendar book table (Known Close))) some-went
+close-covered calendar book table some-went = go (first_of (causes calendar book table (Some Close))) some-went
   where
     go : (cause : Option ℕ) → 0 < (refuse_or cause book table (act calendar book table Close)).answer.done → Covered (refuse_or cause book table (act calendar book table Close))
     go none some-went = closed-covered calendar book (left_trades calendar book table) table some-went

@@ -12,7 +12,7 @@ use Rattle.rules.specs.Book.{Unpaid, Book, Answer, answer, with_unpaid}
 use Rattle.rules.specs.Trades.{Trade, in_use}
 use Rattle.rules.specs.Vault.{headroom}
 use Rattle.rules.specs.Fit.{fit}
-use Rattle.rules.specs.Entry.{Event, Open, FundIn, FundOut, Size, Rate, Pledge, Freeze, Withdraw, Initial, Early, Pay, Close, Post, Known}
+use Rattle.rules.specs.Entry.{Event, Open, FundIn, FundOut, Size, Rate, Pledge, Freeze, Withdraw, Initial, Early, Pay, Close, Post, Some}
 use Rattle.rules.specs.Open.{opened_book, opened_table}
 use Rattle.rules.specs.Funds.{fund_in_causes, funded_in, fund_out_causes, funded_out}
 use Rattle.rules.specs.Size.{size_causes, sized}
@@ -130,7 +130,7 @@ module _ (book : Book) (unpaid : Unpaid) where
   module _ (calendar : Calendar) (table : List Trade) (event : Event) where
     -- so the ten events that do not look at U give fit books the same answer and line
     pub step-as-before : looks_at_unpaid event ≡ false → unfit calendar book table ≡ false → unfit calendar (with_unpaid unpaid book) table ≡ false
-        → line_of (step calendar (with_unpaid unpaid book) table (Known event)) ≡ line_of (step calendar book table (Known event))
+        → line_of (step calendar (with_unpaid unpaid book) table (Some event)) ≡ line_of (step calendar book table (Some event))
     unfolding step causes first_of
     step-as-before blind fit fit' =
         rw (fit, fit', same-causes calendar table event blind) (go (first_of (event_causes calendar book table event)))
@@ -144,10 +144,10 @@ module _ (book : Book) (unpaid : Unpaid) where
         go (some number) = line-as-before _ table
 
     -- and Open and Early too, where both books accept them: an early redemption frees headroom on the spot
-    pub accepted-as-before : (event ≡ Close → ⊥) → accepted (step calendar book table (Known event)).answer.number ≡ true
-        → accepted (step calendar (with_unpaid unpaid book) table (Known event)).answer.number ≡ true
-        → line_of (step calendar (with_unpaid unpaid book) table (Known event)) ≡ line_of (step calendar book table (Known event))
+    pub accepted-as-before : (event ≡ Close → ⊥) → accepted (step calendar book table (Some event)).answer.number ≡ true
+        → accepted (step calendar (with_unpaid unpaid book) table (Some event)).answer.number ≡ true
+        → line_of (step calendar (with_unpaid unpaid book) table (Some event)) ≡ line_of (step calendar book table (Some event))
     unfolding step
     accepted-as-before other done done' =
-        rw (accepted-only-where-none-applies calendar book table (Known event) done, accepted-only-where-none-applies calendar (with_unpaid unpaid book) table (Known event) done')
+        rw (accepted-only-where-none-applies calendar book table (Some event) done, accepted-only-where-none-applies calendar (with_unpaid unpaid book) table (Some event) done')
         (same_line calendar table event other)

@@ -4,10 +4,10 @@ use mathlib.Core.Path.{◌≡◌, refl}
 use mathlib.Core.List.{List, [], ◌∷◌}
 use Prim.Native.Nat.{ℕ}
 use borrow.Author.Tests.{eq-eqb, ne_eqb}
-use Rattle.rules.specs.Entry.{Event, Entry, Known, Undecodable, unless}
+use Rattle.rules.specs.Entry.{Event, Entry, Some, None, unless}
 
 -- the field in front is not 0
-pub used : (event : Event) {field : ℕ} (unused : List ℕ) → (field ≡ 0 → ⊥) → Undecodable ≡ unless event (field ∷ unused)
+pub used : (event : Event) {field : ℕ} (unused : List ℕ) → (field ≡ 0 → ⊥) → None ≡ unless event (field ∷ unused)
 unfolding unless
 used event {field} unused not-zero = rw (ne_eqb field 0 not-zero) refl
 
@@ -17,7 +17,7 @@ unfolding unless
 zero event {field} unused is_zero others = rw (eq-eqb field 0 is_zero) others
 
 -- none is left
-pub known : (event : Event) → Known event ≡ unless event []
+pub known : (event : Event) → Some event ≡ unless event []
 unfolding unless
 known event = refl
 

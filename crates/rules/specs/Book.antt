@@ -1,6 +1,6 @@
 -- The book, its parts and a fresh one. (01, The book)
 -- Assumes nothing.
-use Rattle.std.specs.Prelude.{ℕ, zero, suc, Bool, true, false, not, List, eqb, pos, get_or, replicate}
+use Rattle.std.specs.Prelude.{ℕ, zero, suc, Bool, true, false, not, List, Option, eqb, pos, get_or, replicate}
 use Rattle.money.specs.declared.units.Sheets.{Sheets}
 use Rattle.money.specs.Units.{fen, sheets, ticks, signed_fen}
 use Rattle.rules.specs.Limits.{application_limit, product_limit}
@@ -11,8 +11,7 @@ pub use Rattle.rules.specs.declared.book.Cash.{Cash}
 pub use Rattle.rules.specs.declared.book.Security.{Security}
 pub use Rattle.rules.specs.declared.book.Guarantee.{Guarantee}
 pub use Rattle.rules.specs.declared.book.Vault.{Vault}
-pub use Rattle.rules.specs.declared.book.Day.{Day}
-pub use Rattle.rules.specs.declared.book.Day.TheVariants.{Never, On}
+pub use Rattle.std.specs.Prelude.{None, Some}
 pub use Rattle.rules.specs.declared.book.Phase.{Phase}
 pub use Rattle.rules.specs.declared.book.Phase.TheVariants.{Closed, Trading, Paid}
 pub use Rattle.rules.specs.declared.book.Status.{Status}
@@ -26,6 +25,10 @@ pub use Rattle.rules.specs.declared.book.Withdrawals.{Withdrawals}
 pub use Rattle.rules.specs.declared.book.Posting.{Posting}
 pub use Rattle.rules.specs.declared.book.Book.{Book}
 pub use Rattle.rules.specs.declared.answer.Answer.{Answer}
+
+-- a book's day, once it has one
+abbrev pub Day : Type 0
+Day = Option ℕ
 
 -- ---- tests of the cases
 
@@ -121,7 +124,7 @@ fresh_book = record {
   cash = record { own = fen 0; client = fen 0 };
   vault = record { guarantee = record { effective = fen 0; arriving = fen 0; frozen = fen 0 }; securities = replicate 32 no_security };
   size = sheets 0;
-  standing = record { day = Never; phase = Closed; status = Normal; failed = NotFailed; short = NotShort };
+  standing = record { day = None; phase = Closed; status = Normal; failed = NotFailed; short = NotShort };
   withdrawals = no_applications;
   postings = no_postings;
   trades = 0;

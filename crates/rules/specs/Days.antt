@@ -3,24 +3,24 @@
 use Rattle.std.specs.Prelude.{ℕ, Bool, false, not}
 use Rattle.std.proofs.Math.Option.{Option, none, some}
 use Rattle.money.specs.Days.{Calendar, earliest, next_after, missing, day_or_0}
-use Rattle.rules.specs.declared.book.Day.{Day}
-use Rattle.rules.specs.declared.book.Day.TheVariants.{Never, On}
+use Rattle.rules.specs.Book.{Day}
+use Rattle.std.specs.Prelude.{None, Some}
 use Rattle.rules.specs.declared.book.Book.{Book}
 
 -- "goes to the next trading day, at first the earliest"
 unfoldable pub following : Calendar → Day → Option ℕ
-following calendar Never = earliest calendar
-following calendar (On day) = next_after calendar day
+following calendar None = earliest calendar
+following calendar (Some day) = next_after calendar day
 
 -- a day that was found, or none
 abbrev pub to_day : Option ℕ → Day
-to_day none = Never
-to_day (some day) = On day
+to_day none = None
+to_day (some day) = Some day
 
 -- today's number
 abbrev pub day_number : Day → ℕ
-day_number Never = 0
-day_number (On day) = day
+day_number None = 0
+day_number (Some day) = day
 
 abbrev pub today : Book → ℕ
 today book = day_number book.standing.day

@@ -1,6 +1,6 @@
 -- The thirteen events, and how 40 bytes give one. (01, Twelve events; The journal; 02, ask 4)
 -- Assumes nothing.
-use Rattle.std.specs.Prelude.{ℕ, ◌+◌, ◌*◌, ◌≡◌, Bool, false, not, cond, ◌&&◌, ◌||◌, List, [], ◌∷◌, leb, eqb, length, take, drop, get_or}
+use Rattle.std.specs.Prelude.{ℕ, ◌+◌, ◌*◌, ◌≡◌, Bool, false, not, cond, ◌&&◌, ◌||◌, List, Option, [], ◌∷◌, leb, eqb, length, take, drop, get_or}
 use Rattle.money.specs.Units.{fen, sheets, ticks}
 use Rattle.money.specs.Causes.{Cause, ◌⇒◌, first_of, number_of}
 use Rattle.rules.specs.declared.book.Posting.{Posting}
@@ -10,8 +10,11 @@ pub use Rattle.rules.specs.declared.event.Account.{Account}
 pub use Rattle.rules.specs.declared.event.Account.TheVariants.{Own, Client}
 pub use Rattle.rules.specs.declared.event.Event.{Event}
 pub use Rattle.rules.specs.declared.event.Event.TheVariants.{Open, FundIn, FundOut, Size, Rate, Pledge, Freeze, Withdraw, Initial, Early, Pay, Close, Post}
-pub use Rattle.rules.specs.declared.event.Entry.{Entry}
-pub use Rattle.rules.specs.declared.event.Entry.TheVariants.{Known, Undecodable}
+pub use Rattle.std.specs.Prelude.{Some, None}
+
+-- what some bytes are: an event, or none
+abbrev pub Entry : Type 0
+Entry = Option Event
 
 -- "all little-endian"
 unfoldable pub little_endian : List ℕ → ℕ
@@ -39,13 +42,13 @@ fields_of bytes = record {
 
 -- an event, where the fields that it does not use are 0: "unused field not 0" is number 2
 unfoldable pub unless : Event → List ℕ → Entry
-unless event [] = Known event
-unless event (field ∷ unused) = cond (eqb field 0) (unless event unused) Undecodable
+unless event [] = Some event
+unless event (field ∷ unused) = cond (eqb field 0) (unless event unused) None
 
 -- "fund events name an account (0 own, 1 client)"
 abbrev pub on_account : ℕ → (Account → Event) → List ℕ → Entry
 on_account account event unused =
-    cond (eqb account 0) (unless (event Own) unused) (cond (eqb account 1) (unless (event Client) unused) Undecodable)
+    cond (eqb account 0) (unless (event Own) unused) (cond (eqb account 1) (unless (event Client) unused) None)
 
 -- all but code, kind and amount: what trades use, and what no event uses
 abbrev pub rest_of : Fields → List ℕ
@@ -82,21 +85,21 @@ entry_of f =
     (cond (eqb f.code 11) (unless Pay (f.amount ∷ f.kind ∷ rest_of f))
     (cond (eqb f.code 12) (unless Close (f.amount ∷ f.kind ∷ rest_of f))
     (cond (eqb f.code 13) (unless (Post f.kind (posting_in f)) (f.product ∷ f.spare ∷ f.contract ∷ f.due ∷ f.last ∷ []))
-    Undecodable))))))))))))
+    None))))))))))))
 
 -- "events of 40 bytes"
 abbrev pub event_bytes : ℕ
 event_bytes = 40
 
 unfoldable pub decoded : List ℕ → Entry
-decoded bytes = cond (eqb (length bytes) event_bytes) (entry_of (fields_of bytes)) Undecodable
+decoded bytes = cond (eqb (length bytes) event_bytes) (entry_of (fields_of bytes)) None
 
 -- ---- the number of each case, and when it is given
 
 -- a code that is none of the thirteen, "account not 0 or 1, unused field not 0" is 2; an event that is known is put to the book
 abbrev pub entry_number : Entry → ℕ
-entry_number (Known event) = 0
-entry_number Undecodable = 2
+entry_number (Some event) = 0
+entry_number None = 2
 
 abbrev pub among : (first last code : ℕ) → Bool
 among first last code = leb first code && leb code last
@@ -130,17 +133,17 @@ IsEntryOf bytes entry = (entry ≡ decoded bytes) × (entry_number entry ≡ num
 
 -- an event's code, 0 for what does not decode
 abbrev pub code_of : Entry → ℕ
-code_of (Known Open) = 1
-code_of (Known (FundIn account amount)) = 2
-code_of (Known (FundOut account amount)) = 3
-code_of (Known (Size size)) = 4
-code_of (Known (Rate kind rate)) = 5
-code_of (Known (Pledge kind units)) = 6
-code_of (Known (Freeze kind units)) = 7
-code_of (Known (Withdraw kind units)) = 8
-code_of (Known (Initial terms)) = 9
-code_of (Known (Early contract count price)) = 10
-code_of (Known Pay) = 11
-code_of (Known Close) = 12
-code_of (Known (Post product posting)) = 13
-code_of Undecodable = 0
+code_of (Some Open) = 1
+code_of (Some (FundIn account amount)) = 2
+code_of (Some (FundOut account amount)) = 3
+code_of (Some (Size size)) = 4
+code_of (Some (Rate kind rate)) = 5
+code_of (Some (Pledge kind units)) = 6
+code_of (Some (Freeze kind units)) = 7
+code_of (Some (Withdraw kind units)) = 8
+code_of (Some (Initial terms)) = 9
+code_of (Some (Early contract count price)) = 10
+code_of (Some Pay) = 11
+code_of (Some Close) = 12
+code_of (Some (Post product posting)) = 13
+code_of None = 0

@@ -7,7 +7,7 @@ use Rattle.money.specs.Limits.{unit_limit, rate_limit, cash_limit, trade_limit, 
 use Rattle.money.specs.Days.{Calendar, trades}
 use Rattle.rules.specs.Folds.{all_below, every}
 use Rattle.rules.specs.Limits.{capacity_limit, size_limit, net_limit, application_limit, product_limit, ahead_limit}
-use Rattle.rules.specs.Book.{Nets, Sums, Cash, Security, Guarantee, Vault, Day, Never, On, Phase, Withdrawals, Posting, Book, is_closed, no_posting}
+use Rattle.rules.specs.Book.{Nets, Sums, Cash, Security, Guarantee, Vault, Day, None, Some, Phase, Withdrawals, Posting, Book, is_closed, no_posting}
 use Rattle.rules.specs.Unpaid.{unpaid_sum}
 use Rattle.rules.specs.Days.{followed, payment_day}
 use Rattle.rules.specs.Trades.{Trade, in_use, differ}
@@ -93,12 +93,12 @@ opened_fit calendar today in_use =
     every
     (trades calendar today
     ∷ followed calendar (some today)
-    ∷ all_trades (λ trade. leb trade.first (payment_day calendar (On today))) in_use
+    ∷ all_trades (λ trade. leb trade.first (payment_day calendar (Some today))) in_use
     ∷ [])
 
 abbrev pub day_fit : Calendar → Day → Phase → List Trade → (count : ℕ) → Bool
-day_fit calendar Never phase in_use count = unopened_fit phase count
-day_fit calendar (On day) phase in_use count = opened_fit calendar day in_use
+day_fit calendar None phase in_use count = unopened_fit phase count
+day_fit calendar (Some day) phase in_use count = opened_fit calendar day in_use
 
 unfoldable pub fit : Calendar → Book → List Trade → Bool
 fit calendar book table =

@@ -8,7 +8,7 @@ use Rattle.money.specs.Days.{Calendar}
 use Rattle.rules.specs.Book.{Book, Answer, answer}
 use Rattle.rules.specs.Trades.{Trade}
 use Rattle.rules.specs.Fit.{fit}
-use Rattle.rules.specs.Entry.{Event, Open, FundIn, FundOut, Size, Rate, Pledge, Freeze, Withdraw, Initial, Early, Pay, Close, Post, Entry, Known, Undecodable, entry_number}
+use Rattle.rules.specs.Entry.{Event, Open, FundIn, FundOut, Size, Rate, Pledge, Freeze, Withdraw, Initial, Early, Pay, Close, Post, Entry, Some, None, entry_number}
 use Rattle.rules.specs.Open.{open_causes, opened_book, opened_table}
 use Rattle.rules.specs.Funds.{fund_in_causes, funded_in, fund_out_causes, funded_out}
 use Rattle.rules.specs.Size.{size_causes, sized}
@@ -49,8 +49,8 @@ event_causes calendar book table (Post product posting) = post_causes book produ
 
 -- what does not decode has its own number
 abbrev pub entry_causes : Calendar → Book → List Trade → Entry → List Cause
-entry_causes calendar book table (Known event) = event_causes calendar book table event
-entry_causes calendar book table Undecodable = (true ⇒ entry_number Undecodable) ∷ []
+entry_causes calendar book table (Some event) = event_causes calendar book table event
+entry_causes calendar book table None = (true ⇒ entry_number None) ∷ []
 
 -- "book not fit, or calendar above 1,200 words" is 1
 abbrev pub unfit : Calendar → Book → List Trade → Bool
@@ -79,9 +79,9 @@ act calendar book table Close =
 act calendar book table (Post product posting) = outcome (answer 0) (posted book product posting) table
 
 abbrev pub act_on : Calendar → Book → List Trade → Entry → Outcome
-act_on calendar book table (Known event) = act calendar book table event
+act_on calendar book table (Some event) = act calendar book table event
 -- never asked: 2 applies
-act_on calendar book table Undecodable = outcome (answer 0) book table
+act_on calendar book table None = outcome (answer 0) book table
 
 -- a refused call leaves the book and the table as they were
 abbrev pub refuse_or : Option ℕ → Book → List Trade → Outcome → Outcome

@@ -13,7 +13,7 @@ use Rattle.rules.specs.declared.book.Status.TheVariants.{Normal, Suspended, Term
 use Rattle.rules.specs.declared.trade.Contract.{Contract}
 use Rattle.rules.specs.declared.trade.Trade.{Trade}
 use Rattle.rules.specs.declared.trade.Terms.{Terms}
-use Rattle.rules.specs.Entry.{Open, FundIn, FundOut, Size, Rate, Pledge, Freeze, Withdraw, Initial, Early, Pay, Close, Post, Entry, Known, Undecodable}
+use Rattle.rules.specs.Entry.{Open, FundIn, FundOut, Size, Rate, Pledge, Freeze, Withdraw, Initial, Early, Pay, Close, Post, Entry, Some, None}
 
 -- "a row (a record's fields)"
 abbrev pub Row : Type 0
@@ -191,20 +191,20 @@ says_terminated (some Suspended) = false
 says_terminated (some Terminated) = true
 
 unfoldable pub counted : Calendar → Entry → Option Status → (started : List Row) → Tally → Tally
-counted calendar (Known Open) status started t = opened (says_terminated status) calendar t
-counted calendar (Known (FundIn account amount)) status started t = with_funds (t.funds +ℤ pos amount.0) t
-counted calendar (Known (FundOut account amount)) status started t = with_funds (t.funds -ℤ pos amount.0) t
-counted calendar (Known (Size size)) status started t = t
-counted calendar (Known (Rate kind rate)) status started t = t
-counted calendar (Known (Pledge kind units)) status started t = t
-counted calendar (Known (Freeze kind units)) status started t = t
-counted calendar (Known (Withdraw kind units)) status started t = t
-counted calendar (Known (Initial terms)) status started t = began calendar terms t
-counted calendar (Known (Early contract count price)) status started t = redeemed_early calendar contract count.0 price t
-counted calendar (Known Pay) status started t = paid_off t
-counted calendar (Known Close) status started t = closed calendar started t
-counted calendar (Known (Post product posting)) status started t = t
-counted calendar Undecodable status started t = t
+counted calendar (Some Open) status started t = opened (says_terminated status) calendar t
+counted calendar (Some (FundIn account amount)) status started t = with_funds (t.funds +ℤ pos amount.0) t
+counted calendar (Some (FundOut account amount)) status started t = with_funds (t.funds -ℤ pos amount.0) t
+counted calendar (Some (Size size)) status started t = t
+counted calendar (Some (Rate kind rate)) status started t = t
+counted calendar (Some (Pledge kind units)) status started t = t
+counted calendar (Some (Freeze kind units)) status started t = t
+counted calendar (Some (Withdraw kind units)) status started t = t
+counted calendar (Some (Initial terms)) status started t = began calendar terms t
+counted calendar (Some (Early contract count price)) status started t = redeemed_early calendar contract count.0 price t
+counted calendar (Some Pay) status started t = paid_off t
+counted calendar (Some Close) status started t = closed calendar started t
+counted calendar (Some (Post product posting)) status started t = t
+counted calendar None status started t = t
 
 -- "Only answer 0 changes it."
 abbrev pub on_zero : ℕ → Tally → Tally → Tally

@@ -64,20 +64,14 @@ pub struct Vault {
     pub securities: [Security; SECURITIES],
 }
 
-#[derive(Clone, Copy)]
-pub enum Day {
-    Never,
-    On(u32),
-}
-
-#[derive(Clone, Copy)]
+#[derive(Clone, Copy, Debug, PartialEq, Eq)]
 pub enum Phase {
     Closed,
     Trading,
     Paid,
 }
 
-#[derive(Clone, Copy)]
+#[derive(Clone, Copy, Debug, PartialEq, Eq)]
 pub enum Status {
     Normal,
     Suspended,
@@ -85,7 +79,7 @@ pub enum Status {
 }
 
 // The run of failed payments, 0 to 2.
-#[derive(Clone, Copy)]
+#[derive(Clone, Copy, Debug, PartialEq, Eq)]
 pub enum FailedRun {
     NotFailed,
     FailedOnce,
@@ -93,7 +87,7 @@ pub enum FailedRun {
 }
 
 // The run of short closes, 0 to 3.
-#[derive(Clone, Copy)]
+#[derive(Clone, Copy, Debug, PartialEq, Eq)]
 pub enum ShortRun {
     NotShort,
     ShortOnce,
@@ -104,7 +98,7 @@ pub enum ShortRun {
 // Where the firm stands: its day, phase and status, and its two runs.
 #[derive(Clone, Copy)]
 pub struct Standing {
-    pub day: Day,
+    pub day: Option<u32>,
     pub phase: Phase,
     pub status: Status,
     pub failed: FailedRun,
@@ -178,7 +172,7 @@ pub fn fresh() -> Book
         },
         size: Sheets(0),
         standing: Standing {
-            day: Day::Never,
+            day: None,
             phase: Phase::Closed,
             status: Status::Normal,
             failed: FailedRun::NotFailed,

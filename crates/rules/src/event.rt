@@ -3,7 +3,7 @@ use crate::book::Posting;
 use crate::trade::{Contract, Terms};
 use money::units::{Fen, Sheets, Ticks};
 
-#[derive(Clone, Copy)]
+#[derive(Clone, Copy, Debug, PartialEq, Eq)]
 pub enum Account {
     Own,
     Client,
@@ -40,11 +40,4 @@ pub struct Fields {
     pub fallback: u32,
     pub due: u32,
     pub last: u32,
-}
-
-// What 40 bytes decode to.
-#[derive(Clone, Copy)]
-pub enum Entry {
-    Known(Event),
-    Undecodable,
 }

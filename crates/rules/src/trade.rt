@@ -3,7 +3,7 @@ use money::units::{Sheets, Ticks};
 
 // A contract's identity: two contracts are the same where these numbers agree.
 #[repr(C)]
-#[derive(Clone, Copy)]
+#[derive(Clone, Copy, Debug, PartialEq, Eq)]
 pub struct Contract(pub u64);
 
 // `first` is the payment day of the initial trade, as planned; `product` is 0, or the number plus 1 of the product at whose

@@ -1,12 +1,12 @@
 use Rattle.rules.specs.Days.{following}
 use Rattle.ledger.proofs.days.next_found.Goals as goal
 
-pub returns-in-Never : goal.returns-in-Never
+pub returns-in-None : goal.returns-in-None
 unfolding following
-returns-in-Never c =
-    rw c.in-Never.is c.earliest_day.ensures
+returns-in-None c =
+    rw c.in-None.is c.earliest_day.ensures
 
-pub returns-in-On : goal.returns-in-On
+pub returns-in-Some : goal.returns-in-Some
 unfolding following
-returns-in-On c =
-    rw c.in-On.is c.next_after.ensures
+returns-in-Some c =
+    rw c.in-Some.is c.next_after.ensures

@@ -8,12 +8,12 @@ returns-then-number-ne0 c =
 
 pub figures_moved-requires : goal.figures_moved-requires
 figures_moved-requires c =
-    (c.requires.0, (rw c.in-Known.is at c.requires.1).1 c.if-number-ne0.false)
+    (c.requires.0, (rw c.in-Some.is at c.requires.1).1 c.if-number-ne0.false)
 
-pub returns-in-Known : goal.returns-in-Known
-returns-in-Known c =
+pub returns-in-Some : goal.returns-in-Some
+returns-in-Some c =
     c.figures_moved.ensures
 
-pub returns-in-Undecodable : goal.returns-in-Undecodable
-returns-in-Undecodable c =
-    sym (rw c.in-Undecodable.is at c.requires.1)
+pub returns-in-None : goal.returns-in-None
+returns-in-None c =
+    sym (rw c.in-None.is at c.requires.1)
