@@ -1,7 +1,7 @@
 // One event from 40 bytes of a journal.
 ghost use Rattle.std.specs.Prelude.{◌≡◌, [], ◌∷◌, ◌+◌, ◌≤◌, ◌<◌, length};
 ghost use Rattle.money.specs.Units.{sheets, ticks};
-ghost use Rattle.rules.specs.Entry.{event_bytes, number_at, fields_of, rest_of, terms_of, posting_in, unless, on_account, entry_of, IsEntryOf};
+ghost use Rattle.rules.specs.Entry.{event_bytes, number_at, fields_of, rest_of, terms_of, posting_in, unless, account_at, entry_of, IsEntryOf};
 
 use money::units::{Fen, Sheets, Ticks};
 use rules::book::Posting;
@@ -9,22 +9,12 @@ use rules::event::{Account, Event, Fields};
 use rules::limits::EVENT_BYTES;
 use rules::trade::{Contract, Terms};
 
-// A byte as a number of 4 bytes.
-fn wide(byte: u8) -> u32
-    ensures { (result ≡ byte) × (result < 256) }
-{
-    byte as u32
-}
-
 // The number of 4 bytes, the least byte first.
-#[tactic(auto, using(rules::proofs::Bytes::no_bytes))]
 fn number4(bytes: &[u8], at: usize) -> u32
     requires { at + 4 ≤ length bytes.now }
     ensures { result ≡ number_at at 4 bytes.now }
 {
-    let low = wide(bytes[at]) + wide(bytes[at + 1]) * 256;
-    let high = wide(bytes[at + 2]) + wide(bytes[at + 3]) * 256;
-    low + high * 65_536
+    u32::from_le_bytes([bytes[at], bytes[at + 1], bytes[at + 2], bytes[at + 3]])
 }
 
 // The number of 8 bytes, from its two halves.
@@ -32,9 +22,9 @@ fn number8(bytes: &[u8], at: usize) -> u64
     requires { at + 8 ≤ length bytes.now }
     ensures { result ≡ number_at at 8 bytes.now }
 {
-    let low = number4(bytes, at);
-    let high = number4(bytes, at + 4);
-    (low as u64) + (high as u64) * 4_294_967_296
+    let low = u64::from(number4(bytes, at));
+    let high = u64::from(number4(bytes, at + 4));
+    low + high * 4_294_967_296
 }
 
 // The spare bytes are what the first 8 have beyond code, kind and product.
@@ -57,33 +47,38 @@ fn fields_of(bytes: &[u8]) -> Fields
     }
 }
 
+// The event, where the fields that it does not use are 0.
+fn unless(event: Event, unused: &[u64]) -> Option<Event>
+    ensures { result ≡ unless event unused.now }
+{
+    for field in unused {
+        if *field != 0 {
+            return None;
+        }
+    }
+    Some(event)
+}
+
+// All but code, kind and amount.
+fn rest_of(fields: Fields) -> [u64; 7]
+    ensures { result ≡ rest_of fields }
+{
+    [
+        u64::from(fields.product),
+        fields.spare,
+        fields.contract,
+        u64::from(fields.price),
+        u64::from(fields.fallback),
+        u64::from(fields.due),
+        u64::from(fields.last),
+    ]
+}
+
 // An event that may use kind and amount.
-#[tactic(auto, using(rules::proofs::Unused::unused_fields))]
 fn kind_and_amount(fields: Fields, event: Event) -> Option<Event>
     ensures { result ≡ unless event (rest_of fields) }
 {
-    if fields.product != 0 {
-        return None;
-    }
-    if fields.spare != 0 {
-        return None;
-    }
-    if fields.contract != 0 {
-        return None;
-    }
-    if fields.price != 0 {
-        return None;
-    }
-    if fields.fallback != 0 {
-        return None;
-    }
-    if fields.due != 0 {
-        return None;
-    }
-    if fields.last != 0 {
-        return None;
-    }
-    Some(event)
+    unless(event, &rest_of(fields))
 }
 
 // An event that may use the amount.
@@ -108,103 +103,70 @@ fn code_only(fields: Fields, event: Event) -> Option<Event>
     amount_only(fields, event)
 }
 
-// The account stands where other events have a kind: one event for each of the two.
-fn on_account(fields: Fields, own: Event, client: Event) -> Option<Event>
-    ensures { (event : Account → Event) →
-        own ≡ event Account.Own
-        → client ≡ event Account.Client
-        → result ≡ on_account fields.kind event (rest_of fields) }
+// The account stands where other events have a kind.
+fn account_at(kind: u8) -> Option<Account>
+    ensures { result ≡ account_at kind }
 {
-    let account = fields.kind;
-    match account {
-        0 => kind_and_amount(fields, own),
-        1 => kind_and_amount(fields, client),
+    match kind {
+        0 => Some(Account::Own),
+        1 => Some(Account::Client),
         _ => None,
     }
 }
 
-#[tactic(auto, using(rules::proofs::Unused::unused_fields))]
 fn initial(fields: Fields) -> Option<Event>
     ensures { result ≡ unless (Event.Initial (terms_of fields)) (fields.kind ∷ fields.spare ∷ fields.last ∷ []) }
 {
-    if fields.kind != 0 {
-        return None;
-    }
-    if fields.spare != 0 {
-        return None;
-    }
-    if fields.last != 0 {
-        return None;
-    }
-    let event = Event::Initial(Terms {
+    let terms = Terms {
         contract: Contract(fields.contract),
         sheets: Sheets(fields.amount),
         price: Ticks(fields.price),
         fallback: Ticks(fields.fallback),
         due: fields.due,
         product: fields.product,
-    });
-    Some(event)
+    };
+    let unused = [u64::from(fields.kind), fields.spare, u64::from(fields.last)];
+    unless(Event::Initial(terms), &unused)
 }
 
-#[tactic(auto, using(rules::proofs::Unused::unused_fields))]
 fn early(fields: Fields) -> Option<Event>
     ensures { result ≡ unless (Event.Early (record { 0 = fields.contract }) (sheets fields.amount) (ticks fields.price))
         (fields.kind ∷ fields.product ∷ fields.spare ∷ fields.fallback ∷ fields.due ∷ fields.last ∷ []) }
 {
-    if fields.kind != 0 {
-        return None;
-    }
-    if fields.product != 0 {
-        return None;
-    }
-    if fields.spare != 0 {
-        return None;
-    }
-    if fields.fallback != 0 {
-        return None;
-    }
-    if fields.due != 0 {
-        return None;
-    }
-    if fields.last != 0 {
-        return None;
-    }
     let event = Event::Early(
         Contract(fields.contract),
         Sheets(fields.amount),
         Ticks(fields.price),
     );
-    Some(event)
+    let unused = [
+        u64::from(fields.kind),
+        u64::from(fields.product),
+        fields.spare,
+        u64::from(fields.fallback),
+        u64::from(fields.due),
+        u64::from(fields.last),
+    ];
+    unless(event, &unused)
 }
 
 // The product's number stands where other events have a kind, and its term where they have an amount.
-#[tactic(auto, using(rules::proofs::Unused::unused_fields))]
 fn post(fields: Fields) -> Option<Event>
     ensures { result ≡ unless (Event.Post fields.kind (posting_in fields))
         (fields.product ∷ fields.spare ∷ fields.contract ∷ fields.due ∷ fields.last ∷ []) }
 {
-    if fields.product != 0 {
-        return None;
-    }
-    if fields.spare != 0 {
-        return None;
-    }
-    if fields.contract != 0 {
-        return None;
-    }
-    if fields.due != 0 {
-        return None;
-    }
-    if fields.last != 0 {
-        return None;
-    }
     let posting = Posting {
         term: fields.amount,
         price: Ticks(fields.price),
         fallback: Ticks(fields.fallback),
     };
-    Some(Event::Post(fields.kind, posting))
+    let unused = [
+        u64::from(fields.product),
+        fields.spare,
+        fields.contract,
+        u64::from(fields.due),
+        u64::from(fields.last),
+    ];
+    unless(Event::Post(fields.kind, posting), &unused)
 }
 
 // Each code with its event, and with the test that the fields it does not use are 0.
@@ -212,21 +174,12 @@ fn post(fields: Fields) -> Option<Event>
 fn entry_of(fields: Fields) -> Option<Event>
     ensures { result ≡ entry_of fields }
 {
-    let code = fields.code;
     let kind = fields.kind;
     let amount = fields.amount;
-    match code {
+    match fields.code {
         1 => code_only(fields, Event::Open),
-        2 => on_account(
-            fields,
-            Event::FundIn(Account::Own, Fen(amount)),
-            Event::FundIn(Account::Client, Fen(amount)),
-        ),
-        3 => on_account(
-            fields,
-            Event::FundOut(Account::Own, Fen(amount)),
-            Event::FundOut(Account::Client, Fen(amount)),
-        ),
+        2 => kind_and_amount(fields, Event::FundIn(account_at(kind)?, Fen(amount))),
+        3 => kind_and_amount(fields, Event::FundOut(account_at(kind)?, Fen(amount))),
         4 => amount_only(fields, Event::Size(Sheets(amount))),
         5 => kind_and_amount(fields, Event::Rate(kind, amount)),
         6 => kind_and_amount(fields, Event::Pledge(kind, amount)),

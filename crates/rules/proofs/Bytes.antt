@@ -19,11 +19,11 @@ module _ (bytes : List ℕ) where
   unfolding little_endian
   first_byte from next width follows inside = rw (follows, add-one from, drop-cons bytes from 0 inside) refl
 
-  pub first-four : (from width : ℕ) → from + 4 ≤ length bytes
+  pub first_four : (from width : ℕ) → from + 4 ≤ length bytes
       → number_at from (suc (suc (suc (suc width)))) bytes
       ≡ get_or bytes from 0 + 256 * get_or bytes (from + 1) 0 + 65536 * get_or bytes (from + 2) 0 + 16777216 * get_or bytes (from + 3) 0
       + 4294967296 * number_at (from + 4) width bytes
-  first-four from width inside =
+  first_four from width inside =
       omega (
         arith,
         first_byte from (from + 1) (suc (suc (suc width))) refl (omega arith),
@@ -32,9 +32,9 @@ module _ (bytes : List ℕ) where
         first_byte (from + 3) (from + 4) width (omega arith) (omega arith),
       )
 
-  pub four-and-rest : (from width : ℕ) → from + 4 ≤ length bytes
+  pub four_and_rest : (from width : ℕ) → from + 4 ≤ length bytes
       → number_at from (suc (suc (suc (suc width)))) bytes ≡ number_at from 4 bytes + 4294967296 * number_at (from + 4) width bytes
-  four-and-rest from width inside = omega (arith, first-four from width inside, first-four from 0 inside, no_bytes (from + 4))
+  four_and_rest from width inside = omega (arith, first_four from width inside, first_four from 0 inside, no_bytes (from + 4))
 
   -- what stands after the first three bytes
   pub past_three : (width : ℕ) → 3 ≤ length bytes → get_or bytes 0 0 < 256 → get_or bytes 1 0 < 256 → get_or bytes 2 0 < 256

@@ -46,6 +46,9 @@ unless event [] = Some event
 unless event (field ∷ unused) = cond (eqb field 0) (unless event unused) None
 
 -- "fund events name an account (0 own, 1 client)"
+abbrev pub account_at : ℕ → Option Account
+account_at account = cond (eqb account 0) (Some Own) (cond (eqb account 1) (Some Client) None)
+
 abbrev pub on_account : ℕ → (Account → Event) → List ℕ → Entry
 on_account account event unused =
     cond (eqb account 0) (unless (event Own) unused) (cond (eqb account 1) (unless (event Client) unused) None)
