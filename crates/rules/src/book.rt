@@ -1,6 +1,6 @@
 // The book and its parts, by value. Its trades stand in a table that the caller lends.
 ghost use Rattle.std.specs.Prelude.{◌≡◌};
-ghost use Rattle.rules.specs.Book.{fresh_book};
+ghost use Rattle.rules.specs.Book.{is_closed, is_trading, is_paid, is_normal, is_suspended, is_terminated, has_failed, fresh_book};
 
 use crate::limits::{APPLICATION_LIMIT, PRODUCT_LIMIT};
 use money::limits::SECURITIES;
@@ -103,6 +103,50 @@ pub struct Standing {
     pub status: Status,
     pub failed: FailedRun,
     pub short: ShortRun,
+}
+
+impl Standing {
+    pub fn is_closed(self) -> bool
+        ensures { result ≡ is_closed self.phase }
+    {
+        self.phase == Phase::Closed
+    }
+
+    pub fn is_trading(self) -> bool
+        ensures { result ≡ is_trading self.phase }
+    {
+        self.phase == Phase::Trading
+    }
+
+    pub fn is_paid(self) -> bool
+        ensures { result ≡ is_paid self.phase }
+    {
+        self.phase == Phase::Paid
+    }
+
+    pub fn is_normal(self) -> bool
+        ensures { result ≡ is_normal self.status }
+    {
+        self.status == Status::Normal
+    }
+
+    pub fn is_suspended(self) -> bool
+        ensures { result ≡ is_suspended self.status }
+    {
+        self.status == Status::Suspended
+    }
+
+    pub fn is_terminated(self) -> bool
+        ensures { result ≡ is_terminated self.status }
+    {
+        self.status == Status::Terminated
+    }
+
+    pub fn has_failed(self) -> bool
+        ensures { result ≡ has_failed self.failed }
+    {
+        self.failed != FailedRun::NotFailed
+    }
 }
 
 // The applications that stand for the evening: the first `count` of both arrays.

@@ -1,8 +1,10 @@
 // What an event leaves beside the rows and the table. Answers are made here only.
 ghost use Rattle.std.specs.Prelude.{◌≡◌};
 ghost use Rattle.rules.specs.Book.{answer};
+ghost use Rattle.scalars.specs.Scalars.{done_by};
 
 use crate::state::Scalars;
+use money::refusal::Refusal;
 use money::units::Sheets;
 use rules::answer::Answer;
 
@@ -31,6 +33,13 @@ pub fn answered(number: u8, scalars: Scalars) -> Done
         answer: answer_of(number),
         scalars,
     }
+}
+
+// What an event did, or its refusal beside the scalars as they were.
+pub fn done_by(scalars: Scalars, outcome: Result<Done, Refusal>) -> Done
+    ensures { result ≡ done_by scalars outcome }
+{
+    outcome.unwrap_or_else(|refusal| answered(refusal.into(), scalars))
 }
 
 // An accepted Close carries the sheets matured and the applications done and dropped.

@@ -11,18 +11,14 @@ use rules::answer::Cover;
 pub fn smaller(a: Sheets, b: Sheets) -> Sheets
     ensures { result.0 ≡ min a.0 b.0 }
 {
-    if a.0 < b.0 {
-        return a;
-    }
-    b
+    a.min(b)
 }
 
 // Headroom below 0.
 pub fn is_short(size: Sheets, value: Sheets, outstanding: Sheets) -> bool
     ensures { result ≡ lt_z (headroom_of size.0 value.0 outstanding.0) (pos 0) }
 {
-    let cover = smaller(size, value);
-    cover.0 < outstanding.0
+    smaller(size, value) < outstanding
 }
 
 // Headroom below a count of sheets.
@@ -31,7 +27,7 @@ pub fn above_headroom(size: Sheets, value: Sheets, outstanding: Sheets, count: S
     ensures { result ≡ lt_z (headroom_of size.0 value.0 outstanding.0) (pos count.0) }
 {
     let cover = smaller(size, value);
-    if cover.0 < outstanding.0 {
+    if cover < outstanding {
         return true;
     }
     cover.0 - outstanding.0 < count.0
@@ -41,7 +37,7 @@ pub fn above_headroom(size: Sheets, value: Sheets, outstanding: Sheets, count: S
 pub fn covers(value: Sheets, outstanding: Sheets, unpaid: Fen) -> bool
     ensures { result ≡ covers value.0 (claims_of outstanding.0 unpaid.0) }
 {
-    if value.0 < outstanding.0 {
+    if value < outstanding {
         return false;
     }
     let spare = value.0 - outstanding.0;

@@ -5,8 +5,7 @@
 pub mod done;
 pub mod state;
 
-// Headroom and the claims on the pledge, U, where the firm stands, and the status of the day that opens.
+// Headroom and the claims on the pledge, U, and the status of the day that opens.
 pub mod headroom;
-pub mod standing;
 pub mod status;
 pub mod unpaid;

@@ -24,21 +24,21 @@ pub struct Scalars {
 pub fn with_nets_and_trades(scalars: Scalars, nets: Nets, trades: usize) -> Scalars
     ensures { result ≡ with_nets_and_trades nets trades scalars }
 {
-    let mut next = scalars;
-    next.nets = nets;
-    next.trades = trades;
-    next
+    Scalars {
+        nets,
+        trades,
+        ..scalars
+    }
 }
 
 // The scalars with another U.
 pub fn with_unpaid(scalars: Scalars, unpaid: Unpaid) -> Scalars
     ensures { result ≡ with_unpaid unpaid scalars }
 {
-    let mut sums = scalars.sums;
-    sums.unpaid = unpaid;
-    let mut next = scalars;
-    next.sums = sums;
-    next
+    Scalars {
+        sums: Sums { unpaid },
+        ..scalars
+    }
 }
 
 // Whether a table of so many slots has none left.

@@ -11,16 +11,12 @@ use rules::limits::UNPAID_LIMIT;
 pub fn passes(unpaid: Unpaid, amount: Fen) -> bool
     ensures { result ≡ passes amount.0 unpaid }
 {
-    let cleared = unpaid.cleared;
-    if cleared.0 > UNPAID_LIMIT {
+    let Some(room) = UNPAID_LIMIT.checked_sub(unpaid.cleared.0) else {
         return true;
-    }
-    let room = UNPAID_LIMIT - cleared.0;
-    let today = unpaid.today;
-    if today.0 > room {
+    };
+    let Some(rest) = room.checked_sub(unpaid.today.0) else {
         return true;
-    }
-    let rest = room - today.0;
+    };
     amount.0 > rest
 }
 
@@ -32,11 +28,9 @@ pub fn today_plus(unpaid: Unpaid, amount: Fen) -> Unpaid
     if passes(unpaid, amount) {
         return unpaid;
     }
-    let today = unpaid.today.0 + amount.0;
-    let cleared = unpaid.cleared;
     Unpaid {
-        today: Fen(today),
-        cleared,
+        today: Fen(unpaid.today.0 + amount.0),
+        ..unpaid
     }
 }
 
@@ -48,11 +42,9 @@ pub fn cleared_plus(unpaid: Unpaid, amount: Fen) -> Unpaid
     if passes(unpaid, amount) {
         return unpaid;
     }
-    let today = unpaid.today;
-    let cleared = unpaid.cleared.0 + amount.0;
     Unpaid {
-        today,
-        cleared: Fen(cleared),
+        cleared: Fen(unpaid.cleared.0 + amount.0),
+        ..unpaid
     }
 }
 
@@ -65,10 +57,9 @@ pub fn joined_with(unpaid: Unpaid, amount: Fen) -> Unpaid
         return unpaid;
     }
     let today = unpaid.today.0 + amount.0;
-    let cleared = unpaid.cleared.0 + today;
     Unpaid {
         today: Fen(0),
-        cleared: Fen(cleared),
+        cleared: Fen(unpaid.cleared.0 + today),
     }
 }
 
@@ -76,9 +67,8 @@ pub fn joined_with(unpaid: Unpaid, amount: Fen) -> Unpaid
 pub fn paid(unpaid: Unpaid) -> Unpaid
     ensures { result ≡ paid unpaid }
 {
-    let kept = unpaid.today;
     Unpaid {
-        today: kept,
         cleared: Fen(0),
+        ..unpaid
     }
 }
