@@ -1,14 +1,15 @@
 -- Close: its causes by the code's tests, its plan, the flat table once its slots are settled, the evening that a fit book allows, and what it gives
 -- back. For the event Close.
 -- Assumes nothing.
-use Rattle.std.specs.Prelude.{◌≡◌, ℕ, ◌+◌, ◌-◌, ◌*◌, ◌≤◌, Bool, true, false, not, ◌||◌, ltb, List, length, take, drop, nat_abs}
+use Rattle.std.specs.Prelude.{◌≡◌, ℕ, ◌+◌, ◌-◌, ◌*◌, ◌≤◌, Bool, true, false, not, ◌||◌, ltb, List, length, take, drop, nat_abs, Err}
 use mathlib.Core.Path.{refl, sym, ap, ◌∙◌}
 use mathlib.Core.Option.{Option, none, some}
 use native.Mathlib.Omega.{arith}
 use lib.Seq.{take_at, drop_at}
 use Rattle.money.specs.declared.units.Sheets.{Sheets}
 use Rattle.money.specs.Units.{fen, sheets}
-use Rattle.money.specs.Causes.{first_of}
+use Rattle.money.specs.declared.refusal.Refusal.{Refusal}
+use Rattle.money.specs.Causes.{first_of, refusal_number}
 use Rattle.money.specs.Days.{Calendar}
 use Rattle.money.proofs.Refusals.{hit, skip, clear}
 use Rattle.rules.specs.Limits.{net_limit}
@@ -27,7 +28,7 @@ use Rattle.rules.proofs.NextTermTurns.{principal-by-sheets, started-at-most}
 use Rattle.rules.proofs.EveningFit.{all-arrived-fit}
 use Rattle.ledger.specs.Types.{Unpaid, Security, Book, Trade}
 use Rattle.scalars.specs.declared.state.Scalars.{Scalars}
-use Rattle.scalars.specs.declared.done.Done.{Done}
+use Rattle.scalars.specs.Scalars.{done_by}
 use Rattle.ledger.specs.declared.evening.EveningScalars.{EveningScalars}
 use Rattle.ledger.specs.Redemption.{Redeemed, maturity_of}
 use Rattle.ledger.specs.Flat.{Rows, rows_of, trades_to, trades_of, book_of, evening_at, applied_at, closed_by, table_by, Kept}
@@ -185,9 +186,10 @@ module _ (calendar : Calendar) (scalars : Scalars) (rows : Rows) (left table : L
   abbrev outcome : Option ℕ
   outcome = first_of (close_causes calendar (book_of scalars rows) table)
 
-  pub close-refused : (n : ℕ) (r : Done) → outcome ≡ some n → r ≡ record { answer = answer n; scalars = scalars }
-      → (applied_at r rows ≡ closed_by outcome calendar (book_of scalars rows) left table) × (table ≡ table_by outcome table (closed_table (book_of scalars rows) left table))
-  close-refused n r e same = rw (e, same) (refl, refl)
+  pub close-refused : (refusal : Refusal) → outcome ≡ some (refusal_number refusal)
+      → (applied_at (done_by scalars (Err refusal)) rows ≡ closed_by outcome calendar (book_of scalars rows) left table)
+      × (table ≡ table_by outcome table (closed_table (book_of scalars rows) left table))
+  close-refused refusal e = rw e (refl, refl)
 
 -- the applications as they were cleared
 pub rows-cleared : (scalars : Scalars) (held : List ℕ) {kinds cleared-kinds units cleared-units : List ℕ} {book : Book} → kinds ≡ cleared-kinds → units ≡ cleared-units

@@ -3,20 +3,21 @@
 use Rattle.std.specs.Prelude.{◌≡◌, ℕ, ◌<◌, ◌≤◌, Bool, true, false, not, ◌&&◌, ◌||◌, ltb, List, [], ◌∷◌}
 use mathlib.Core.Path.{refl, sym, ap, ◌∙◌}
 use borrow.Author.Tests.{le-ltb, lt-ltb, le-leb, lt-leb, eq-eqb, ne_eqb}
-use Rattle.money.specs.Causes.{Cause, ◌⇒◌, first_of, number_of}
+use mathlib.Core.Option.{Option, none, some}
+use Rattle.money.specs.Causes.{Cause, ◌⇒◌, first_of}
 use Rattle.money.proofs.Refusals as R
 
 -- the cause in front applies
-pub applies : {test : Bool} (n : ℕ) (cs : List Cause) → test ≡ true → n ≡ number_of (first_of ((test ⇒ n) ∷ cs))
-applies n cs e = rw (R.hit n cs e) refl
+pub applies : {test : Bool} (n : ℕ) (cs : List Cause) → test ≡ true → some n ≡ first_of ((test ⇒ n) ∷ cs)
+applies n cs e = sym (R.hit n cs e)
 
 -- it does not, and the others decide
-pub passes : {test : Bool} (k n : ℕ) (cs : List Cause) → test ≡ false → n ≡ number_of (first_of cs) → n ≡ number_of (first_of ((test ⇒ k) ∷ cs))
-passes k n cs e f = f ∙ ap number_of (sym (R.skip k cs e refl))
+pub passes : {test : Bool} (k : ℕ) {cause : Option ℕ} (cs : List Cause) → test ≡ false → cause ≡ first_of cs → cause ≡ first_of ((test ⇒ k) ∷ cs)
+passes k cs e f = f ∙ sym (R.skip k cs e refl)
 
 -- none is left
-pub ends : 0 ≡ number_of (first_of [])
-ends = rw R.clear refl
+pub ends : none ≡ first_of []
+ends = sym R.clear
 
 -- a test that a call answered, and its negation
 pub asked : {x r : Bool} → r ≡ x → r ≡ true → x ≡ true

@@ -1,33 +1,28 @@
--- The book's days, by what the searches of the calendar answer.
+-- The book's days, by what the searches of the calendar told.
 -- Assumes nothing.
-use Rattle.std.specs.Prelude.{◌≡◌, ℕ, ◌≤◌, true, false, not, eqb, length}
-use mathlib.Core.Path.{refl, ◌∙◌}
+use Rattle.std.specs.Prelude.{◌≡◌, ℕ, false, not, Result, Ok, Err, is_ok}
+use Rattle.std.specs.Result.{result_ok, result_unwrap_or}
+use mathlib.Core.Path.{sym, ap, ◌∙◌}
 use mathlib.Core.Option.{Option, none, some}
-use native.Mathlib.Decide.{ℕ_discrete}
-use native.Mathlib.Omega.{arith}
-use borrow.Author.Tests.{eq-eqb, ne_eqb}
-use Rattle.money.specs.Days.{Calendar, missing, search_result}
-use Rattle.money.proofs.Answers.{found-at-0, none_elsewhere}
-use Rattle.rules.specs.Days.{followed}
+use Rattle.money.specs.declared.refusal.Refusal.{Refusal}
+use Rattle.money.specs.Days.{Calendar, missing, day_or_0}
+use Rattle.money.proofs.Answers.{day_told}
+use Rattle.rules.specs.Book.{Day}
+use Rattle.rules.specs.Days.{to_day, followed}
 
--- a day found is not missing, and none is
-there : (o : Option ℕ) (day : ℕ) → o ≡ some day → true ≡ not (missing o)
-there none day e = let z : ◌≡◌ {A = ℕ} 0 1 = cc in absurd (omega arith)
-there (some d) day e = refl
+pub not-missing : (told : Result ℕ Refusal) (found : Option ℕ) → day_told told ≡ found → is_ok told ≡ not (missing found)
+not-missing (Ok day) found e = ap (λ found. not (missing found)) e
+not-missing (Err refusal) found e = ap (λ found. not (missing found)) e
 
-gone : (o : Option ℕ) → o ≡ none → false ≡ not (missing o)
-gone none e = refl
-gone (some d) e = let z : ◌≡◌ {A = ℕ} 0 1 = cc in absurd (omega arith)
+pub or-0 : (told : Result ℕ Refusal) (found : Option ℕ) → day_told told ≡ found → result_unwrap_or told 0 ≡ day_or_0 found
+or-0 (Ok day) found e = ap day_or_0 e
+or-0 (Err refusal) found e = ap day_or_0 e
 
--- a search answers 0 just where it found a day
-pub done-where-found : (calendar : Calendar) (found : Option ℕ) → length calendar ≤ 1200 → eqb (search_result calendar found).number 0 ≡ not (missing found)
-done-where-found calendar found l = by_number (ℕ_discrete (search_result calendar found).number 0)
-  where
-    by_number : Dec ((search_result calendar found).number ≡ 0) → eqb (search_result calendar found).number 0 ≡ not (missing found)
-    by_number (yes z) = eq-eqb _ _ z ∙ there found _ (found-at-0 calendar found l z)
-    by_number (no z) = ne_eqb _ _ z ∙ gone found (none_elsewhere calendar found l z)
+pub as-day : (told : Result ℕ Refusal) (found : Option ℕ) → day_told told ≡ found → result_ok told ≡ to_day found
+as-day (Ok day) found e = ap to_day e
+as-day (Err refusal) found e = ap to_day e
 
 -- nothing found has nothing following
-pub none-followed : (calendar : Calendar) (found : Option ℕ) → length calendar ≤ 1200 → ((search_result calendar found).number ≡ 0 → ⊥) → false ≡ followed calendar found
+pub none-followed : (calendar : Calendar) (found : Option ℕ) (told : Result ℕ Refusal) (refusal : Refusal) → day_told told ≡ found → told ≡ Err refusal → false ≡ followed calendar found
 unfolding followed
-none-followed calendar found l z = rw (none_elsewhere calendar found l z) refl
+none-followed calendar found told refusal e is = ap (followed calendar) (ap day_told (sym is) ∙ e)

@@ -1,6 +1,7 @@
 -- Early: the bound of the amount, and what no refusal leaves to the code.
 -- Assumes nothing.
 use Rattle.std.specs.Prelude.{◌≡◌, ℕ, ◌-◌, ◌<◌, ◌≤◌, true, false, ltb, List, length, nat_abs}
+use mathlib.Core.Path.{sym}
 use mathlib.Core.Option.{none}
 use native.Mathlib.Omega.{arith}
 use borrow.Author.Tests.{ltb-false}
@@ -8,22 +9,20 @@ use Rattle.money.specs.declared.units.Sheets.{Sheets}
 use Rattle.money.specs.declared.units.Ticks.{Ticks}
 use Rattle.money.specs.Units.{sheets}
 use Rattle.money.specs.Limits.{trade_limit, price_limit}
-use Rattle.money.specs.Causes.{first_of, number_of}
+use Rattle.money.specs.Causes.{first_of}
 use Rattle.money.specs.Days.{Calendar}
 use Rattle.money.proofs.Bounds.{redemption-bound}
 use Rattle.rules.specs.Limits.{net_limit}
 use Rattle.rules.specs.Unpaid.{passes}
 use Rattle.rules.specs.Days.{payment_day}
 use Rattle.rules.specs.Fit.{fit}
-use Rattle.rules.specs.Step.{event_causes}
 use Rattle.rules.specs.Early.{named, early_amount, net_with_early, early_causes}
 use Rattle.rules.proofs.FoldLaws.{neither}
 use Rattle.rules.proofs.Accepted.{Clear, all-clear}
-use Rattle.ledger.specs.Types.{Book, Contract, Trade, Early}
+use Rattle.ledger.specs.Types.{Book, Contract, Trade}
 use Rattle.ledger.specs.Flat.{trade_at, trades_to, trades_of, place_of, Kept}
 use Rattle.ledger.specs.Redemption.{amount_bound}
 use Rattle.ledger.proofs.RedemptionLaws.{kept-within}
-use Rattle.ledger.proofs.Refusing.{done}
 use Rattle.ledger.proofs.FitFacts.{payment-within, fit-keeps}
 use Rattle.ledger.proofs.ContractLaws.{below-where-on, trade-here}
 
@@ -35,12 +34,6 @@ early-at-most calendar book table contract count price few h k =
 
 -- ---- no refusal
 
--- number 0: no cause applies
-pub early-clear : (calendar : Calendar) (book : Book) (table : List Trade) (contract : Contract) (count : Sheets) (price : Ticks) (n : ℕ)
-    → n ≡ number_of (first_of (early_causes calendar book table contract count price)) → n ≡ 0 → first_of (early_causes calendar book table contract count price) ≡ none
-unfolding event_causes
-early-clear calendar book table contract count price n e z = done calendar book table (Early contract count price) n e z
-
 -- the trade stands at its place and has the sheets, which are few and cheap enough to count
 pub record Redeems (table : List ℕ) (trades place : ℕ) (count : Sheets) (price : Ticks) : Type 0 where
   pub below : place < trades
@@ -49,7 +42,7 @@ pub record Redeems (table : List ℕ) (trades place : ℕ) (count : Sheets) (pri
   pub cheap : price.0 ≤ price_limit
 
 pub early-redeems : (calendar : Calendar) (book : Book) (table : List ℕ) (place : ℕ) (contract : Contract) (count : Sheets) (price : Ticks) → fit calendar book (trades_of table) ≡ true
-    → place ≡ place_of contract (trades_to table book.trades) → first_of (early_causes calendar book (trades_of table) contract count price) ≡ none → Redeems table book.trades place count price
+    → place ≡ place_of contract (trades_to table book.trades) → none ≡ first_of (early_causes calendar book (trades_of table) contract count price) → Redeems table book.trades place count price
 unfolding early_causes
 early-redeems calendar book table place contract count price fits stands e =
     record { below = below; enough = enough; few = omega (arith, enough, (kept-within table book.trades keeps place below).sheets); cheap = ltb-false price_limit price.0 (clear 8) }
@@ -58,7 +51,7 @@ early-redeems calendar book table place contract count price fits stands e =
     keeps = fit-keeps calendar book table fits
 
     clear : Clear (early_causes calendar book (trades_of table) contract count price)
-    clear = all-clear (early_causes calendar book (trades_of table) contract count price) e
+    clear = all-clear (early_causes calendar book (trades_of table) contract count price) (sym e)
 
     below : place < book.trades
     below = below-where-on table book.trades place contract keeps.room stands (clear 10)
@@ -67,8 +60,8 @@ early-redeems calendar book table place contract count price fits stands e =
     enough = rw (trade-here table book.trades place contract keeps.room stands below) at (ltb-false (named book (trades_of table) contract).sheets.0 count.0 (clear 13))
 
 -- and U has room for the amount
-pub early-within : (calendar : Calendar) (book : Book) (table : List Trade) (contract : Contract) (count : Sheets) (price : Ticks) → first_of (early_causes calendar book table contract count price) ≡ none
+pub early-within : (calendar : Calendar) (book : Book) (table : List Trade) (contract : Contract) (count : Sheets) (price : Ticks) → none ≡ first_of (early_causes calendar book table contract count price)
     → passes (early_amount calendar book table contract count price) book.sums.unpaid ≡ false
 unfolding early_causes
 early-within calendar book table contract count price e =
-    (neither (ltb net_limit (nat_abs (net_with_early calendar book table contract count price))) _ (all-clear (early_causes calendar book table contract count price) e 14)).1
+    (neither (ltb net_limit (nat_abs (net_with_early calendar book table contract count price))) _ (all-clear (early_causes calendar book table contract count price) (sym e) 14)).1

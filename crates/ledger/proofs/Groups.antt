@@ -1,12 +1,10 @@
--- Causes in groups: a refusal asks one group after another, each of a call that gives its number, or 0 where none of it applies.
+-- Causes in groups: a refusal asks one group after another, each of a call that tells its cause, or none where none of it applies.
 -- Assumes nothing.
-use Rattle.std.specs.Prelude.{◌≡◌, ℕ, Bool, true, false, cond, not, eqb, List, [], ◌∷◌, ◌++◌}
-use mathlib.Core.Path.{refl}
+use Rattle.std.specs.Prelude.{◌≡◌, ℕ, Bool, true, false, cond, List, [], ◌∷◌, ◌++◌}
+use mathlib.Core.Path.{refl, sym, ap, ◌∙◌}
 use mathlib.Core.Option.{Option, none, some}
-use Rattle.money.specs.Causes.{Cause, first_of, number_of}
-use Rattle.rules.proofs.Answers.{numbers, none-at-0}
+use Rattle.money.specs.Causes.{Cause, first_of}
 use Rattle.rules.proofs.Accepted.{Clear, all-clear}
-use Rattle.ledger.proofs.Refusing.{refused}
 
 abbrev or_else : (o p : Option ℕ) → Option ℕ
 or_else none p = p
@@ -22,20 +20,15 @@ joined (a ∷ xs) rest = by a.applies (joined xs rest)
     by true e = refl
     by false e = e
 
--- no cause of a group has the number 0
-abbrev pub numbered : List Cause → Bool
-numbered = numbers (λ k. not (eqb k 0))
-
 module _ (xs : List Cause) where
   -- the group refuses
-  pub group-applies : (rest : List Cause) (n : ℕ) → n ≡ number_of (first_of xs) → (n ≡ 0 → ⊥) → n ≡ number_of (first_of (xs ++ rest))
-  group-applies rest n e z = rw (joined xs rest, refused (first_of xs) n e z) refl
+  pub group-applies : (rest : List Cause) {n : ℕ} → some n ≡ first_of xs → some n ≡ first_of (xs ++ rest)
+  group-applies rest e = sym (joined xs rest ∙ ap (λ o. or_else o (first_of rest)) (sym e))
 
-  module _ {k : ℕ} (all : numbered xs ≡ true) (e : k ≡ number_of (first_of xs)) (z : k ≡ 0) where
-    -- it does not, and the others decide
-    pub group-passes : (rest : List Cause) (n : ℕ) → n ≡ number_of (first_of rest) → n ≡ number_of (first_of (xs ++ rest))
-    group-passes rest n f = rw (joined xs rest, none-at-0 (λ k. not (eqb k 0)) xs k refl all e z) f
+  -- it does not, and the others decide
+  pub group-passes : (rest : List Cause) {cause : Option ℕ} → none ≡ first_of xs → cause ≡ first_of rest → cause ≡ first_of (xs ++ rest)
+  group-passes rest e f = f ∙ sym (joined xs rest ∙ ap (λ o. or_else o (first_of rest)) (sym e))
 
-    -- each of its tests failed, cited by number
-    pub group-clear : Clear xs
-    group-clear = all-clear xs (none-at-0 (λ k. not (eqb k 0)) xs k refl all e z)
+  -- and each of its tests failed, cited by number
+  pub group-clear : none ≡ first_of xs → Clear xs
+  group-clear e = all-clear xs (sym e)

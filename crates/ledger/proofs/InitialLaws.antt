@@ -1,17 +1,17 @@
 -- What a fit book tells an initial trade: today lies in the calendar, and the sum of sheets and the amount stay within their words.
 -- Assumes nothing.
 use Rattle.std.specs.Prelude.{◌≡◌, ℕ, ◌*◌, ◌%◌, ◌<◌, ◌≤◌, true, false, not, ◌||◌, eqb, ltb, List, length}
+use mathlib.Core.Path.{sym}
 use mathlib.Core.Option.{none}
 use native.Mathlib.Decide.{dec_le}
 use native.Mathlib.Omega.{arith}
 use borrow.Author.Tests.{ltb-false, leb-false}
 use Rattle.money.specs.Limits.{trade_limit}
-use Rattle.money.specs.Causes.{first_of, number_of}
+use Rattle.money.specs.Causes.{first_of}
 use Rattle.money.specs.Days.{Calendar, trades}
 use Rattle.money.proofs.Least.{past-rests}
 use Rattle.rules.specs.Days.{day_number}
 use Rattle.rules.specs.Trades.{in_use}
-use Rattle.rules.specs.Step.{event_causes}
 use Rattle.rules.specs.Fit.{day_fit, fit}
 use Rattle.rules.specs.Initial.{bad_count, initial_causes}
 use Rattle.rules.proofs.FoldLaws.{neither, every_holds}
@@ -20,7 +20,6 @@ use Rattle.rules.proofs.Accepted.{all-clear}
 use Rattle.ledger.specs.Types.{Book, Day, None, Some, Phase, Terms, Trade, Initial}
 use Rattle.ledger.specs.Flat.{capacity, trades_of}
 use Rattle.ledger.proofs.FlatLaws.{length-trades}
-use Rattle.ledger.proofs.Refusing.{done}
 
 -- a trading day lies in the calendar
 trading-within : (calendar : Calendar) (day : ℕ) → trades calendar day ≡ true → day < 32 * length calendar
@@ -45,19 +44,15 @@ count-within count e = ltb-false trade_limit count (neither (eqb count 0 || not 
 -- ---- where no cause applies
 
 module _ (calendar : Calendar) (book : Book) (table : List ℕ) (terms : Terms) where
-  pub initial-clear : (n : ℕ) → n ≡ number_of (first_of (initial_causes calendar book (trades_of table) terms)) → n ≡ 0 → first_of (initial_causes calendar book (trades_of table) terms) ≡ none
-  unfolding event_causes
-  initial-clear n e z = done calendar book (trades_of table) (Initial terms) n e z
-
   -- there is room for one more trade, of sheets within a trade's limit
   pub record Begins : Type 0 where
     pub few : terms.sheets.0 ≤ trade_limit
     pub room : book.trades < capacity table
 
-  pub initial-begins : first_of (initial_causes calendar book (trades_of table) terms) ≡ none → Begins
+  pub initial-begins : none ≡ first_of (initial_causes calendar book (trades_of table) terms) → Begins
   unfolding initial_causes
   initial-begins e =
-      let clear = all-clear (initial_causes calendar book (trades_of table) terms) e in
+      let clear = all-clear (initial_causes calendar book (trades_of table) terms) (sym e) in
       record {
         few = count-within terms.sheets.0 (clear 7);
         room = omega (arith, leb-false (length (trades_of table)) book.trades (clear 11), length-trades table (capacity table));

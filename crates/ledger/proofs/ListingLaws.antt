@@ -1,13 +1,13 @@
 -- A listing that is not refused, and the empty table that it starts on.
 -- For the proofs of listing.rt. Assumes nothing.
 use Rattle.std.specs.Prelude.{◌≡◌, ℕ, zero, suc, ◌+◌, ◌*◌, ◌<◌, ◌≤◌, true, not, eqb, List, get_or, replicate}
-use mathlib.Core.Path.{refl}
+use mathlib.Core.Path.{refl, sym}
 use mathlib.Core.Option.{none}
 use native.Mathlib.Numerals.{add-one}
 use native.Mathlib.Omega.{arith}
 use borrow.Author.Tests.{ltb-false}
 use lib.ListN.{length-replicate, get_or-replicate, replicate-append-replicate}
-use Rattle.money.specs.Causes.{first_of, number_of}
+use Rattle.money.specs.Causes.{first_of}
 use Rattle.money.proofs.Refusals.{failed}
 use Rattle.money.specs.Days.{Calendar}
 use Rattle.rules.specs.Trades.{no_trade}
@@ -15,24 +15,19 @@ use Rattle.rules.specs.Book.{fresh_book}
 use Rattle.rules.specs.Limits.{application_limit}
 use Rattle.rules.specs.Fit.{fit}
 use Rattle.rules.specs.Listing.{journal_capacity, journal_table, listing_of, length_causes, listing_causes, written_by, run_done}
-use Rattle.rules.proofs.Answers.{none-at-0}
 use Rattle.rules.proofs.StaysFit.{others-clear, fresh-is-fit}
 use Rattle.ledger.specs.Flat.{width, held_length, trade_at, trades_to, capacity, trades_of, security_in, posting_in, up_to, rows_of, book_of, scalars_of}
 
 -- ---- a listing that is not refused
 
 module _ (words bytes room : ℕ) where
-  pub listing-clear : (n : ℕ) → n ≡ number_of (first_of (listing_causes words bytes room)) → n ≡ 0 → first_of (listing_causes words bytes room) ≡ none
-  unfolding listing_causes length_causes
-  listing-clear n = none-at-0 (λ k. not (eqb k 0)) (listing_causes words bytes room) n refl refl
-
-  pub words-within : first_of (listing_causes words bytes room) ≡ none → words ≤ 1200
+  pub words-within : none ≡ first_of (listing_causes words bytes room) → words ≤ 1200
   unfolding listing_causes
-  words-within e = ltb-false 1200 words ((failed _ e 1).0 refl)
+  words-within e = ltb-false 1200 words ((failed _ (sym e) 1).0 refl)
 
-  pub lengths_none : first_of (listing_causes words bytes room) ≡ none → first_of (length_causes bytes room) ≡ none
+  pub lengths_none : none ≡ first_of (listing_causes words bytes room) → none ≡ first_of (length_causes bytes room)
   unfolding listing_causes
-  lengths_none e = others-clear _ (length_causes bytes room) e
+  lengths_none e = sym (others-clear _ (length_causes bytes room) (sym e))
 
 -- ---- the empty table
 

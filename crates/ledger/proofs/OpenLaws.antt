@@ -1,9 +1,9 @@
 -- Open: which cause applies, by what the code asks in turn, and that the trades in use can be redeemed on the day opened.
 -- For the event Open. Assumes nothing.
 use Rattle.std.specs.Prelude.{◌≡◌, ℕ, ◌≤◌, true, false, ltb, List, length, nat_abs}
-use mathlib.Core.Path.{ap, ◌∙◌}
+use mathlib.Core.Path.{sym, ap, ◌∙◌}
 use mathlib.Core.Option.{Option, none, some}
-use Rattle.money.specs.Causes.{first_of, number_of}
+use Rattle.money.specs.Causes.{first_of}
 use Rattle.money.specs.Units.{signed_fen}
 use Rattle.money.specs.Days.{Calendar}
 use Rattle.rules.specs.Limits.{net_limit}
@@ -22,7 +22,6 @@ use Rattle.scalars.specs.declared.state.Scalars.{Scalars}
 use Rattle.scalars.specs.declared.done.Done.{Done}
 use Rattle.ledger.specs.Types.{Nets, Standing, Book, Trading, Trade, Open, Applied}
 use Rattle.ledger.specs.Flat.{Rows, book_of, applied_at, applied_by, trades_of, Redeemable}
-use Rattle.ledger.proofs.Refusing.{done}
 use Rattle.ledger.proofs.Column.{first_holds, second_holds, neither-holds}
 use Rattle.ledger.proofs.NetLaws.{over-net, within-net}
 use Rattle.ledger.proofs.FitFacts.{fit-redeemable}
@@ -73,36 +72,19 @@ module _ (calendar : Calendar) (scalars owing : Scalars) (rows : Rows) (table : 
       ≡ turned_book calendar (book_of scalars rows) table
   terminated-book ended opened cleared owed = rw (owed, cleared, opened, ended)
 
--- ---- what was posted: forgotten where Open is done, and kept where it is refused
+-- ---- what was posted: forgotten where Open is done
 
-module _ (calendar : Calendar) (scalars : Scalars) (before after : Rows) (table : List Trade) (r : Done) where
-  abbrev met : Book
-  met = book_of scalars before
-
-  abbrev cause : Option ℕ
-  cause = first_of (open_causes calendar met table)
-
-  -- the number that is answered
-  given-number : (o : Option ℕ) → applied_at r before ≡ applied_by o met (turned_book calendar met table) → r.answer.number ≡ number_of o
-  given-number none e = ap (λ (a : Applied). a.answer.number) e
-  given-number (some k) e = ap (λ (a : Applied). a.answer.number) e
-
-  pub forgotten : applied_at r before ≡ applied_by cause met (turned_book calendar met table) → r.answer.number ≡ 0
-      → after ≡ record { securities = before.securities; postings = no_postings; kinds = before.kinds; units = before.units }
-      → applied_at r after ≡ applied_by cause met (opened_book calendar met table)
-  unfolding event_causes opened_book
-  forgotten e zero rows =
-      let clear = done calendar met table Open r.answer.number (given-number cause e) zero in
-      let left : applied_at r before ≡ applied_by none met (turned_book calendar met table) = e ∙ ap (λ o. applied_by o met (turned_book calendar met table)) clear in
-      rw (clear, rows) (ap (λ (a : Applied). record { answer = a.answer; book = with_postings no_postings a.book }) left)
-
-  pub kept-posted : applied_at r before ≡ applied_by cause met (turned_book calendar met table) → (r.answer.number ≡ 0 → ⊥)
-      → applied_at r before ≡ applied_by cause met (opened_book calendar met table)
-  kept-posted e Some-number = by cause e
-    where
-      by : (o : Option ℕ) → applied_at r before ≡ applied_by o met (turned_book calendar met table) → applied_at r before ≡ applied_by o met (opened_book calendar met table)
-      by none e = absurd (Some-number (given-number none e))
-      by (some k) e = e
+pub forgotten : (calendar : Calendar) (scalars : Scalars) (before after : Rows) (table : List Trade) (done : Done) →
+    let met = book_of scalars before in
+    let cause = first_of (open_causes calendar met table) in
+    none ≡ cause → applied_at done before ≡ applied_by cause met (turned_book calendar met table)
+    → after ≡ record { securities = before.securities; postings = no_postings; kinds = before.kinds; units = before.units }
+    → applied_at done after ≡ applied_by cause met (opened_book calendar met table)
+unfolding opened_book
+forgotten calendar scalars before after table done clear e rows =
+    let met = book_of scalars before in
+    let left : applied_at done before ≡ applied_by none met (turned_book calendar met table) = e ∙ ap (λ o. applied_by o met (turned_book calendar met table)) (sym clear) in
+    rw (rows, ← clear) (ap (λ (a : Applied). record { answer = a.answer; book = with_postings no_postings a.book }) left)
 
 -- ---- redemption on the day opened
 

@@ -8,7 +8,7 @@ use native.Mathlib.Omega.{arith}
 use borrow.Author.Tests.{ltb-false}
 use lib.ListN.{length-append, take-append-drop}
 use lib.Seq.{sets, length-sets, sets-eq, take_at, drop_at, drop-drop, length-take-le}
-use Rattle.money.specs.Causes.{first_of, number_of}
+use Rattle.money.specs.Causes.{first_of}
 use Rattle.money.specs.Days.{Calendar}
 use Rattle.money.proofs.Refusals.{hit, skip, failed}
 use Rattle.rules.specs.Fit.{fit}
@@ -16,11 +16,9 @@ use Rattle.rules.specs.Entry.{decoded}
 use Rattle.rules.specs.Step.{Outcome, unfit, step}
 use Rattle.rules.specs.Run.{run, last_book, last_table}
 use Rattle.rules.specs.Listing.{entries_of, line_of, lines_of, length_causes, RunOutcome, run_causes, run_done, run_outcome}
-use Rattle.rules.proofs.Answers.{none-at-0}
 use Rattle.rules.proofs.StaysFit.{step-keeps-fit}
 use Rattle.ledger.specs.Types.{Book, Trade, Entry, Applied}
 use Rattle.ledger.specs.Flat.{trades_of, applied_of}
-use Rattle.ledger.proofs.Refusing.{refused}
 
 -- ---- a row of numbers stored
 
@@ -159,13 +157,9 @@ module _ (calendar : Calendar) (book₀ : Book) (bytes table₀ lines₀ : List 
 -- ---- the lent lengths
 
 module _ (bytes room : ℕ) where
-  pub lengths-clear : (n : ℕ) → n ≡ number_of (first_of (length_causes bytes room)) → n ≡ 0 → first_of (length_causes bytes room) ≡ none
+  pub lines_fit : none ≡ first_of (length_causes bytes room) → 7 * (bytes / 40) ≤ room
   unfolding length_causes
-  lengths-clear n = none-at-0 (λ k. not (eqb k 0)) (length_causes bytes room) n refl refl
-
-  pub lines_fit : first_of (length_causes bytes room) ≡ none → 7 * (bytes / 40) ≤ room
-  unfolding length_causes
-  lines_fit e = ltb-false room (7 * (bytes / 40)) ((failed _ e 14).0 refl)
+  lines_fit e = ltb-false room (7 * (bytes / 40)) ((failed _ (sym e) 14).0 refl)
 
 -- ---- a run on any book: when it is refused, and when it goes on
 
@@ -189,12 +183,12 @@ module _ (calendar : Calendar) (book : Book) (table : List Trade) (bytes buffer 
   unfolding run_causes
   by_lengths e o l = skip 1 _ e l
 
-  pub bad-lengths : unfit calendar book table ≡ false → (n : ℕ) → n ≡ number_of (first_of (length_causes (length bytes) (length buffer))) → (n ≡ 0 → ⊥) → Refused n
-  bad-lengths e n m z = refused-by n (by_lengths e (some n) (refused _ n m z))
+  pub bad-lengths : unfit calendar book table ≡ false → (n : ℕ) → some n ≡ first_of (length_causes (length bytes) (length buffer)) → Refused n
+  bad-lengths e n m = refused-by n (by_lengths e (some n) (sym m))
 
-  pub goes_on : unfit calendar book table ≡ false → first_of (length_causes (length bytes) (length buffer)) ≡ none → left ≡ run_done calendar book table bytes buffer
+  pub goes_on : unfit calendar book table ≡ false → none ≡ first_of (length_causes (length bytes) (length buffer)) → left ≡ run_done calendar book table bytes buffer
   unfolding run_outcome
-  goes_on e m = rw (by_lengths e none m)
+  goes_on e m = rw (by_lengths e none (sym m))
 
   pub ran-through : {after : Book} → after ≡ (run_done calendar book table bytes buffer).ran.book → record { number = 0; book = after } ≡ (run_done calendar book table bytes buffer).ran
   unfolding run_done

@@ -1,6 +1,7 @@
 -- O and V together, what an event tells of how it moves them, and what one walk tells: for private contracts. It states no rule.
 -- Assumes nothing.
-use Rattle.std.specs.Prelude.{◌≡◌, ℕ, ◌+◌, max, true, false, cond, List, [], ◌∷◌, ◌≢◌}
+use Rattle.std.specs.Prelude.{◌≡◌, ℕ, ◌+◌, max, Bool, true, false, cond, List, [], ◌∷◌, ◌≢◌, Option}
+use Rattle.money.specs.declared.units.Sheets.{Sheets}
 use Rattle.money.specs.Units.{sheets}
 use Rattle.money.specs.Days.{Calendar}
 use Rattle.rules.specs.Trades.{in_use, outstanding}
@@ -11,8 +12,6 @@ use Rattle.ledger.specs.Flat.{FitsWhole, FitsHeld, vault_of, securities_of}
 use Rattle.scalars.specs.declared.state.Scalars.{Scalars}
 pub use Rattle.ledger.specs.declared.figures.Figures.{Figures}
 pub use Rattle.ledger.specs.declared.figures.KnownFigures.{KnownFigures}
-pub use Rattle.ledger.specs.declared.figures.KnownValue.{KnownValue}
-pub use Rattle.ledger.specs.declared.figures.KnownValue.TheVariants.{Counted, NotCounted}
 pub use Rattle.ledger.specs.declared.trades.Summary.{Summary}
 
 -- more than any V of a fit book: 32 kinds of 10^12 units at two sheets each, and 10^12 sheets of cash
@@ -32,9 +31,9 @@ figures_at scalars held table =
     record { outstanding = sheets (outstanding_at scalars table); value = sheets (value (vault_of scalars.guarantee (securities_of held))) }
 
 -- V, where it is known
-abbrev pub IsValue : KnownValue → (value : ℕ) → Type 0
-IsValue (Counted counted) value = counted.0 ≡ value
-IsValue NotCounted value = Unit {0}
+abbrev pub IsValue : Option Sheets → (value : ℕ) → Type 0
+IsValue (Some counted) value = counted.0 ≡ value
+IsValue None value = Unit {0}
 
 -- what the core may rely on where O, and V if it is known, come with the book
 pub record CountedWhole (calendar : Calendar) (scalars : Scalars) (held kinds units : List ℕ) (table : List Trade) (known : KnownFigures) : Type 0 where
@@ -67,6 +66,11 @@ Moved (Post product posting) before after = after ≡ before
 abbrev pub MovedBy : Entry → (number : ℕ) → (before after : Figures) → Type 0
 MovedBy (Some event) number before after = ((number ≢ 0) → after ≡ before) × (number ≡ 0 → Moved event before after)
 MovedBy None number before after = after ≡ before
+
+-- O of a fit book, and none of one that is not fit
+abbrev pub IsFitWith : Option Sheets → (fit : Bool) → (outstanding : ℕ) → Type 0
+IsFitWith (Some counted) fit outstanding = (fit ≡ true) × (counted.0 ≡ outstanding)
+IsFitWith None fit outstanding = fit ≡ false
 
 -- ---- what one walk over trades tells
 

@@ -12,38 +12,40 @@ ghost use Rattle.rules.specs.Trades.{outstanding, remaining};
 ghost use Rattle.ledger.specs.Types.{Trade};
 ghost use Rattle.ledger.specs.Figures.{CountedWhole};
 ghost use Rattle.ledger.specs.NextTerm.{Planned, Renewable, most_matured};
+ghost use Rattle.scalars.specs.Scalars.{done_by};
 ghost use Rattle.ledger.specs.Flat.{RowsFit, Rows, vault_of, securities_of, postings_of, rows_of, book_of, evening_at, applied_at, trades_of, closed_by, table_by, Kept};
 
 use crate::evening::EveningScalars;
 use crate::figures::KnownFigures;
 use crate::next_term::Plan;
 use crate::{evening, nets, next_term, packing, vault};
+use money::refusal::Refusal;
 use money::units::{Fen, Sheets};
 use rules::book::{Cash, Nets, Phase, ShortRun, Standing, Unpaid};
 use rules::limits::APPLICATION_LIMIT;
 use scalars::done::Done;
 use scalars::state::Scalars;
-use scalars::{done, headroom, standing, state, unpaid};
+use scalars::{done, headroom, state, unpaid};
 
 fn may_close(standing: Standing) -> bool
     ensures { result ≡ may_close standing }
 {
-    if standing::is_paid(standing) {
+    if standing.is_paid() {
         return true;
     }
-    if !standing::is_trading(standing) {
+    if !standing.is_trading() {
         return false;
     }
-    standing::is_terminated(standing)
+    standing.is_terminated()
 }
 
 fn is_served(standing: Standing) -> bool
     ensures { result ≡ served standing }
 {
-    if !standing::is_paid(standing) {
+    if !standing.is_paid() {
         return false;
     }
-    !standing::has_failed(standing)
+    !standing.has_failed()
 }
 
 fn longer(short: ShortRun) -> ShortRun
@@ -219,35 +221,35 @@ pub fn close(
     units: &mut [u64],
     table: &mut [u64],
     known: KnownFigures,
-) -> Done
+) -> Result<Done, Refusal>
     requires { CountedWhole calendar.now scalars held.old kinds.old units.old (trades_of table.old) known }
     ensures { let book = book_of scalars (rows_of held.old kinds.old units.old) in
         let trades = trades_of table.old in
         let remains = left_trades calendar.now book trades in
         let left = rows_of held.new kinds.new units.new in
         let cause = first_of (close_causes calendar.now book trades) in
-        (applied_at result left ≡ closed_by cause calendar.now book remains trades)
+        (applied_at (done_by scalars result) left ≡ closed_by cause calendar.now book remains trades)
         × (trades_of table.new ≡ table_by cause trades (closed_table book remains trades)) }
 {
     let standing = scalars.standing;
     if !may_close(standing) {
-        return done::answered(4, scalars);
+        return Err(Refusal::WrongPhase);
     }
     let plan = next_term::plan_of(calendar, scalars, &*held, &*kinds, &*units, &*table, known);
     let at_close = nets::today_at_close(scalars.nets, plan.amount, plan.started);
     if !nets::today_fit(at_close) {
-        return done::answered(14, scalars);
+        return Err(Refusal::PastLimit);
     }
     let cleared = nets::joined(at_close);
     if !nets::cleared_fit(cleared) {
-        return done::answered(14, scalars);
+        return Err(Refusal::PastLimit);
     }
     let sums = scalars.sums;
     if unpaid::passes(sums.unpaid, plan.amount) {
-        return done::answered(14, scalars);
+        return Err(Refusal::PastLimit);
     }
     let unpaid = unpaid::joined_with(sums.unpaid, plan.amount);
-    closed(
+    Ok(closed(
         calendar, scalars, held, kinds, units, table, plan, cleared, unpaid,
-    )
+    ))
 }

@@ -2,15 +2,15 @@
 ghost use Rattle.std.specs.Prelude.{◌≡◌, ◌≤◌, length};
 ghost use Rattle.std.proofs.Math.Option.{some};
 ghost use Rattle.money.specs.Limits.{calendar_limit};
-ghost use Rattle.money.specs.Days.{at_or_after, search_result};
+ghost use Rattle.money.specs.Days.{at_or_after, found_of, search_result};
 ghost use Rattle.rules.specs.Days.{following, to_day, day_number, payment_day, followed};
 
-use money::days::Found;
+use money::refusal::Refusal;
 
 // The next day to open.
-#[tactic(auto, unfolding(rules::specs::Days::following, money::specs::Causes::first_of))]
-fn next_found(calendar: &[u32], day: Option<u32>) -> Found
-    ensures { result ≡ search_result calendar.now (following calendar.now day) }
+#[tactic(auto, unfolding(rules::specs::Days::following))]
+fn next_found(calendar: &[u32], day: Option<u32>) -> Result<u32, Refusal>
+    ensures { found_of result ≡ search_result calendar.now (following calendar.now day) }
 {
     match day {
         None => money::days::earliest_day(calendar),
@@ -22,28 +22,23 @@ fn next_found(calendar: &[u32], day: Option<u32>) -> Found
 pub fn day_number(day: Option<u32>) -> u32
     ensures { result ≡ day_number day }
 {
-    match day {
-        None => 0,
-        Some(today) => today,
-    }
+    day.unwrap_or(0)
 }
 
 // The payment day of a day is the next trading day.
-#[tactic(auto, unfolding(rules::specs::Days::payment_day, money::specs::Causes::first_of))]
 pub fn payment_day(calendar: &[u32], day: Option<u32>) -> u32
     requires { length calendar.now ≤ calendar_limit }
     ensures { result ≡ payment_day calendar.now day }
 {
-    next_found(calendar, day).day
+    next_found(calendar, day).unwrap_or(0)
 }
 
 // Whether a trading day has another following.
-#[tactic(auto, unfolding(rules::specs::Days::followed, money::specs::Causes::first_of))]
 pub fn has_next(calendar: &[u32], day: u32) -> bool
     requires { length calendar.now ≤ calendar_limit }
     ensures { result ≡ followed calendar.now (some day) }
 {
-    money::days::next_after(calendar, day).number == 0
+    money::days::next_after(calendar, day).is_ok()
 }
 
 // Whether there is a trading day at or after a due day with another following.
@@ -51,11 +46,10 @@ pub fn matures(calendar: &[u32], due: u32) -> bool
     requires { length calendar.now ≤ calendar_limit }
     ensures { result ≡ followed calendar.now (at_or_after calendar.now due) }
 {
-    let found = money::days::at_or_after(calendar, due);
-    if found.number != 0 {
+    let Ok(day) = money::days::at_or_after(calendar, due) else {
         return false;
-    }
-    has_next(calendar, found.day)
+    };
+    has_next(calendar, day)
 }
 
 // Whether there is a day to open with another following.
@@ -63,22 +57,16 @@ pub fn opens(calendar: &[u32], day: Option<u32>) -> bool
     requires { length calendar.now ≤ calendar_limit }
     ensures { result ≡ followed calendar.now (following calendar.now day) }
 {
-    let found = next_found(calendar, day);
-    if found.number != 0 {
+    let Ok(next) = next_found(calendar, day) else {
         return false;
-    }
-    has_next(calendar, found.day)
+    };
+    has_next(calendar, next)
 }
 
 // The day to open, or never.
-#[tactic(auto, using(money::proofs::Answers::none_elsewhere))]
 pub fn next_day(calendar: &[u32], day: Option<u32>) -> Option<u32>
     requires { length calendar.now ≤ calendar_limit }
     ensures { result ≡ to_day (following calendar.now day) }
 {
-    let found = next_found(calendar, day);
-    if found.number != 0 {
-        return None;
-    }
-    Some(found.day)
+    next_found(calendar, day).ok()
 }

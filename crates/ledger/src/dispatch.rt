@@ -1,12 +1,13 @@
 // The thirteen events on a book: which function each is, and when none is asked.
 ghost use Rattle.std.specs.Prelude.{◌≡◌};
 ghost use Rattle.rules.specs.Step.{step};
-ghost use Rattle.ledger.specs.Types.{Known};
+ghost use Rattle.scalars.specs.Scalars.{done_by};
 ghost use Rattle.ledger.specs.Flat.{rows_of, book_of, applied_at, trades_of, applied_of};
 ghost use Rattle.ledger.specs.Figures.{CountedWhole};
 
 use crate::figures::KnownFigures;
 use crate::{close, early, freeze, funds, initial, open, pay, pledge, post, rate, size, withdraw};
+use money::refusal::Refusal;
 use rules::event::Event;
 use scalars::done;
 use scalars::done::Done;
@@ -23,12 +24,12 @@ fn event_on(
     table: &mut [u64],
     known: KnownFigures,
     event: Event,
-) -> Done
+) -> Result<Done, Refusal>
     requires { CountedWhole calendar.now scalars held.old kinds.old units.old (trades_of table.old) known }
     ensures { let book = book_of scalars (rows_of held.old kinds.old units.old) in
         let trades = trades_of table.old in
         let next = step calendar.now book trades (Some event) in
-        (applied_at result (rows_of held.new kinds.new units.new) ≡ applied_of next)
+        (applied_at (done_by scalars result) (rows_of held.new kinds.new units.new) ≡ applied_of next)
         × (trades_of table.new ≡ next.table) }
 {
     match event {
@@ -70,8 +71,9 @@ pub fn entry_on(
         (applied_at result (rows_of held.new kinds.new units.new) ≡ applied_of next)
         × (trades_of table.new ≡ next.table) }
 {
-    match entry {
-        Some(event) => event_on(calendar, scalars, held, kinds, units, table, known, event),
-        None => done::answered(2, scalars),
-    }
+    let Some(event) = entry else {
+        return done::refused(Refusal::Undecodable, scalars);
+    };
+    let outcome = event_on(calendar, scalars, held, kinds, units, table, known, event);
+    done::done_by(scalars, outcome)
 }

@@ -1,19 +1,21 @@
 // 10 Early: takes sheets off a trade at the price given; the amount joins today's net, and U.
 ghost use Rattle.std.specs.Prelude.{◌≡◌, ◌≤◌};
 ghost use Rattle.money.specs.Limits.{trade_limit};
-ghost use Rattle.money.specs.Causes.{first_of, number_of};
+ghost use Rattle.money.specs.Causes.{first_of, refusal_of};
 ghost use Rattle.rules.specs.Early.{past_due, order_causes, named_causes, take_causes, early_causes, early_book, early_table};
+ghost use Rattle.scalars.specs.Scalars.{done_by};
 ghost use Rattle.ledger.specs.Flat.{HasSlots, Rows, book_of, Fits, Named, Running, applied_at, trades_to, trades_of, place_of, applied_by, table_by};
 ghost use Rattle.ledger.specs.Redemption.{early_of};
 
 use crate::redemption::Redeemed;
 use crate::{days, flat, nets, redemption, trades};
 use money::limits::PRICE_LIMIT;
+use money::refusal::Refusal;
 use money::units::{Sheets, Ticks};
 use rules::trade::Contract;
 use scalars::done::Done;
 use scalars::state::Scalars;
-use scalars::{done, standing, state, unpaid};
+use scalars::{done, state, unpaid};
 
 // Whether today is at or past the due day of the trade at a place.
 #[tactic(auto, using(crate::proofs::ContractLaws::missing, crate::proofs::ContractLaws::present))]
@@ -54,41 +56,46 @@ fn early_plan(
 
 // The causes, group by group as the rules have them: when sheets may be redeemed and how many at which price, the contract's
 // trade, and what is taken from it.
-#[tactic(auto, using(crate::proofs::Column::column))]
-fn order_refusal(scalars: Scalars, count: Sheets, price: Ticks) -> u8
-    ensures { (rows : Rows) → result ≡ number_of (first_of (order_causes (book_of scalars rows) count price)) }
+#[tactic(auto, unfolding(money::specs::Causes::first_of))]
+fn order_refusal(scalars: Scalars, count: Sheets, price: Ticks) -> Result<(), Refusal>
+    ensures { (rows : Rows) → refusal_of result ≡ first_of (order_causes (book_of scalars rows) count price) }
 {
     let standing = scalars.standing;
-    if !standing::is_trading(standing) {
-        return 4;
+    if !standing.is_trading() {
+        return Err(Refusal::WrongPhase);
     }
-    if standing::is_terminated(standing) {
-        return 5;
+    if standing.is_terminated() {
+        return Err(Refusal::PermissionEnded);
     }
     if count.0 == 0 {
-        return 7;
+        return Err(Refusal::BadCount);
     }
     if price.0 > PRICE_LIMIT {
-        return 8;
+        return Err(Refusal::BadPrice);
     }
-    0
+    Ok(())
 }
 
-#[tactic(auto, using(crate::proofs::Column::column))]
-fn named_refusal(scalars: Scalars, table: &[u64], place: usize, contract: Contract) -> u8
+#[tactic(auto, unfolding(money::specs::Causes::first_of))]
+fn named_refusal(
+    scalars: Scalars,
+    table: &[u64],
+    place: usize,
+    contract: Contract,
+) -> Result<(), Refusal>
     requires { (HasSlots table.now scalars.trades) × (place ≡ place_of contract (trades_to table.now scalars.trades)) }
-    ensures { (rows : Rows) → result ≡ number_of (first_of (named_causes (book_of scalars rows) (trades_of table.now) contract)) }
+    ensures { (rows : Rows) → refusal_of result ≡ first_of (named_causes (book_of scalars rows) (trades_of table.now) contract) }
 {
     if past_due(scalars, table, place, contract) {
-        return 9;
+        return Err(Refusal::BadDueDay);
     }
     if place >= scalars.trades {
-        return 10;
+        return Err(Refusal::BadContract);
     }
-    0
+    Ok(())
 }
 
-#[tactic(auto, using(crate::proofs::Column::column, crate::proofs::Column::passes, crate::proofs::Column::ends))]
+#[tactic(auto, unfolding(money::specs::Causes::first_of))]
 fn take_refusal(
     calendar: &[u32],
     scalars: Scalars,
@@ -97,25 +104,25 @@ fn take_refusal(
     contract: Contract,
     count: Sheets,
     price: Ticks,
-) -> u8
+) -> Result<(), Refusal>
     requires { Running calendar.now scalars table.now place contract price }
     ensures { (rows : Rows) →
-        result ≡ number_of (first_of (take_causes calendar.now (book_of scalars rows) (trades_of table.now) contract count price)) }
+        refusal_of result ≡ first_of (take_causes calendar.now (book_of scalars rows) (trades_of table.now) contract count price) }
 {
     let left = flat::sheets_at(table, place);
     if left.0 < count.0 {
-        return 13;
+        return Err(Refusal::NotEnough);
     }
     let nets = scalars.nets;
     let plan = early_plan(calendar, scalars, table, place, contract, count, price);
     if nets::over_plus(nets, plan.amount) {
-        return 14;
+        return Err(Refusal::PastLimit);
     }
     let sums = scalars.sums;
     if unpaid::passes(sums.unpaid, plan.amount) {
-        return 14;
+        return Err(Refusal::PastLimit);
     }
-    0
+    Ok(())
 }
 
 #[tactic(auto, using(crate::proofs::Refusing::no_rows), unfolding(rules::specs::Early::early_causes, money::specs::Causes::first_of))]
@@ -127,26 +134,20 @@ fn early_refusal(
     contract: Contract,
     count: Sheets,
     price: Ticks,
-) -> u8
+) -> Result<(), Refusal>
     requires { Named calendar.now scalars table.now place contract }
     ensures { let trades = trades_of table.now in
         ((rows : Rows) →
         let book = book_of scalars rows in
         let cause = first_of (early_causes calendar.now book trades contract count price) in
-        result ≡ number_of cause) }
+        refusal_of result ≡ cause) }
 {
-    let as_ordered = order_refusal(scalars, count, price);
-    if as_ordered != 0 {
-        return as_ordered;
-    }
-    let of_that_name = named_refusal(scalars, table, place, contract);
-    if of_that_name != 0 {
-        return of_that_name;
-    }
+    order_refusal(scalars, count, price)?;
+    named_refusal(scalars, table, place, contract)?;
     take_refusal(calendar, scalars, table, place, contract, count, price)
 }
 
-#[tactic(auto, using(crate::proofs::Refusing::refused, crate::proofs::Refusing::turned_down), unfolding(rules::specs::Early::early_book, rules::specs::Early::early_table, money::specs::Causes::first_of))]
+#[tactic(auto, using(crate::proofs::Refusing::turned_down, crate::proofs::Refusing::carried_out), unfolding(rules::specs::Early::early_book, rules::specs::Early::early_table, money::specs::Causes::first_of))]
 pub fn early(
     calendar: &[u32],
     scalars: Scalars,
@@ -154,20 +155,17 @@ pub fn early(
     contract: Contract,
     count: Sheets,
     price: Ticks,
-) -> Done
+) -> Result<Done, Refusal>
     requires { Fits calendar.now scalars (trades_of table.old) }
     ensures { let trades = trades_of table.old in
         ((rows : Rows) →
         let book = book_of scalars rows in
         let cause = first_of (early_causes calendar.now book trades contract count price) in
-        (applied_at result rows ≡ applied_by cause book (early_book calendar.now book trades contract count price))
+        (applied_at (done_by scalars result) rows ≡ applied_by cause book (early_book calendar.now book trades contract count price))
         × (trades_of table.new ≡ table_by cause trades (early_table book trades contract count))) }
 {
     let place = trades::place_of(&*table, scalars.trades, contract);
-    let refusal = early_refusal(calendar, scalars, &*table, place, contract, count, price);
-    if refusal != 0 {
-        return done::answered(refusal, scalars);
-    }
+    early_refusal(calendar, scalars, &*table, place, contract, count, price)?;
     let plan = early_plan(calendar, scalars, &*table, place, contract, count, price);
     let had = flat::sheets_at(&*table, place);
     let left = had.0 - plan.sheets.0;
@@ -176,5 +174,5 @@ pub fn early(
     let sums = scalars.sums;
     let mut next = state::with_unpaid(scalars, unpaid::today_plus(sums.unpaid, plan.amount));
     next.nets = nets::today_plus(nets, plan.amount);
-    done::answered(0, next)
+    Ok(done::answered(0, next))
 }

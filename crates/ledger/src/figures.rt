@@ -1,8 +1,10 @@
 // O and V of a book: counted over the table and the vault, or carried over an event that says how it moves them.
-ghost use Rattle.std.specs.Prelude.{◌≡◌};
+ghost use Rattle.std.specs.Prelude.{◌≡◌, true, length};
+ghost use Rattle.rules.specs.Vault.{value as value_of};
+ghost use Rattle.rules.specs.Fit.{securities_fit, cash_fit};
 ghost use Rattle.rules.specs.Trades.{in_use, outstanding};
-ghost use Rattle.ledger.specs.Figures.{CountedHeld, figures_at, Moved, MovedBy};
-ghost use Rattle.ledger.specs.Flat.{FitsHeld, trades_of};
+ghost use Rattle.ledger.specs.Figures.{CountedHeld, figures_at, IsValue, Moved, MovedBy};
+ghost use Rattle.ledger.specs.Flat.{FitsHeld, vault_of, securities_of, trades_of, held_length};
 
 use crate::{trades, vault};
 use money::units::Sheets;
@@ -15,18 +17,11 @@ pub struct Figures {
     pub value: Sheets,
 }
 
-// A run has V from the event before; a single call counts it where an event asks.
-#[derive(Clone, Copy)]
-pub enum KnownValue {
-    Counted(Sheets),
-    NotCounted,
-}
-
-// O, and what is known of V, as an event begins.
+// O as an event begins, and V if it is known: a run has V from the event before, a single call counts it where an event asks.
 #[derive(Clone, Copy)]
 pub struct KnownFigures {
     pub outstanding: Sheets,
-    pub value: KnownValue,
+    pub value: Option<Sheets>,
 }
 
 // Counted, over the trades in use and all kinds.
@@ -42,6 +37,20 @@ pub fn figures_of(calendar: &[u32], scalars: Scalars, held: &[u64], table: &[u64
     }
 }
 
+// V, counted where it is not known.
+pub fn value_known(scalars: Scalars, held: &[u64], value: Option<Sheets>) -> Sheets
+    requires { (length held.now ≡ held_length)
+        × (securities_fit (vault_of scalars.guarantee (securities_of held.now)) ≡ true)
+        × (cash_fit scalars.cash scalars.guarantee ≡ true)
+        × (IsValue value (value_of (vault_of scalars.guarantee (securities_of held.now)))) }
+    ensures { result.0 ≡ value_of (vault_of scalars.guarantee (securities_of held.now)) }
+{
+    match value {
+        Some(counted) => counted,
+        None => vault::value_of(held, scalars.guarantee),
+    }
+}
+
 // Both, with V counted only where it is not known.
 #[tactic(auto, using(rules::proofs::FitParts::fit_parts))]
 pub fn figures_known(
@@ -54,18 +63,9 @@ pub fn figures_known(
     requires { CountedHeld calendar.now scalars held.now (trades_of table.now) known }
     ensures { result ≡ figures_at scalars held.now (trades_of table.now) }
 {
-    let guarantee = scalars.guarantee;
-    let outstanding = known.outstanding;
-    let value = known.value;
-    match value {
-        KnownValue::Counted(counted) => Figures {
-            outstanding,
-            value: counted,
-        },
-        KnownValue::NotCounted => Figures {
-            outstanding,
-            value: vault::value_of(held, guarantee),
-        },
+    Figures {
+        outstanding: known.outstanding,
+        value: value_known(scalars, held, known.value),
     }
 }
 

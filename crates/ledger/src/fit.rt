@@ -7,7 +7,7 @@ ghost use Rattle.rules.specs.Trades.{differ};
 ghost use Rattle.rules.specs.Fit.{capacity_fit, size_fit, nets_fit, sums_fit, withdrawals_fit, unopened_fit, opened_fit, day_fit, fit};
 ghost use Rattle.ledger.specs.Types.{Trade};
 ghost use Rattle.ledger.specs.Flat.{RowsLong, rows_of, book_of, trades_to, trades_of, Kept};
-ghost use Rattle.ledger.specs.Figures.{outstanding_at, latest_first, summary_of};
+ghost use Rattle.ledger.specs.Figures.{outstanding_at, IsFitWith, latest_first, summary_of};
 
 use crate::trades::Summary;
 use crate::{days, layout, nets, postings, trades, vault};
@@ -15,7 +15,7 @@ use money::units::{Fen, Sheets};
 use rules::book::{Nets, Standing, Sums};
 use rules::limits::{CAPACITY_LIMIT, SIZE_LIMIT};
 use scalars::state::Scalars;
-use scalars::{standing, unpaid};
+use scalars::unpaid;
 
 #[tactic(auto, unfolding(rules::specs::Fit::capacity_fit, money::specs::Causes::first_of))]
 fn capacity_fit(count: usize, table: &[u64]) -> bool
@@ -62,7 +62,7 @@ fn sums_fit(sums: Sums) -> bool
 fn unopened_fit(standing: Standing, count: usize) -> bool
     ensures { result ≡ unopened_fit standing.phase count }
 {
-    if !standing::is_closed(standing) {
+    if !standing.is_closed() {
         return false;
     }
     count == 0
@@ -177,13 +177,7 @@ fn is_fit(
     others_fit(calendar, scalars, kinds, units, table, summary.latest)
 }
 
-// Whether a book is fit, and O of one that is, since the test counts it.
-#[derive(Clone, Copy)]
-pub struct Fitness {
-    pub fit: bool,
-    pub outstanding: Sheets,
-}
-
+// O of a book that is fit, since the test counts it.
 #[tactic(auto, using(crate::proofs::Fitting::fitting, crate::proofs::Fitting::upheld))]
 pub fn fitness_of(
     calendar: &[u32],
@@ -192,23 +186,19 @@ pub fn fitness_of(
     kinds: &[u8],
     units: &[u64],
     table: &[u64],
-) -> Fitness
+) -> Option<Sheets>
     requires { RowsLong calendar.now held.now kinds.now units.now }
     ensures { let trades = trades_of table.now in
-        (result.fit ≡ fit calendar.now (book_of scalars (rows_of held.now kinds.now units.now)) trades)
-        × (result.fit ≡ true → result.outstanding.0 ≡ outstanding_at scalars trades) }
+        let fits = fit calendar.now (book_of scalars (rows_of held.now kinds.now units.now)) trades in
+        IsFitWith result fits (outstanding_at scalars trades) }
 {
     let count = scalars.trades;
     if !capacity_fit(count, table) {
-        return Fitness {
-            fit: false,
-            outstanding: Sheets(0),
-        };
+        return None;
     }
     let summary = trades::summary_of(table, count);
-    let outstanding = summary.outstanding;
-    Fitness {
-        fit: is_fit(calendar, scalars, held, kinds, units, table, summary),
-        outstanding,
+    if !is_fit(calendar, scalars, held, kinds, units, table, summary) {
+        return None;
     }
+    Some(summary.outstanding)
 }

@@ -1,32 +1,34 @@
 // 7 Freeze: sets frozen units.
 ghost use Rattle.std.specs.Prelude.{◌≡◌, ℕ, ◌<◌, List, length, slice_set};
-ghost use Rattle.money.specs.Causes.{first_of, number_of};
+ghost use Rattle.money.specs.Causes.{first_of, refusal_of};
 ghost use Rattle.money.specs.Collateral.{cash_kind};
 ghost use Rattle.rules.specs.Freeze.{freeze_causes, frozen, with_frozen, cash_frozen};
+ghost use Rattle.scalars.specs.Scalars.{done_by};
 ghost use Rattle.ledger.specs.Flat.{security_in, securities_of, postings_of, rows_of, book_of, applied_by, applied_at, held_length};
 
 use crate::{held, vault};
 use money::limits::CASH_KIND;
+use money::refusal::Refusal;
 use money::units::Fen;
 use rules::book::Guarantee;
 use scalars::done;
 use scalars::done::Done;
 use scalars::state::Scalars;
 
-#[tactic(auto, using(crate::proofs::Column::column), unfolding(rules::specs::Freeze::freeze_causes, money::specs::Causes::first_of))]
-fn freeze_refusal(scalars: Scalars, held: &[u64], kind: u8, units: u64) -> u8
+#[tactic(auto, unfolding(rules::specs::Freeze::freeze_causes, money::specs::Causes::first_of))]
+fn freeze_refusal(scalars: Scalars, held: &[u64], kind: u8, units: u64) -> Result<(), Refusal>
     requires { length held.now ≡ held_length }
     ensures { (kinds amounts : List ℕ) →
-        result ≡ number_of (first_of (freeze_causes (book_of scalars (rows_of held.now kinds amounts)) kind units)) }
+        refusal_of result ≡ first_of (freeze_causes (book_of scalars (rows_of held.now kinds amounts)) kind units) }
 {
     if kind > CASH_KIND {
-        return 3;
+        return Err(Refusal::UnknownKind);
     }
     let guarantee = scalars.guarantee;
     if vault::effective_of(held, guarantee, kind) < units {
-        return 13;
+        return Err(Refusal::NotEnough);
     }
-    0
+    Ok(())
 }
 
 fn put_frozen(held: &mut [u64], kind: u8, units: u64)
@@ -53,24 +55,21 @@ fn cash_frozen(guarantee: Guarantee, amount: Fen) -> Guarantee
     }
 }
 
-#[tactic(auto, using(crate::proofs::Refusing::turned_down, crate::proofs::Refusing::done), unfolding(rules::specs::Step::event_causes, rules::specs::Freeze::freeze_causes, rules::specs::Freeze::frozen, money::specs::Causes::first_of))]
-pub fn freeze(scalars: Scalars, held: &mut [u64], kind: u8, units: u64) -> Done
+#[tactic(auto, using(crate::proofs::Refusing::turned_down, crate::proofs::Refusing::carried_out), unfolding(rules::specs::Step::event_causes, rules::specs::Freeze::freeze_causes, rules::specs::Freeze::frozen, money::specs::Causes::first_of))]
+pub fn freeze(scalars: Scalars, held: &mut [u64], kind: u8, units: u64) -> Result<Done, Refusal>
     requires { length held.old ≡ held_length }
     ensures { (kinds amounts : List ℕ) →
         let book = book_of scalars (rows_of held.old kinds amounts) in
         let cause = first_of (freeze_causes book kind units) in
-        applied_at result (rows_of held.new kinds amounts) ≡ applied_by cause book (frozen book kind units) }
+        applied_at (done_by scalars result) (rows_of held.new kinds amounts) ≡ applied_by cause book (frozen book kind units) }
 {
-    let refusal = freeze_refusal(scalars, &*held, kind, units);
-    if refusal != 0 {
-        return done::answered(refusal, scalars);
-    }
+    freeze_refusal(scalars, &*held, kind, units)?;
     if kind == CASH_KIND {
         let guarantee = scalars.guarantee;
         let mut next = scalars;
         next.guarantee = cash_frozen(guarantee, Fen(units));
-        return done::answered(0, next);
+        return Ok(done::answered(0, next));
     }
     put_frozen(held, kind, units);
-    done::answered(0, scalars)
+    Ok(done::answered(0, scalars))
 }

@@ -1,11 +1,13 @@
 // 2, 3 Fund in, fund out: fen from or to outside.
 ghost use Rattle.std.specs.Prelude.{◌≡◌, true};
-ghost use Rattle.money.specs.Causes.{first_of, number_of};
+ghost use Rattle.money.specs.Causes.{first_of, refusal_of};
 ghost use Rattle.rules.specs.Fit.{cash_fit};
 ghost use Rattle.rules.specs.Funds.{holds, with_account, fund_in_causes, funded_in, fund_out_causes, funded_out};
+ghost use Rattle.scalars.specs.Scalars.{done_by};
 ghost use Rattle.ledger.specs.Flat.{Rows, book_of, applied_by, applied_at};
 
 use money::limits::CASH_LIMIT;
+use money::refusal::Refusal;
 use money::units::Fen;
 use rules::book::Cash;
 use rules::event::Account;
@@ -33,72 +35,66 @@ fn with_account(account: Account, sum: Fen, cash: Cash) -> Cash
     }
 }
 
-#[tactic(auto, using(crate::proofs::Column::column), unfolding(rules::specs::Funds::fund_in_causes, money::specs::Causes::first_of))]
-fn fund_in_refusal(scalars: Scalars, account: Account, amount: Fen) -> u8
+#[tactic(auto, unfolding(rules::specs::Funds::fund_in_causes, money::specs::Causes::first_of))]
+fn fund_in_refusal(scalars: Scalars, account: Account, amount: Fen) -> Result<(), Refusal>
     requires { cash_fit scalars.cash scalars.guarantee ≡ true }
-    ensures { (rows : Rows) → result ≡ number_of (first_of (fund_in_causes (book_of scalars rows) account amount)) }
+    ensures { (rows : Rows) → refusal_of result ≡ first_of (fund_in_causes (book_of scalars rows) account amount) }
 {
     if amount.0 == 0 {
-        return 7;
+        return Err(Refusal::BadCount);
     }
     let cash = scalars.cash.own.0
         + scalars.cash.client.0
         + scalars.guarantee.effective.0
         + scalars.guarantee.arriving.0;
     if CASH_LIMIT - cash < amount.0 {
-        return 14;
+        return Err(Refusal::PastLimit);
     }
-    0
+    Ok(())
 }
 
-#[tactic(auto, using(crate::proofs::Refusing::no_rows, crate::proofs::Refusing::turned_down, crate::proofs::Refusing::done), unfolding(rules::specs::Step::event_causes, rules::specs::Funds::fund_in_causes, rules::specs::Funds::funded_in, money::specs::Causes::first_of))]
-pub fn fund_in(scalars: Scalars, account: Account, amount: Fen) -> Done
+#[tactic(auto, using(crate::proofs::Refusing::turned_down, crate::proofs::Refusing::carried_out), unfolding(rules::specs::Step::event_causes, rules::specs::Funds::fund_in_causes, rules::specs::Funds::funded_in, money::specs::Causes::first_of))]
+pub fn fund_in(scalars: Scalars, account: Account, amount: Fen) -> Result<Done, Refusal>
     requires { cash_fit scalars.cash scalars.guarantee ≡ true }
     ensures { (rows : Rows) →
         let book = book_of scalars rows in
-        applied_at result rows ≡ applied_by (first_of (fund_in_causes book account amount)) book (funded_in book account amount) }
+        applied_at (done_by scalars result) rows ≡ applied_by (first_of (fund_in_causes book account amount)) book (funded_in book account amount) }
 {
-    let refusal = fund_in_refusal(scalars, account, amount);
-    if refusal != 0 {
-        return done::answered(refusal, scalars);
-    }
+    fund_in_refusal(scalars, account, amount)?;
     let cash = scalars.cash;
     let mut next = scalars;
     let held = balance(account, cash);
     let sum = held.0 + amount.0;
     next.cash = with_account(account, Fen(sum), cash);
-    done::answered(0, next)
+    Ok(done::answered(0, next))
 }
 
-#[tactic(auto, using(crate::proofs::Column::column), unfolding(rules::specs::Funds::fund_out_causes, money::specs::Causes::first_of))]
-fn fund_out_refusal(scalars: Scalars, account: Account, amount: Fen) -> u8
-    ensures { (rows : Rows) → result ≡ number_of (first_of (fund_out_causes (book_of scalars rows) account amount)) }
+#[tactic(auto, unfolding(rules::specs::Funds::fund_out_causes, money::specs::Causes::first_of))]
+fn fund_out_refusal(scalars: Scalars, account: Account, amount: Fen) -> Result<(), Refusal>
+    ensures { (rows : Rows) → refusal_of result ≡ first_of (fund_out_causes (book_of scalars rows) account amount) }
 {
     if amount.0 == 0 {
-        return 7;
+        return Err(Refusal::BadCount);
     }
     let cash = scalars.cash;
     let held = balance(account, cash);
     if held.0 < amount.0 {
-        return 13;
+        return Err(Refusal::NotEnough);
     }
-    0
+    Ok(())
 }
 
-#[tactic(auto, using(crate::proofs::Refusing::no_rows, crate::proofs::Refusing::turned_down, crate::proofs::Refusing::done), unfolding(rules::specs::Step::event_causes, rules::specs::Funds::fund_out_causes, rules::specs::Funds::funded_out, money::specs::Causes::first_of))]
-pub fn fund_out(scalars: Scalars, account: Account, amount: Fen) -> Done
+#[tactic(auto, using(crate::proofs::Refusing::turned_down, crate::proofs::Refusing::carried_out), unfolding(rules::specs::Step::event_causes, rules::specs::Funds::fund_out_causes, rules::specs::Funds::funded_out, money::specs::Causes::first_of))]
+pub fn fund_out(scalars: Scalars, account: Account, amount: Fen) -> Result<Done, Refusal>
     ensures { (rows : Rows) →
         let book = book_of scalars rows in
-        applied_at result rows ≡ applied_by (first_of (fund_out_causes book account amount)) book (funded_out book account amount) }
+        applied_at (done_by scalars result) rows ≡ applied_by (first_of (fund_out_causes book account amount)) book (funded_out book account amount) }
 {
-    let refusal = fund_out_refusal(scalars, account, amount);
-    if refusal != 0 {
-        return done::answered(refusal, scalars);
-    }
+    fund_out_refusal(scalars, account, amount)?;
     let cash = scalars.cash;
     let mut next = scalars;
     let held = balance(account, cash);
     let rest = held.0 - amount.0;
     next.cash = with_account(account, Fen(rest), cash);
-    done::answered(0, next)
+    Ok(done::answered(0, next))
 }

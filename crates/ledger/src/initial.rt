@@ -1,24 +1,26 @@
 // 9 Initial: a new last trade; its amount is taken from today's net.
 ghost use Rattle.std.specs.Prelude.{◌≡◌, ℕ, ◌<◌, ◌≤◌, List, length, pos, int_lt, nat_le};
 ghost use Rattle.money.specs.Limits.{calendar_limit, term_limit, trade_limit};
-ghost use Rattle.money.specs.Causes.{first_of, number_of};
+ghost use Rattle.money.specs.Causes.{first_of, refusal_of};
 ghost use Rattle.money.specs.Money.{principal};
 ghost use Rattle.rules.specs.Days.{day_number};
 ghost use Rattle.rules.specs.Trades.{in_use, on_table};
 ghost use Rattle.rules.specs.Vault.{headroom};
 ghost use Rattle.rules.specs.Initial.{bad_count, bad_due, product_causes, time_causes, term_causes, slot_causes, sheet_causes, begun, initial_causes, initial_book, initial_table};
+ghost use Rattle.scalars.specs.Scalars.{done_by};
 ghost use Rattle.ledger.specs.Flat.{HasSlots, Rows, rows_of, book_of, applied_at, trades_of, applied_by, table_by, held_length};
 ghost use Rattle.ledger.specs.Figures.{CountedHeld};
 
 use crate::figures::KnownFigures;
 use crate::{days, figures, flat, nets, postings, prices, trades};
 use money::limits::TRADE_LIMIT;
+use money::refusal::Refusal;
 use money::units::{Fen, Sheets};
 use rules::limits::{AHEAD_LIMIT, PRODUCT_LIMIT};
 use rules::trade::{Contract, Terms, Trade};
 use scalars::done::Done;
 use scalars::state::Scalars;
-use scalars::{done, headroom, standing, state};
+use scalars::{done, headroom, state};
 
 fn bad_count(count: Sheets) -> bool
     ensures { result ≡ bad_count count.0 }
@@ -64,8 +66,7 @@ fn principal_of(count: Sheets) -> Fen
     requires { count.0 ≤ trade_limit }
     ensures { result ≡ principal count }
 {
-    let answer = money::amounts::initial(count);
-    answer.fen
+    money::amounts::initial(count).unwrap()
 }
 
 // Whether sheets are above headroom.
@@ -88,78 +89,78 @@ fn lacks_headroom(
 
 // The causes, group by group as the rules have them: a trade's product, when it may begin, its prices and its due day, the table's room,
 // and headroom's and the net's.
-#[tactic(auto, using(crate::proofs::Column::column))]
-fn product_refusal(scalars: Scalars, held: &[u64], terms: Terms) -> u8
+#[tactic(auto, unfolding(money::specs::Causes::first_of))]
+fn product_refusal(scalars: Scalars, held: &[u64], terms: Terms) -> Result<(), Refusal>
     requires { length held.now ≡ held_length }
     ensures { (kinds units : List ℕ) →
         let book = book_of scalars (rows_of held.now kinds units) in
-        result ≡ number_of (first_of (product_causes book terms)) }
+        refusal_of result ≡ first_of (product_causes book terms) }
 {
     let product = terms.product as usize;
     if product == 0 {
-        return 0;
+        return Ok(());
     }
     if product > PRODUCT_LIMIT {
-        return 20;
+        return Err(Refusal::NotPosted);
     }
     let posting = postings::posting_of(held, product);
     if posting.term == 0 {
-        return 20;
+        return Err(Refusal::NotPosted);
     }
-    0
+    Ok(())
 }
 
-#[tactic(auto, using(crate::proofs::Column::column))]
-fn time_refusal(scalars: Scalars) -> u8
-    ensures { (rows : Rows) → result ≡ number_of (first_of (time_causes (book_of scalars rows))) }
+#[tactic(auto, unfolding(money::specs::Causes::first_of))]
+fn time_refusal(scalars: Scalars) -> Result<(), Refusal>
+    ensures { (rows : Rows) → refusal_of result ≡ first_of (time_causes (book_of scalars rows)) }
 {
     let standing = scalars.standing;
-    if !standing::is_trading(standing) {
-        return 4;
+    if !standing.is_trading() {
+        return Err(Refusal::WrongPhase);
     }
-    if standing::is_terminated(standing) {
-        return 5;
+    if standing.is_terminated() {
+        return Err(Refusal::PermissionEnded);
     }
-    if standing::is_suspended(standing) {
-        return 6;
+    if standing.is_suspended() {
+        return Err(Refusal::TradesSuspended);
     }
-    0
+    Ok(())
 }
 
-#[tactic(auto, using(crate::proofs::Column::column))]
-fn term_refusal(calendar: &[u32], scalars: Scalars, terms: Terms) -> u8
+#[tactic(auto, unfolding(money::specs::Causes::first_of))]
+fn term_refusal(calendar: &[u32], scalars: Scalars, terms: Terms) -> Result<(), Refusal>
     requires { (length calendar.now ≤ calendar_limit) × (day_number scalars.standing.day < term_limit) }
-    ensures { (rows : Rows) → result ≡ number_of (first_of (term_causes calendar.now (book_of scalars rows) terms)) }
+    ensures { (rows : Rows) → refusal_of result ≡ first_of (term_causes calendar.now (book_of scalars rows) terms) }
 {
     let price = terms.price;
     let fallback = terms.fallback;
     if prices::bad_prices(price, fallback) {
-        return 8;
+        return Err(Refusal::BadPrice);
     }
     let standing = scalars.standing;
     let day = standing.day;
     if bad_due(calendar, day, terms.due) {
-        return 9;
+        return Err(Refusal::BadDueDay);
     }
-    0
+    Ok(())
 }
 
-#[tactic(auto, using(crate::proofs::Column::column))]
-fn slot_refusal(scalars: Scalars, table: &[u64], terms: Terms) -> u8
+#[tactic(auto, unfolding(money::specs::Causes::first_of))]
+fn slot_refusal(scalars: Scalars, table: &[u64], terms: Terms) -> Result<(), Refusal>
     requires { HasSlots table.now scalars.trades }
-    ensures { (rows : Rows) → result ≡ number_of (first_of (slot_causes (book_of scalars rows) (trades_of table.now) terms)) }
+    ensures { (rows : Rows) → refusal_of result ≡ first_of (slot_causes (book_of scalars rows) (trades_of table.now) terms) }
 {
     let contract = terms.contract;
     if is_taken(table, scalars.trades, contract) {
-        return 10;
+        return Err(Refusal::BadContract);
     }
     if is_full(table, scalars.trades) {
-        return 11;
+        return Err(Refusal::TableFull);
     }
-    0
+    Ok(())
 }
 
-#[tactic(auto, using(crate::proofs::Column::column), unfolding(money::specs::Money::principal, money::specs::Causes::first_of))]
+#[tactic(auto, unfolding(money::specs::Money::principal, money::specs::Causes::first_of))]
 fn sheet_refusal(
     calendar: &[u32],
     scalars: Scalars,
@@ -167,21 +168,21 @@ fn sheet_refusal(
     table: &[u64],
     known: KnownFigures,
     terms: Terms,
-) -> u8
+) -> Result<(), Refusal>
     requires { (CountedHeld calendar.now scalars held.now (trades_of table.now) known) × (terms.sheets.0 ≤ trade_limit) }
     ensures { (kinds units : List ℕ) →
         let book = book_of scalars (rows_of held.now kinds units) in
-        result ≡ number_of (first_of (sheet_causes book (trades_of table.now) terms)) }
+        refusal_of result ≡ first_of (sheet_causes book (trades_of table.now) terms) }
 {
     let count = terms.sheets;
     if lacks_headroom(calendar, scalars, held, table, known, count) {
-        return 12;
+        return Err(Refusal::AboveHeadroom);
     }
     let nets = scalars.nets;
     if nets::over_less(nets, principal_of(count)) {
-        return 14;
+        return Err(Refusal::PastLimit);
     }
-    0
+    Ok(())
 }
 
 #[tactic(auto, using(crate::proofs::Column::applies, crate::proofs::Column::passes, crate::proofs::Column::asked, crate::proofs::Refusing::no_rows), unfolding(rules::specs::Initial::initial_causes, money::specs::Causes::first_of))]
@@ -192,33 +193,21 @@ fn initial_refusal(
     table: &[u64],
     known: KnownFigures,
     terms: Terms,
-) -> u8
+) -> Result<(), Refusal>
     requires { CountedHeld calendar.now scalars held.now (trades_of table.now) known }
     ensures { let trades = trades_of table.now in
         ((kinds units : List ℕ) →
         let book = book_of scalars (rows_of held.now kinds units) in
         let cause = first_of (initial_causes calendar.now book trades terms) in
-        result ≡ number_of cause) }
+        refusal_of result ≡ cause) }
 {
-    let of_its_product = product_refusal(scalars, held, terms);
-    if of_its_product != 0 {
-        return of_its_product;
-    }
-    let at_this_time = time_refusal(scalars);
-    if at_this_time != 0 {
-        return at_this_time;
-    }
+    product_refusal(scalars, held, terms)?;
+    time_refusal(scalars)?;
     if bad_count(terms.sheets) {
-        return 7;
+        return Err(Refusal::BadCount);
     }
-    let on_these_terms = term_refusal(calendar, scalars, terms);
-    if on_these_terms != 0 {
-        return on_these_terms;
-    }
-    let for_a_slot = slot_refusal(scalars, table, terms);
-    if for_a_slot != 0 {
-        return for_a_slot;
-    }
+    term_refusal(calendar, scalars, terms)?;
+    slot_refusal(scalars, table, terms)?;
     sheet_refusal(calendar, scalars, held, table, known, terms)
 }
 
@@ -245,7 +234,7 @@ fn begun_trade(calendar: &[u32], scalars: Scalars, terms: Terms) -> Trade
     }
 }
 
-#[tactic(auto, using(crate::proofs::Refusing::refused, crate::proofs::Refusing::turned_down), unfolding(money::specs::Money::principal, rules::specs::Initial::initial_book, rules::specs::Initial::initial_table, money::specs::Causes::first_of))]
+#[tactic(auto, using(crate::proofs::Refusing::turned_down, crate::proofs::Refusing::carried_out), unfolding(money::specs::Money::principal, rules::specs::Initial::initial_book, rules::specs::Initial::initial_table, money::specs::Causes::first_of))]
 pub fn initial(
     calendar: &[u32],
     scalars: Scalars,
@@ -253,22 +242,19 @@ pub fn initial(
     table: &mut [u64],
     known: KnownFigures,
     terms: Terms,
-) -> Done
+) -> Result<Done, Refusal>
     requires { CountedHeld calendar.now scalars held.now (trades_of table.old) known }
     ensures { let trades = trades_of table.old in
         ((kinds units : List ℕ) →
         let book = book_of scalars (rows_of held.now kinds units) in
         let cause = first_of (initial_causes calendar.now book trades terms) in
-        (applied_at result (rows_of held.now kinds units) ≡ applied_by cause book (initial_book book terms))
+        (applied_at (done_by scalars result) (rows_of held.now kinds units) ≡ applied_by cause book (initial_book book terms))
         × (trades_of table.new ≡ table_by cause trades (initial_table calendar.now book trades terms))) }
 {
-    let refusal = initial_refusal(calendar, scalars, held, &*table, known, terms);
-    if refusal != 0 {
-        return done::answered(refusal, scalars);
-    }
+    initial_refusal(calendar, scalars, held, &*table, known, terms)?;
     let place = scalars.trades;
     flat::put_trade(table, place, begun_trade(calendar, scalars, terms));
     let count = terms.sheets;
     let nets = nets::today_less(scalars.nets, principal_of(count));
-    done::answered(0, state::with_nets_and_trades(scalars, nets, place + 1))
+    Ok(done::answered(0, state::with_nets_and_trades(scalars, nets, place + 1)))
 }

@@ -1,19 +1,19 @@
 // The calls on a book and its table in lent numbers, changed in place: nothing is copied. Numbers that are no whole rows hold no book
 // that is fit, and are answered 1.
-ghost use Rattle.std.specs.Prelude.{◌≡◌, ℕ, ◌*◌, ◌≤◌, true, false, ◌==◌, slice_index, slice_index_or, slice_set};
-ghost use Rattle.money.specs.Causes.{first_of, number_of};
-ghost use Rattle.money.specs.Units.{sheets};
+ghost use Rattle.std.specs.Prelude.{◌≡◌, ℕ, ◌*◌, ◌≤◌, false, IsErr, slice_index, slice_index_or, slice_set};
+ghost use Rattle.money.specs.Causes.{first_of, number_of, refusal_of};
+ghost use Rattle.std.specs.Result.{result_unwrap_or};
 ghost use Rattle.rules.specs.Trades.{no_trade};
 ghost use Rattle.rules.specs.Step.{outcome, accepted};
 ghost use Rattle.rules.specs.Listing.{length_causes};
 ghost use Rattle.ledger.specs.Flat.{width, capacity, trades_of};
-ghost use Rattle.ledger.specs.Figures.{outstanding_at};
+ghost use Rattle.ledger.specs.Figures.{outstanding_at, IsFitWith};
 ghost use Rattle.ledger.specs.Lent.{lent, book_in, table_in, is_whole, fit_in, step_in, cover_in, run_in};
 
-use crate::figures::{KnownFigures, KnownValue};
-use crate::fit::Fitness;
+use crate::figures::KnownFigures;
 use crate::layout::HELD_LENGTH;
 use crate::{cover, dispatch, figures, fit, flat, layout, run};
+use money::refusal::Refusal;
 use money::units::Sheets;
 use rules::answer::Cover;
 use rules::event::Event;
@@ -39,18 +39,8 @@ fn is_whole(scalars: Scalars, held: &[u64], kinds: &[u8], units: &[u64], table: 
     table.len() % layout::WIDTH == 0
 }
 
-// For numbers that hold no fit book.
-fn not_fit() -> Fitness
-    ensures { result ≡ record { fit = false; outstanding = sheets 0 } }
-{
-    Fitness {
-        fit: false,
-        outstanding: Sheets(0),
-    }
-}
-
-// Whether the numbers hold a fit book, and O of one that is.
-#[tactic(auto, using(crate::proofs::Fitting::refuted, crate::proofs::Fitting::upheld, crate::proofs::LentLaws::lengths, crate::proofs::LentLaws::too_long))]
+// O of the book that the numbers hold, if it is fit.
+#[tactic(auto, using(crate::proofs::LentLaws::lengths, crate::proofs::LentLaws::too_long))]
 fn fitness_in(
     calendar: &[u32],
     scalars: Scalars,
@@ -58,17 +48,15 @@ fn fitness_in(
     kinds: &[u8],
     units: &[u64],
     table: &[u64],
-) -> Fitness
+) -> Option<Sheets>
     ensures { let before = lent scalars held.now kinds.now units.now table.now in
-        let trades = trades_of table.now in
-        (result.fit ≡ fit_in calendar.now before)
-        × (result.fit ≡ true → result.outstanding.0 ≡ outstanding_at scalars trades) }
+        IsFitWith result (fit_in calendar.now before) (outstanding_at scalars (trades_of table.now)) }
 {
     if !is_whole(scalars, held, kinds, units, table) {
-        return not_fit();
+        return None;
     }
     if state::is_too_long(calendar.len()) {
-        return not_fit();
+        return None;
     }
     fit::fitness_of(calendar, scalars, held, kinds, units, table)
 }
@@ -89,12 +77,10 @@ pub fn apply(
         (outcome result.answer (book_in after) (table_in after) ≡ step_in calendar.now before entry)
         × (accepted result.answer.number ≡ false → after ≡ before) }
 {
-    let tested = fitness_in(calendar, scalars, &*held, &*kinds, &*units, &*table);
-    let fits = tested.fit;
-    if !fits {
-        return done::answered(1, scalars);
-    }
-    let outstanding = tested.outstanding;
+    let fitness = fitness_in(calendar, scalars, &*held, &*kinds, &*units, &*table);
+    let Some(outstanding) = fitness else {
+        return done::refused(Refusal::NotFit, scalars);
+    };
     dispatch::entry_on(
         calendar,
         scalars,
@@ -104,7 +90,7 @@ pub fn apply(
         table,
         KnownFigures {
             outstanding,
-            value: KnownValue::NotCounted,
+            value: None,
         },
         entry,
     )
@@ -123,37 +109,28 @@ pub fn cover(
     ensures { let before = lent scalars held.now kinds.now units.now table.now in
         result ≡ cover_in calendar.now before }
 {
-    let tested = fitness_in(calendar, scalars, held, kinds, units, table);
-    let fits = tested.fit;
-    if !fits {
+    let Some(_) = fitness_in(calendar, scalars, held, kinds, units, table) else {
         return headroom::cover_refused();
-    }
+    };
     let figures = figures::figures_of(calendar, scalars, held, table);
     cover::cover_from(scalars.size, figures)
 }
 
 // The lent lengths: room for the events' lines, whole events, and no more than a journal's.
-#[tactic(auto, using(crate::proofs::Column::column), unfolding(rules::specs::Listing::length_causes, money::specs::Causes::first_of))]
-pub fn lengths_refusal(bytes: usize, room: usize) -> u8
-    ensures { result ≡ number_of (first_of (length_causes bytes room)) }
+#[tactic(auto, unfolding(rules::specs::Listing::length_causes, money::specs::Causes::first_of))]
+pub fn lengths_refusal(bytes: usize, room: usize) -> Result<(), Refusal>
+    ensures { refusal_of result ≡ first_of (length_causes bytes room) }
 {
     if room < LINE_NUMBERS * (bytes / EVENT_BYTES) {
-        return 14;
+        return Err(Refusal::PastLimit);
     }
     if bytes % EVENT_BYTES != 0 {
-        return 18;
+        return Err(Refusal::BadLength);
     }
     if bytes / EVENT_BYTES > EVENT_LIMIT {
-        return 18;
+        return Err(Refusal::BadLength);
     }
-    0
-}
-
-// What a run leaves beside the rows, the table and its lines.
-#[derive(Clone, Copy)]
-pub struct Ended {
-    pub number: u8,
-    pub scalars: Scalars,
+    Ok(())
 }
 
 // Encoded events, 40 bytes each, and a line of seven numbers for each. Fitness is tested once. Refused, every number lent is as it was.
@@ -167,29 +144,19 @@ pub fn run(
     table: &mut [u64],
     events: &[u8],
     lines: &mut [u64],
-) -> Ended
+) -> Result<Scalars, Refusal>
     ensures { let before = lent scalars held.old kinds.old units.old table.old in
-        let after = lent result.scalars held.new kinds.new units.new table.new in
-        (record { ran = record { number = result.number; book = book_in after }; table = table_in after; lines = lines.new }
+        let after = lent (result_unwrap_or result scalars) held.new kinds.new units.new table.new in
+        (record { ran = record { number = number_of (refusal_of result); book = book_in after }; table = table_in after; lines = lines.new }
         ≡ run_in calendar.now before events.now lines.old)
-        × ((result.number == 0) ≡ false → after ≡ before) }
+        × (IsErr result → after ≡ before) }
 {
-    let tested = fitness_in(calendar, scalars, &*held, &*kinds, &*units, &*table);
-    let fits = tested.fit;
-    if !fits {
-        return Ended { number: 1, scalars };
-    }
-    let refusal = lengths_refusal(events.len(), lines.len());
-    if refusal != 0 {
-        return Ended {
-            number: refusal,
-            scalars,
-        };
-    }
-    Ended {
-        number: 0,
-        scalars: run::run_events(calendar, scalars, held, kinds, units, table, events, lines),
-    }
+    let fitness = fitness_in(calendar, scalars, &*held, &*kinds, &*units, &*table);
+    let Some(_) = fitness else {
+        return Err(Refusal::NotFit);
+    };
+    lengths_refusal(events.len(), lines.len())?;
+    Ok(run::run_events(calendar, scalars, held, kinds, units, table, events, lines))
 }
 
 // The trade at a place, or an empty one past the last.

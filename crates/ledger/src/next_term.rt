@@ -13,12 +13,12 @@ ghost use Rattle.ledger.specs.Flat.{Kept, trade_at, trades_to, trades_of, securi
 ghost use Rattle.ledger.specs.Figures.{CountedWhole, IsValue};
 ghost use Rattle.ledger.specs.NextTerm.{Planned, PlanWithin, Meets, Renewable, FitAt, most_matured, most_started};
 
-use crate::figures::{KnownFigures, KnownValue};
-use crate::{days, flat, postings, redemption, vault};
+use crate::figures::KnownFigures;
+use crate::{days, figures, flat, postings, redemption};
 use money::units::{Fen, SHEET_FEN, Sheets};
 use rules::trade::Trade;
+use scalars::headroom;
 use scalars::state::Scalars;
-use scalars::{headroom, standing};
 
 // What decides beside the trade itself whether its next term starts: the same for every trade of a Close. V is that before (c), and is told
 // where any may start.
@@ -54,31 +54,16 @@ fn may_start(scalars: Scalars, held: &[u64]) -> bool
         → starts_of calendar (book_of scalars (rows_of held.now kinds units)) outstanding trade ≡ false) }
 {
     let standing = scalars.standing;
-    if !standing::is_normal(standing) {
+    if !standing.is_normal() {
         return false;
     }
     postings::any_posted(held)
 }
 
-// V where a next term may start: a run knows it, and a single call counts it.
-fn value_at_start(scalars: Scalars, held: &[u64], value: KnownValue) -> Sheets
-    requires { (length held.now ≡ held_length)
-        × (securities_fit (vault_of scalars.guarantee (securities_of held.now)) ≡ true)
-        × (cash_fit scalars.cash scalars.guarantee ≡ true)
-        × (IsValue value (value_of (vault_of scalars.guarantee (securities_of held.now)))) }
-    ensures { result.0 ≡ value_of (vault_of scalars.guarantee (securities_of held.now)) }
-{
-    let guarantee = scalars.guarantee;
-    match value {
-        KnownValue::Counted(counted) => counted,
-        KnownValue::NotCounted => vault::value_of(held, guarantee),
-    }
-}
-
 fn closing_of(
     scalars: Scalars,
     held: &[u64],
-    value: KnownValue,
+    value: Option<Sheets>,
     today: u32,
     payment: u32,
 ) -> Closing
@@ -106,7 +91,7 @@ fn closing_of(
         payment,
         may_start: true,
         size,
-        value: value_at_start(scalars, held, value),
+        value: figures::value_known(scalars, held, value),
     }
 }
 

@@ -1,19 +1,21 @@
 // 1 Open: goes to the next trading day; on turning terminated every trade is redeemed at its fallback price.
 ghost use Rattle.std.specs.Prelude.{◌≡◌, ℕ, ◌≤◌, List, length};
 ghost use Rattle.money.specs.Limits.{calendar_limit};
-ghost use Rattle.money.specs.Causes.{first_of};
+ghost use Rattle.money.specs.Causes.{first_of, refusal_of};
 ghost use Rattle.money.specs.Units.{fen};
 ghost use Rattle.rules.specs.Status.{status_at_open};
 ghost use Rattle.rules.specs.Open.{turns_terminated, opened_standing, fallback_sum, open_causes, turned_book, opened_book, opened_table};
+ghost use Rattle.scalars.specs.Scalars.{done_by};
 ghost use Rattle.ledger.specs.Flat.{Rows, rows_of, book_of, Fits, FitsHeld, Opening, Ending, applied_at, trades_of, applied_by, table_by};
 ghost use Rattle.ledger.specs.Redemption.{amount_bound};
 
 use crate::{days, nets, postings, redemption};
+use money::refusal::Refusal;
 use money::units::Fen;
 use rules::book::{Phase, Standing};
 use scalars::done::Done;
 use scalars::state::Scalars;
-use scalars::{done, standing, state, status, unpaid};
+use scalars::{done, state, status, unpaid};
 
 fn opened_standing(calendar: &[u32], standing: Standing) -> Standing
     requires { length calendar.now ≤ calendar_limit }
@@ -38,10 +40,10 @@ fn turns_terminated(before: Standing, after: Standing) -> bool
     requires { after.status ≡ status_at_open before.status before.failed before.short }
     ensures { result ≡ turns_terminated before }
 {
-    if standing::is_terminated(before) {
+    if before.is_terminated() {
         return false;
     }
-    standing::is_terminated(after)
+    after.is_terminated()
 }
 
 // Art. 72: every trade is redeemed whole at its fallback price on the day opened.
@@ -58,52 +60,59 @@ fn fallback_sum(calendar: &[u32], scalars: Scalars, table: &[u64], after: Standi
 
 // On turning terminated the table is emptied into the cleared net and U's cleared part, unless the net or U would leave its limit.
 #[tactic(auto, using(rules::proofs::FitParts::fit_parts), unfolding(rules::specs::Open::opened_table, money::specs::Causes::first_of))]
-fn terminated(calendar: &[u32], scalars: Scalars, table: &mut [u64], after: Standing) -> Done
+fn terminated(
+    calendar: &[u32],
+    scalars: Scalars,
+    table: &mut [u64],
+    after: Standing,
+) -> Result<Done, Refusal>
     requires { Ending calendar.now scalars (trades_of table.old) after }
     ensures { let trades = trades_of table.old in
         ((rows : Rows) →
         let book = book_of scalars rows in
         let cause = first_of (open_causes calendar.now book trades) in
-        (applied_at result rows ≡ applied_by cause book (turned_book calendar.now book trades))
-        × (trades_of table.new ≡ table_by cause trades (opened_table book trades))) }
+        (applied_at (done_by scalars result) rows ≡ applied_by cause book (turned_book calendar.now book trades))
+        × (trades_of table.new ≡ table_by cause trades (opened_table book trades))
+        × (refusal_of result ≡ cause)) }
 {
     let nets = scalars.nets;
     let sums = scalars.sums;
     let amount = fallback_sum(calendar, scalars, &*table, after);
     let with_fallbacks = nets::cleared_plus(nets, amount);
     if !nets::cleared_fit(with_fallbacks) {
-        return done::answered(14, scalars);
+        return Err(Refusal::PastLimit);
     }
     if unpaid::passes(sums.unpaid, amount) {
-        return done::answered(14, scalars);
+        return Err(Refusal::PastLimit);
     }
     // every due day has 32 bits, so every trade is due by the last of them
     redemption::redeem_due(table, scalars.trades, 4_294_967_295);
     let mut next = state::with_unpaid(scalars, unpaid::cleared_plus(sums.unpaid, amount));
     next.nets = with_fallbacks;
     next.standing = after;
-    done::answered(0, next)
+    Ok(done::answered(0, next))
 }
 
 // The day opened, with what was posted before.
 #[tactic(auto, unfolding(rules::specs::Open::opened_table, money::specs::Causes::first_of))]
-fn turned(calendar: &[u32], scalars: Scalars, table: &mut [u64]) -> Done
+fn turned(calendar: &[u32], scalars: Scalars, table: &mut [u64]) -> Result<Done, Refusal>
     requires { Fits calendar.now scalars (trades_of table.old) }
     ensures { let trades = trades_of table.old in
         ((rows : Rows) →
         let book = book_of scalars rows in
         let cause = first_of (open_causes calendar.now book trades) in
-        (applied_at result rows ≡ applied_by cause book (turned_book calendar.now book trades))
-        × (trades_of table.new ≡ table_by cause trades (opened_table book trades))) }
+        (applied_at (done_by scalars result) rows ≡ applied_by cause book (turned_book calendar.now book trades))
+        × (trades_of table.new ≡ table_by cause trades (opened_table book trades))
+        × (refusal_of result ≡ cause)) }
 {
     let standing = scalars.standing;
-    if !standing::is_closed(standing) {
-        return done::answered(4, scalars);
+    if !standing.is_closed() {
+        return Err(Refusal::WrongPhase);
     }
     let day = standing.day;
     // before 14: that one does not apply where this one does
     if !days::opens(calendar, day) {
-        return done::answered(16, scalars);
+        return Err(Refusal::NoTradingDay);
     }
     let after = opened_standing(calendar, standing);
     if turns_terminated(standing, after) {
@@ -111,24 +120,26 @@ fn turned(calendar: &[u32], scalars: Scalars, table: &mut [u64]) -> Done
     }
     let mut next = scalars;
     next.standing = after;
-    done::answered(0, next)
+    Ok(done::answered(0, next))
 }
 
 // What was posted is forgotten, unless Open is refused.
 #[tactic(auto, using(crate::proofs::OpenLaws::forgotten))]
-pub fn open(calendar: &[u32], scalars: Scalars, held: &mut [u64], table: &mut [u64]) -> Done
+pub fn open(
+    calendar: &[u32],
+    scalars: Scalars,
+    held: &mut [u64],
+    table: &mut [u64],
+) -> Result<Done, Refusal>
     requires { FitsHeld calendar.now scalars held.old (trades_of table.old) }
     ensures { let trades = trades_of table.old in
         ((kinds units : List ℕ) →
         let book = book_of scalars (rows_of held.old kinds units) in
         let cause = first_of (open_causes calendar.now book trades) in
-        (applied_at result (rows_of held.new kinds units) ≡ applied_by cause book (opened_book calendar.now book trades))
+        (applied_at (done_by scalars result) (rows_of held.new kinds units) ≡ applied_by cause book (opened_book calendar.now book trades))
         × (trades_of table.new ≡ table_by cause trades (opened_table book trades))) }
 {
-    let opened = turned(calendar, scalars, table);
-    let answer = opened.answer;
-    if answer.number == 0 {
-        postings::forget(held);
-    }
-    opened
+    let opened = turned(calendar, scalars, table)?;
+    postings::forget(held);
+    Ok(opened)
 }

@@ -1,30 +1,32 @@
 // 11 Pay: the whole cleared net moves and U's cleared part is paid, or nothing.
 ghost use Rattle.std.specs.Prelude.{◌≡◌, ◌+◌, ◌≤◌, true, false, nat_lt, unsigned_abs};
 ghost use Rattle.money.specs.Limits.{cash_limit};
-ghost use Rattle.money.specs.Causes.{first_of, number_of};
+ghost use Rattle.money.specs.Causes.{first_of, refusal_of};
 ghost use Rattle.rules.specs.Fit.{net_fit, nets_fit, cash_fit};
 ghost use Rattle.rules.specs.Pay.{payer_holds, moved, failed_more, pay_causes, paid_standing, after_pay};
+ghost use Rattle.scalars.specs.Scalars.{done_by};
 ghost use Rattle.ledger.specs.Flat.{Rows, book_of, paid_by, applied_at};
 
 use crate::nets;
+use money::refusal::Refusal;
 use money::units::Fen;
 use rules::book::{Cash, FailedRun, Nets, Phase, Standing};
 use scalars::done::Done;
 use scalars::state::Scalars;
-use scalars::{done, standing, state, unpaid};
+use scalars::{done, state, unpaid};
 
-#[tactic(auto, using(crate::proofs::Column::column), unfolding(rules::specs::Pay::pay_causes, money::specs::Causes::first_of))]
-fn pay_refusal(scalars: Scalars) -> u8
-    ensures { (rows : Rows) → result ≡ number_of (first_of (pay_causes (book_of scalars rows))) }
+#[tactic(auto, unfolding(rules::specs::Pay::pay_causes, money::specs::Causes::first_of))]
+fn pay_refusal(scalars: Scalars) -> Result<(), Refusal>
+    ensures { (rows : Rows) → refusal_of result ≡ first_of (pay_causes (book_of scalars rows)) }
 {
     let standing = scalars.standing;
-    if !standing::is_trading(standing) {
-        return 4;
+    if !standing.is_trading() {
+        return Err(Refusal::WrongPhase);
     }
-    if standing::is_terminated(standing) {
-        return 5;
+    if standing.is_terminated() {
+        return Err(Refusal::PermissionEnded);
     }
-    0
+    Ok(())
 }
 
 // What the payer of the net due holds.
@@ -125,19 +127,16 @@ fn paid(scalars: Scalars) -> Scalars
     next
 }
 
-#[tactic(auto, using(money::proofs::TwoTests::both, crate::proofs::Refusing::refused, crate::proofs::Refusing::done), unfolding(rules::specs::Step::event_causes, rules::specs::Fit::nets_fit, money::specs::Causes::first_of))]
-pub fn pay(scalars: Scalars) -> Done
+#[tactic(auto, using(crate::proofs::Refusing::turned_down, crate::proofs::Refusing::carried_out), unfolding(rules::specs::Step::event_causes, rules::specs::Fit::nets_fit, money::specs::Causes::first_of))]
+pub fn pay(scalars: Scalars) -> Result<Done, Refusal>
     requires { (nets_fit scalars.nets ≡ true) × (cash_fit scalars.cash scalars.guarantee ≡ true) }
-    ensures { (rows : Rows) → applied_at result rows ≡ paid_by (first_of (pay_causes (book_of scalars rows))) (book_of scalars rows) }
+    ensures { (rows : Rows) → applied_at (done_by scalars result) rows ≡ paid_by (first_of (pay_causes (book_of scalars rows))) (book_of scalars rows) }
 {
-    let refusal = pay_refusal(scalars);
-    if refusal != 0 {
-        return done::answered(refusal, scalars);
-    }
+    pay_refusal(scalars)?;
     let nets = scalars.nets;
     let cash = scalars.cash;
     if falls_short(nets, cash) {
-        return done::answered(99, not_made(scalars));
+        return Ok(done::answered(99, not_made(scalars)));
     }
-    done::answered(0, paid(scalars))
+    Ok(done::answered(0, paid(scalars)))
 }

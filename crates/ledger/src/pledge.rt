@@ -1,19 +1,21 @@
 // 6 Pledge: units arrive, and count from the next close.
 ghost use Rattle.std.specs.Prelude.{◌≡◌, ℕ, ◌+◌, ◌<◌, ◌≤◌, true, List, length, slice_set};
 ghost use Rattle.money.specs.Limits.{cash_limit, unit_limit};
-ghost use Rattle.money.specs.Causes.{first_of, number_of};
+ghost use Rattle.money.specs.Causes.{first_of, refusal_of};
 ghost use Rattle.money.specs.Collateral.{cash_kind};
 ghost use Rattle.rules.specs.Fit.{cash_fit, securities_fit};
 ghost use Rattle.rules.specs.Pledge.{pledge_causes, pledged, arrived, cash_arrived};
+ghost use Rattle.scalars.specs.Scalars.{done_by};
 ghost use Rattle.ledger.specs.Flat.{security_in, securities_of, postings_of, vault_of, rows_of, book_of, applied_by, applied_at, held_length};
 
 use crate::held;
 use money::limits::{CASH_KIND, UNIT_LIMIT};
+use money::refusal::Refusal;
 use money::units::Fen;
 use rules::book::Guarantee;
+use scalars::done;
 use scalars::done::Done;
 use scalars::state::Scalars;
-use scalars::{done, standing};
 
 // The units of a security, effective and arriving together.
 #[tactic(auto, using(crate::proofs::HeldFit::row_fits))]
@@ -25,33 +27,33 @@ fn units_of(held: &[u64], guarantee: Guarantee, kind: u8) -> u64
     security.effective + security.arriving
 }
 
-#[tactic(auto, using(crate::proofs::Column::column, crate::proofs::HeldFit::row_fits), unfolding(rules::specs::Pledge::pledge_causes, money::specs::Causes::first_of))]
-fn pledge_refusal(scalars: Scalars, held: &[u64], kind: u8, units: u64) -> u8
+#[tactic(auto, unfolding(rules::specs::Pledge::pledge_causes, money::specs::Causes::first_of))]
+fn pledge_refusal(scalars: Scalars, held: &[u64], kind: u8, units: u64) -> Result<(), Refusal>
     requires { (length held.now ≡ held_length) × (securities_fit (vault_of scalars.guarantee (securities_of held.now)) ≡ true) }
     ensures { (kinds amounts : List ℕ) →
-        result ≡ number_of (first_of (pledge_causes (book_of scalars (rows_of held.now kinds amounts)) kind units)) }
+        refusal_of result ≡ first_of (pledge_causes (book_of scalars (rows_of held.now kinds amounts)) kind units) }
 {
     if kind > CASH_KIND {
-        return 3;
+        return Err(Refusal::UnknownKind);
     }
     let standing = scalars.standing;
-    if !standing::is_trading(standing) {
-        return 4;
+    if !standing.is_trading() {
+        return Err(Refusal::WrongPhase);
     }
     if units == 0 {
-        return 7;
+        return Err(Refusal::BadCount);
     }
     if kind == CASH_KIND {
         if scalars.cash.own.0 < units {
-            return 13;
+            return Err(Refusal::NotEnough);
         }
-        return 0;
+        return Ok(());
     }
     let guarantee = scalars.guarantee;
     if UNIT_LIMIT - units_of(held, guarantee, kind) < units {
-        return 14;
+        return Err(Refusal::PastLimit);
     }
-    0
+    Ok(())
 }
 
 fn put_arrived(held: &mut [u64], kind: u8, units: u64)
@@ -79,28 +81,25 @@ fn cash_arrived(guarantee: Guarantee, amount: Fen) -> Guarantee
     }
 }
 
-#[tactic(auto, using(crate::proofs::Refusing::turned_down, crate::proofs::Refusing::done), unfolding(rules::specs::Step::event_causes, rules::specs::Pledge::pledged, money::specs::Causes::first_of))]
-pub fn pledge(scalars: Scalars, held: &mut [u64], kind: u8, units: u64) -> Done
+#[tactic(auto, using(crate::proofs::Refusing::turned_down, crate::proofs::Refusing::carried_out), unfolding(rules::specs::Step::event_causes, rules::specs::Pledge::pledged, money::specs::Causes::first_of))]
+pub fn pledge(scalars: Scalars, held: &mut [u64], kind: u8, units: u64) -> Result<Done, Refusal>
     requires { (length held.old ≡ held_length)
         × (securities_fit (vault_of scalars.guarantee (securities_of held.old)) ≡ true)
         × (cash_fit scalars.cash scalars.guarantee ≡ true) }
     ensures { (kinds amounts : List ℕ) →
         let book = book_of scalars (rows_of held.old kinds amounts) in
         let cause = first_of (pledge_causes book kind units) in
-        applied_at result (rows_of held.new kinds amounts) ≡ applied_by cause book (pledged book kind units) }
+        applied_at (done_by scalars result) (rows_of held.new kinds amounts) ≡ applied_by cause book (pledged book kind units) }
 {
-    let refusal = pledge_refusal(scalars, &*held, kind, units);
-    if refusal != 0 {
-        return done::answered(refusal, scalars);
-    }
+    pledge_refusal(scalars, &*held, kind, units)?;
     if kind == CASH_KIND {
         let own = scalars.cash.own.0 - units;
         let guarantee = scalars.guarantee;
         let mut next = scalars;
         next.cash.own.0 = own;
         next.guarantee = cash_arrived(guarantee, Fen(units));
-        return done::answered(0, next);
+        return Ok(done::answered(0, next));
     }
     put_arrived(held, kind, units);
-    done::answered(0, scalars)
+    Ok(done::answered(0, scalars))
 }

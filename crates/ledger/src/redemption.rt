@@ -26,8 +26,7 @@ pub fn redeemed_for(table: &[u64], place: usize, count: Sheets, price: Ticks, pa
         return Fen(0);
     }
     let days = payment - flat::first_at(table, place);
-    let answer = money::amounts::redemption(count, price, days);
-    answer.fen
+    money::amounts::redemption(count, price, days).unwrap()
 }
 
 pub fn maturing_at(table: &[u64], place: usize, today: u32) -> Sheets

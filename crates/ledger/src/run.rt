@@ -7,7 +7,7 @@ ghost use Rattle.rules.specs.Listing.{line_numbers, line_of, run_done};
 ghost use Rattle.ledger.specs.Flat.{FitsWhole, rows_of, book_of, trades_of};
 ghost use Rattle.ledger.specs.Figures.{figures_at};
 
-use crate::figures::{Figures, KnownFigures, KnownValue};
+use crate::figures::{Figures, KnownFigures};
 use crate::{dispatch, figures, line};
 use rules::limits::{EVENT_BYTES, LINE_NUMBERS};
 use scalars::state::Scalars;
@@ -57,7 +57,7 @@ fn run_event(
         table,
         KnownFigures {
             outstanding,
-            value: KnownValue::Counted(value),
+            value: Some(value),
         },
         entry,
     );

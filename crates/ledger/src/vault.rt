@@ -108,8 +108,7 @@ pub fn worth(kind: u8, effective: u64, frozen: u64, rate: u64) -> Sheets
     requires { (kind ≤ cash_kind) × (frozen ≤ effective) × (effective ≤ unit_limit_of kind) × (rate_of kind rate ≤ rate_limit) }
     ensures { result ≡ kind_value kind effective frozen rate }
 {
-    let worth = money::collateral::kind_worth(kind, effective, frozen, rate);
-    worth.sheets
+    money::collateral::kind_worth(kind, effective, frozen, rate).unwrap()
 }
 
 // V: the value of the 32 securities, and of the guarantee cash.

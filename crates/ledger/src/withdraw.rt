@@ -1,17 +1,19 @@
 // 8 Withdraw: puts an application down for the evening.
 ghost use Rattle.std.specs.Prelude.{◌≡◌, ◌+◌, ◌≤◌, nat_lt};
-ghost use Rattle.money.specs.Causes.{first_of, number_of};
+ghost use Rattle.money.specs.Causes.{first_of, refusal_of};
 ghost use Rattle.money.specs.Collateral.{cash_kind};
 ghost use Rattle.rules.specs.Vault.{effective_of, frozen_of};
 ghost use Rattle.rules.specs.Withdraw.{applied, withdraw_causes, withdrawn};
+ghost use Rattle.scalars.specs.Scalars.{done_by};
 ghost use Rattle.ledger.specs.Flat.{RowsFit, rows_of, book_of, applied_by, applied_at};
 
 use crate::vault;
 use money::limits::CASH_KIND;
+use money::refusal::Refusal;
 use rules::limits::APPLICATION_LIMIT;
+use scalars::done;
 use scalars::done::Done;
 use scalars::state::Scalars;
-use scalars::{done, standing};
 
 // Whether the units, with those frozen and applied for, are above the effective. The units are tested first: any number may be applied for,
 // and the sum of the three is then below 2^64.
@@ -30,7 +32,7 @@ fn lacks(scalars: Scalars, held: &[u64], kinds: &[u8], units: &[u64], kind: u8, 
     effective < count + frozen + vault::applied_of(kinds, units, scalars.applications, kind)
 }
 
-#[tactic(auto, using(crate::proofs::Column::column), unfolding(rules::specs::Withdraw::withdraw_causes, money::specs::Causes::first_of))]
+#[tactic(auto, unfolding(rules::specs::Withdraw::withdraw_causes, money::specs::Causes::first_of))]
 fn withdraw_refusal(
     scalars: Scalars,
     held: &[u64],
@@ -38,35 +40,35 @@ fn withdraw_refusal(
     units: &[u64],
     kind: u8,
     count: u64,
-) -> u8
+) -> Result<(), Refusal>
     requires { RowsFit scalars held.now kinds.now units.now }
     ensures { let book = book_of scalars (rows_of held.now kinds.now units.now) in
         let cause = first_of (withdraw_causes book kind count) in
-        result ≡ number_of cause }
+        refusal_of result ≡ cause }
 {
     if kind > CASH_KIND {
-        return 3;
+        return Err(Refusal::UnknownKind);
     }
     let standing = scalars.standing;
-    if !standing::is_trading(standing) {
-        return 4;
+    if !standing.is_trading() {
+        return Err(Refusal::WrongPhase);
     }
-    if standing::is_terminated(standing) {
-        return 5;
+    if standing.is_terminated() {
+        return Err(Refusal::PermissionEnded);
     }
     if count == 0 {
-        return 7;
+        return Err(Refusal::BadCount);
     }
     if lacks(scalars, held, kinds, units, kind, count) {
-        return 13;
+        return Err(Refusal::NotEnough);
     }
     if scalars.applications >= APPLICATION_LIMIT {
-        return 17;
+        return Err(Refusal::ListFull);
     }
-    0
+    Ok(())
 }
 
-#[tactic(auto, using(crate::proofs::Refusing::turned_down, crate::proofs::Refusing::done), unfolding(rules::specs::Step::event_causes, rules::specs::Withdraw::withdraw_causes, rules::specs::Withdraw::withdrawn, money::specs::Causes::first_of))]
+#[tactic(auto, using(crate::proofs::Refusing::turned_down, crate::proofs::Refusing::carried_out), unfolding(rules::specs::Step::event_causes, rules::specs::Withdraw::withdraw_causes, rules::specs::Withdraw::withdrawn, money::specs::Causes::first_of))]
 pub fn withdraw(
     scalars: Scalars,
     held: &[u64],
@@ -74,20 +76,17 @@ pub fn withdraw(
     units: &mut [u64],
     kind: u8,
     count: u64,
-) -> Done
+) -> Result<Done, Refusal>
     requires { RowsFit scalars held.now kinds.old units.old }
     ensures { let book = book_of scalars (rows_of held.now kinds.old units.old) in
-        applied_at result (rows_of held.now kinds.new units.new)
+        applied_at (done_by scalars result) (rows_of held.now kinds.new units.new)
         ≡ applied_by (first_of (withdraw_causes book kind count)) book (withdrawn book kind count) }
 {
-    let refusal = withdraw_refusal(scalars, held, &*kinds, &*units, kind, count);
-    if refusal != 0 {
-        return done::answered(refusal, scalars);
-    }
+    withdraw_refusal(scalars, held, &*kinds, &*units, kind, count)?;
     let at = scalars.applications;
     kinds[at] = kind;
     units[at] = count;
     let mut next = scalars;
     next.applications = at + 1;
-    done::answered(0, next)
+    Ok(done::answered(0, next))
 }

@@ -7,7 +7,8 @@ use mathlib.Core.Option.{Option, none, some}
 use Prim.Native.Nat.{ℕ}
 use native.Mathlib.Omega.{arith}
 use lib.Dec.{eqb}
-use Rattle.money.specs.Causes.{Cause, ◌⇒◌, first_of}
+use Rattle.money.specs.declared.refusal.Refusal.TheVariants.{NotFit, Undecodable, UnknownKind, WrongPhase, PermissionEnded, TradesSuspended, BadCount, BadPrice, BadDueDay, BadContract, TableFull, AboveHeadroom, NotEnough, PastLimit, BelowOutstanding, NoTradingDay, ListFull, BadLength, NoSuchDate, NotPosted}
+use Rattle.money.specs.Causes.{Cause, ◌⇒◌, Refusal, first_of, refusal_number}
 
 -- the cause in front applies
 pub hit : {test : Bool} (n : ℕ) (cs : List Cause) → test ≡ true → first_of ((test ⇒ n) ∷ cs) ≡ some n
@@ -37,3 +38,26 @@ failed (c ∷ cs) e n = go c.applies refl (λ e. failed cs e n) e
     go : (b : Bool) → c.applies ≡ b → (first_of cs ≡ none → Failed n cs) → cond b (some c.number) (first_of cs) ≡ none → (eqb c.number n ≡ true → c.applies ≡ false) × Failed n cs
     go true m f e = let z : ◌≡◌ {A = ℕ} 0 1 = cc in absurd (omega arith)
     go false m f e = ((λ _. m), f e)
+
+-- 0 is no refusal's number
+pub not-0 : (refusal : Refusal) → refusal_number refusal ≡ 0 → ⊥
+not-0 NotFit e = omega arith
+not-0 Undecodable e = omega arith
+not-0 UnknownKind e = omega arith
+not-0 WrongPhase e = omega arith
+not-0 PermissionEnded e = omega arith
+not-0 TradesSuspended e = omega arith
+not-0 BadCount e = omega arith
+not-0 BadPrice e = omega arith
+not-0 BadDueDay e = omega arith
+not-0 BadContract e = omega arith
+not-0 TableFull e = omega arith
+not-0 AboveHeadroom e = omega arith
+not-0 NotEnough e = omega arith
+not-0 PastLimit e = omega arith
+not-0 BelowOutstanding e = omega arith
+not-0 NoTradingDay e = omega arith
+not-0 ListFull e = omega arith
+not-0 BadLength e = omega arith
+not-0 NoSuchDate e = omega arith
+not-0 NotPosted e = omega arith

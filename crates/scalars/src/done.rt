@@ -1,5 +1,6 @@
 // What an event leaves beside the rows and the table. Answers are made here only.
 ghost use Rattle.std.specs.Prelude.{◌≡◌};
+ghost use Rattle.money.specs.Causes.{refusal_number};
 ghost use Rattle.rules.specs.Book.{answer};
 ghost use Rattle.scalars.specs.Scalars.{done_by};
 
@@ -35,11 +36,18 @@ pub fn answered(number: u8, scalars: Scalars) -> Done
     }
 }
 
-// What an event did, or its refusal beside the scalars as they were.
+// A refusal's number, beside the scalars as they were.
+pub fn refused(refusal: Refusal, scalars: Scalars) -> Done
+    ensures { result ≡ record { answer = answer (refusal_number refusal); scalars = scalars } }
+{
+    answered(refusal.into(), scalars)
+}
+
+// What an event did, or its refusal.
 pub fn done_by(scalars: Scalars, outcome: Result<Done, Refusal>) -> Done
     ensures { result ≡ done_by scalars outcome }
 {
-    outcome.unwrap_or_else(|refusal| answered(refusal.into(), scalars))
+    outcome.unwrap_or_else(|refusal| refused(refusal, scalars))
 }
 
 // An accepted Close carries the sheets matured and the applications done and dropped.

@@ -2,6 +2,7 @@ use Rattle.std.specs.Prelude.{◌≡◌, false, not, pos, ◌+ℤ◌, ◌-ℤ◌
 use mathlib.Core.Path.{ap, ◌∙◌}
 use borrow.Author.Tests.{le-leb}
 use Rattle.money.specs.declared.units.Fen.{Fen}
+use Rattle.money.specs.declared.refusal.Refusal.TheVariants.{WrongPhase, PastLimit}
 use Rattle.money.specs.Units.{signed_fen}
 use Rattle.rules.specs.Limits.{net_limit}
 use Rattle.rules.specs.Unpaid.{today_plus, joined, passes}
@@ -21,9 +22,8 @@ use Rattle.ledger.proofs.close.close.Goals as goal
 pub returns-then-not-may_close : goal.returns-then-not-may_close
 returns-then-not-may_close c =
     let book : Book = book_of c.args.scalars (rows_of c.args.held.now c.args.kinds.now c.args.units.now) in
-    close-refused c.args.calendar.now c.args.scalars (rows_of c.args.held.now c.args.kinds.now c.args.units.now) (left_trades c.args.calendar.now book (trades_of c.args.table.now)) (trades_of c.args.table.now) 4 _
+    close-refused c.args.calendar.now c.args.scalars (rows_of c.args.held.now c.args.kinds.now c.args.units.now) (left_trades c.args.calendar.now book (trades_of c.args.table.now)) (trades_of c.args.table.now) WrongPhase
     (not-now c.args.calendar.now book (trades_of c.args.table.now) (denied c.may_close.ensures (ap not c.if-not-may_close.true)))
-    c.answered.ensures
 
 pub today_at_close-at_close-requires : goal.today_at_close-at_close-requires
 today_at_close-at_close-requires c =
@@ -43,9 +43,8 @@ returns-then-not-today_fit c =
     ∙ ap (λ (amount : Fen). record { today = signed_fen (nets.today.0 +ℤ pos amount.0 -ℤ pos c.plan_of-plan.result.started.0); cleared = nets.cleared }) plan.amount
     ∙ ap (λ (amount : Fen). record { today = signed_fen (net_with_matured c.args.calendar.now book (trades_of c.args.table.now) -ℤ pos amount.0); cleared = nets.cleared }) plan.started in
     let today-asked : c.today_fit.result ≡ net_fit (net_at_close c.args.calendar.now book (trades_of c.args.table.now)) = c.today_fit.ensures ∙ ap (λ (nets : Nets). net_fit nets.today.0) net-at-close in
-    close-refused c.args.calendar.now c.args.scalars (rows_of c.args.held.now c.args.kinds.now c.args.units.now) (left_trades c.args.calendar.now book (trades_of c.args.table.now)) (trades_of c.args.table.now) 14 _
+    close-refused c.args.calendar.now c.args.scalars (rows_of c.args.held.now c.args.kinds.now c.args.units.now) (left_trades c.args.calendar.now book (trades_of c.args.table.now)) (trades_of c.args.table.now) PastLimit
     (today-outside c.args.calendar.now book (trades_of c.args.table.now) may-go-on (refuted today-asked (ap not c.if-not-today_fit.true)))
-    c.answered-then-not-today_fit.ensures
 
 pub joined-cleared-requires : goal.joined-cleared-requires
 joined-cleared-requires c =
@@ -72,18 +71,16 @@ returns-then-not-cleared_fit c =
     let all-joined : c.joined-cleared.result ≡ record { today = signed_fen (pos 0); cleared = signed_fen (cleared_at_close c.args.calendar.now book (trades_of c.args.table.now)) } =
     c.joined-cleared.ensures ∙ ap (λ (nets : Nets). record { today = signed_fen (pos 0); cleared = signed_fen (nets.cleared.0 +ℤ nets.today.0) }) net-at-close in
     let cleared-asked : c.cleared_fit.result ≡ net_fit (cleared_at_close c.args.calendar.now book (trades_of c.args.table.now)) = c.cleared_fit.ensures ∙ ap (λ (nets : Nets). net_fit nets.cleared.0) all-joined in
-    close-refused c.args.calendar.now c.args.scalars (rows_of c.args.held.now c.args.kinds.now c.args.units.now) (left_trades c.args.calendar.now book (trades_of c.args.table.now)) (trades_of c.args.table.now) 14 _
+    close-refused c.args.calendar.now c.args.scalars (rows_of c.args.held.now c.args.kinds.now c.args.units.now) (left_trades c.args.calendar.now book (trades_of c.args.table.now)) (trades_of c.args.table.now) PastLimit
     (cleared-outside c.args.calendar.now book (trades_of c.args.table.now) may-go-on (refuted cleared-asked (ap not c.if-not-cleared_fit.true)))
-    c.answered-then-not-cleared_fit.ensures
 
 pub returns-then-passes : goal.returns-then-passes
 returns-then-passes c =
     let book : Book = book_of c.args.scalars (rows_of c.args.held.now c.args.kinds.now c.args.units.now) in
     let may-go-on : not (may_close c.args.scalars.standing) ≡ false = denied-not c.may_close.ensures (ap not c.if-not-may_close.false) in
     let unpaid-asked : c.passes.result ≡ passes (matured_amount c.args.calendar.now book (trades_of c.args.table.now)) c.args.scalars.sums.unpaid = c.passes.ensures ∙ ap (λ (amount : Fen). passes amount.0 c.args.scalars.sums.unpaid) c.plan_of-plan.ensures.0.amount in
-    close-refused c.args.calendar.now c.args.scalars (rows_of c.args.held.now c.args.kinds.now c.args.units.now) (left_trades c.args.calendar.now book (trades_of c.args.table.now)) (trades_of c.args.table.now) 14 _
+    close-refused c.args.calendar.now c.args.scalars (rows_of c.args.held.now c.args.kinds.now c.args.units.now) (left_trades c.args.calendar.now book (trades_of c.args.table.now)) (trades_of c.args.table.now) PastLimit
     (unpaid-past c.args.calendar.now book (trades_of c.args.table.now) may-go-on (asked unpaid-asked c.if-passes.true))
-    c.answered-then-passes.ensures
 
 pub closed-requires : goal.closed-requires
 closed-requires c =

@@ -1,11 +1,9 @@
-use mathlib.Core.Path.{ap, ◌∙◌}
-use Rattle.std.specs.Prelude.{eqb}
-use Rattle.money.specs.declared.days.Found.{Found}
+use mathlib.Core.Path.{◌∙◌}
+use Rattle.money.proofs.Answers.{day_found}
 use Rattle.rules.specs.Days.{followed}
-use Rattle.ledger.proofs.DayLaws.{done-where-found}
+use Rattle.ledger.proofs.DayLaws.{not-missing}
 use Rattle.ledger.proofs.days.has_next.Goals as goal
 
 pub returns : goal.returns
 unfolding followed
-returns c =
-    ap (λ (f : Found). eqb f.number 0) c.next_after.ensures ∙ done-where-found _ _ c.requires
+returns c = c.is_ok.ensures.value ∙ not-missing _ _ (day_found _ _ _ c.requires c.next_after.ensures)

@@ -1,19 +1,12 @@
-use mathlib.Core.Path.{sym, ap, ◌∙◌}
-use mathlib.Core.Option.{some}
-use Rattle.money.specs.declared.days.Found.{Found}
-use Rattle.money.proofs.Answers.{found-at-0}
+use Rattle.std.specs.Prelude.{Ok}
+use mathlib.Core.Path.{ap, ◌∙◌}
+use Rattle.money.proofs.Answers.{day_found}
 use Rattle.rules.specs.Days.{followed}
 use Rattle.ledger.proofs.DayLaws.{none-followed}
 use Rattle.ledger.proofs.days.matures.Goals as goal
 
--- number is not 0: there is no such day
-pub returns-then-found-ne0 : goal.returns-then-found-ne0
-returns-then-found-ne0 c =
-    none-followed _ _ c.requires (λ z. c.if-found-ne0.true (ap (λ (f : Found). f.number) c.at_or_after-found.ensures ∙ z))
+pub returns-in_default : goal.returns-in_default
+returns-in_default c = none-followed _ _ _ _ (day_found _ _ _ c.requires c.at_or_after.ensures) c.in_default.is
 
--- number 0: the day found is looked at
 pub returns : goal.returns
-returns c =
-    let answered = c.at_or_after-found.ensures in
-    let found = found-at-0 _ _ c.requires (sym (ap (λ (f : Found). f.number) answered) ∙ c.if-found-ne0.false) in
-    c.has_next.ensures ∙ ap (followed _) (sym (found ∙ ap (λ (f : Found). some f.day) (sym answered)))
+returns c = c.has_next.ensures ∙ ap (followed c.args.calendar.now) (day_found _ _ (Ok c.in-Ok.day) c.requires c.in-Ok.ensures)

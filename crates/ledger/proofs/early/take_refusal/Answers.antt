@@ -54,4 +54,4 @@ returns c rows =
     let has = not-short-of _ _ _ _ kept.room c.requires.named.stands _ _ c.sheets_at-left.ensures c.requires.below c.if-left-count.false in
     let net = rw (c.early_plan-plan.ensures rows) at c.over_plus.ensures in
     let unpaid = rw (c.early_plan-plan.ensures rows) at c.passes.ensures in
-    passes 13 _ _ has (passes 14 _ _ (neither-holds (asked-not net c.if-over_plus.false) (asked-not unpaid c.if-passes.false)) ends)
+    passes 13 _ has (passes 14 _ (neither-holds (asked-not net c.if-over_plus.false) (asked-not unpaid c.if-passes.false)) ends)

@@ -4,10 +4,6 @@ use Rattle.ledger.proofs.Column.{column}
 use Rattle.ledger.proofs.FitFacts.{fit-net}
 use Rattle.ledger.proofs.initial.sheet_refusal.Goals as goal
 
-pub returns-then-lacks_headroom : goal.returns-then-lacks_headroom
-returns-then-lacks_headroom c kinds units =
-    let short = c.lacks_headroom.ensures kinds units in search column depth 20
-
 pub over_less-requires : goal.over_less-requires
 unfolding principal
 over_less-requires c =

@@ -1,24 +1,22 @@
 use mathlib.Core.Path.{refl, sym, ◌∙◌}
-use borrow.Author.Tests.{not-false}
-use Rattle.ledger.proofs.Fitting.{refuted, upheld}
 use Rattle.ledger.proofs.LentLaws.{step-parts, fit-in, refused-step, by-step}
 use Rattle.ledger.proofs.WholeLaws.{refused-keeps-all}
-use mathlib.Core.Path.{ap}
-use Rattle.std.specs.Prelude.{not}
 use Rattle.ledger.proofs.lent.apply.Goals as goal
 
-pub returns-then-not-fits : goal.returns-then-not-fits
-returns-then-not-fits c =
-    rw c.answered.ensures (sym (refused-step _ _ (refuted c.fitness_in-tested.ensures.0 (ap not c.if-not-fits.true)) _), λ z. refl)
+pub returns-in_default : goal.returns-in_default
+returns-in_default c =
+    rw c.refused.ensures (sym (refused-step _ _ (rw c.in_default.is at c.fitness_in-fitness.ensures) _), λ z. refl)
 
 pub entry_on-requires : goal.entry_on-requires
 entry_on-requires c =
-    let found = fit-in _ _ (upheld c.fitness_in-tested.ensures.0 (ap not c.if-not-fits.false)) in
-    record { book = record { held-long = found.long.held; kinds-long = found.long.kinds; units-long = found.long.units; few = found.few; fits = found.fits }; sheets = c.fitness_in-tested.ensures.1 (not-false _ (ap not c.if-not-fits.false)); value = tt }
+    let fitness = rw c.in-Some.is at c.fitness_in-fitness.ensures in
+    let found = fit-in _ _ fitness.0 in
+    record { book = record { held-long = found.long.held; kinds-long = found.long.kinds; units-long = found.long.units; few = found.few; fits = found.fits }; sheets = fitness.1; value = tt }
 
 pub returns : goal.returns
 returns c =
-    let found = fit-in _ _ (upheld c.fitness_in-tested.ensures.0 (ap not c.if-not-fits.false)) in
+    let fitness = rw c.in-Some.is at c.fitness_in-fitness.ensures in
+    let found = fit-in _ _ fitness.0 in
     let done = c.entry_on.ensures in
     let left = step-parts _ _ _ done.0 done.1 in (
       left ∙ sym (by-step _ _ found.whole _),

@@ -4,30 +4,26 @@ use Rattle.rules.proofs.FitParts.{fit_parts}
 use Rattle.ledger.proofs.StepLaws.{not-unfit}
 use Rattle.ledger.proofs.CoverLaws.{fit-cover}
 use Rattle.ledger.proofs.FigureLaws.{counted-from}
-use Rattle.ledger.proofs.Fitting.{refuted, upheld}
 use Rattle.ledger.proofs.LentLaws.{fit-in, refused-cover, by-cover}
-use mathlib.Core.Path.{ap}
-use Rattle.std.specs.Prelude.{not}
 use Rattle.ledger.proofs.lent.cover.Goals as goal
 
-pub returns-then-not-fits : goal.returns-then-not-fits
-returns-then-not-fits c =
-    c.cover_refused.ensures ∙ sym (refused-cover _ _ (refuted c.fitness_in-tested.ensures.0 (ap not c.if-not-fits.true)))
+pub returns-in_default : goal.returns-in_default
+returns-in_default c = c.cover_refused.ensures ∙ sym (refused-cover _ _ (rw c.in_default.is at c.fitness_in.ensures))
 
 pub figures_of-figures-requires : goal.figures_of-figures-requires
 figures_of-figures-requires c =
-    let found = fit-in _ _ (upheld c.fitness_in-tested.ensures.0 (ap not c.if-not-fits.false)) in
+    let found = fit-in _ _ c.in-Some.ensures.0 in
     record { kinds = _; units = _; held-long = found.long.held; few = found.few; fits = found.fits }
 
 pub cover_from-requires : goal.cover_from-requires
 cover_from-requires c =
-    let found = fit-in _ _ (upheld c.fitness_in-tested.ensures.0 (ap not c.if-not-fits.false)) in
+    let found = fit-in _ _ c.in-Some.ensures.0 in
     let size = (fit_parts _ _ _ found.fits).size in
     (size.within, rw c.figures_of-figures.ensures (omega (arith, size.within, size.covers)))
 
 pub returns : goal.returns
 returns c =
-    let found = fit-in _ _ (upheld c.fitness_in-tested.ensures.0 (ap not c.if-not-fits.false)) in
+    let found = fit-in _ _ c.in-Some.ensures.0 in
     c.cover_from.ensures
     ∙ counted-from _ _ _ c.figures_of-figures.ensures
     ∙ sym (by-cover _ _ found.whole ∙ fit-cover _ _ _ (not-unfit _ _ _ found.fits found.few))

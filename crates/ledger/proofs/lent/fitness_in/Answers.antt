@@ -1,20 +1,15 @@
-use mathlib.Core.Path.{sym, ◌∙◌}
-use mathlib.Core.Bool.{false≢true}
-use Rattle.std.specs.Prelude.{◌≤◌, length}
+use Rattle.std.specs.Prelude.{◌≤◌, not, length}
+use mathlib.Core.Path.{sym, ap, ◌∙◌}
 use borrow.Author.Tests.{ltb-true, ltb-false}
 use Rattle.ledger.proofs.Fitting.{refuted, upheld}
 use Rattle.ledger.proofs.LentLaws.{lengths, not-whole, too_long, by-fitness}
-use mathlib.Core.Path.{ap}
-use Rattle.std.specs.Prelude.{not}
 use Rattle.ledger.proofs.lent.fitness_in.Goals as goal
 
 pub returns-then-not-is_whole : goal.returns-then-not-is_whole
-returns-then-not-is_whole c =
-    rw c.not_fit.ensures (sym (not-whole _ _ (refuted c.is_whole.ensures (ap not c.if-not-is_whole.true))), λ z. absurd (false≢true z))
+returns-then-not-is_whole c = not-whole _ _ (refuted c.is_whole.ensures (ap not c.if-not-is_whole.true))
 
 pub returns-then-is_too_long : goal.returns-then-is_too_long
-returns-then-is_too_long c =
-    rw c.not_fit-then-is_too_long.ensures (sym (too_long _ _ (ltb-true _ _ (sym c.is_too_long.ensures ∙ c.if-is_too_long.true))), λ z. absurd (false≢true z))
+returns-then-is_too_long c = too_long _ _ (ltb-true _ _ (sym c.is_too_long.ensures ∙ c.if-is_too_long.true))
 
 pub fitness_of-requires : goal.fitness_of-requires
 fitness_of-requires c =
@@ -26,4 +21,4 @@ pub returns : goal.returns
 returns c =
     let few : length c.args.calendar.now ≤ 1200 = ltb-false _ _ (sym c.is_too_long.ensures ∙ c.if-is_too_long.false) in
     let whole = upheld c.is_whole.ensures (ap not c.if-not-is_whole.false) in
-    (c.fitness_of.ensures.0 ∙ by-fitness _ _ whole few, c.fitness_of.ensures.1)
+    rw (← by-fitness _ _ whole few) c.fitness_of.ensures

@@ -28,7 +28,7 @@ returns c = (
     none = λ e. absurd (false≢true (sym e));
     size = refl;
     postings = refl;
-    value = λ e. c.value_at_start.ensures;
+    value = λ e. c.value_known.ensures;
   }),
   refl,
 )

@@ -1,5 +1,5 @@
 use Rattle.std.specs.Prelude.{◌≡◌, pos, ◌+ℤ◌}
-use mathlib.Core.Path.{sym, ap, ◌∙◌}
+use mathlib.Core.Path.{refl, sym, ap, ◌∙◌}
 use borrow.Author.Tests.{not-true, not-false, le-leb}
 use Rattle.money.specs.declared.units.Fen.{Fen}
 use Rattle.money.specs.Units.{signed_fen}
@@ -11,7 +11,7 @@ use Rattle.scalars.specs.Scalars.{with_unpaid, unless_past}
 use Rattle.scalars.proofs.UnpaidLaws.{not-past}
 use Rattle.ledger.specs.Types.{Book, Nets, Unpaid}
 use Rattle.ledger.specs.Flat.{Rows, book_of, trades_of}
-use Rattle.ledger.proofs.Refusing.{carried-out}
+use Rattle.ledger.proofs.Refusing.{carried_out}
 use Rattle.ledger.proofs.FitFacts.{fit-in-use, fit-keeps}
 use Rattle.ledger.proofs.RedemptionLaws.{all-due}
 use Rattle.ledger.proofs.OpenLaws.{terminated-book, net-past, unpaid-past, none-within-limits}
@@ -31,7 +31,7 @@ returns-then-not-cleared_fit c rows =
     ∙ ap (λ (nets : Nets). net_fit nets.cleared.0) c.cleared_plus-with_fallbacks.ensures
     ∙ ap (λ (amount : Fen). net_fit (c.args.scalars.nets.cleared.0 +ℤ pos amount.0)) (c.fallback_sum-amount.ensures.0 rows)) in
     let e = net-past c.args.calendar.now (with_rows rows) (trades_of c.args.table.now) c.requires.closed c.requires.opening.follows c.requires.ended (net-tested rows ∙ not-true _ (ap not c.if-not-cleared_fit.true)) in
-    (rw (c.answered.ensures, e), rw e)
+    (rw e refl, rw e refl, sym e)
 
 pub returns-then-passes : goal.returns-then-passes
 returns-then-passes c rows =
@@ -39,7 +39,7 @@ returns-then-passes c rows =
     let unpaid-tested : (rows : Rows)
     → (passes (fallback_sum c.args.calendar.now (with_rows rows) (trades_of c.args.table.now)) c.args.scalars.sums.unpaid ≡ c.passes.result) = λ rows. sym (c.passes.ensures ∙ ap (λ (amount : Fen). passes amount.0 c.args.scalars.sums.unpaid) (c.fallback_sum-amount.ensures.0 rows)) in
     let e = unpaid-past c.args.calendar.now (with_rows rows) (trades_of c.args.table.now) c.requires.closed c.requires.opening.follows c.requires.ended (unpaid-tested rows ∙ c.if-passes.true) in
-    (rw (c.answered-then-passes.ensures, e), rw e)
+    (rw e refl, rw e refl, sym e)
 
 pub redeem_due-requires : goal.redeem_due-requires
 redeem_due-requires c =
@@ -66,6 +66,7 @@ returns c rows =
     let cleared = c.cleared_plus-with_fallbacks.ensures ∙ ap (λ (amount : Fen). record { today = nets.today; cleared = signed_fen (nets.cleared.0 +ℤ pos amount.0) }) (c.fallback_sum-amount.ensures.0 rows) in
     let owed = c.cleared_plus.ensures ∙ ap (λ (amount : Fen). unless_past amount.0 unpaid (cleared_plus amount.0 unpaid)) (c.fallback_sum-amount.ensures.0 rows) ∙ not-past unpaid _ _ within in
     let owing = c.with_unpaid-next.ensures ∙ ap (λ (unpaid : Unpaid). with_unpaid unpaid c.args.scalars) owed in (
-      carried-out _ _ rows _ _ e c.answered-2.ensures (terminated-book calendar c.args.scalars c.with_unpaid-next.result rows (trades_of table) c.cleared_plus-with_fallbacks.result c.args.after ended c.requires.opening.opened cleared owing),
+      carried_out _ _ rows _ _ (sym e) c.answered.ensures (terminated-book calendar c.args.scalars c.with_unpaid-next.result rows (trades_of table) c.cleared_plus-with_fallbacks.result c.args.after ended c.requires.opening.opened cleared owing),
       c.redeem_due.ensures ∙ rw (e, ended, fit-in-use calendar (book_of c.args.scalars c.requires.opening.book.rows) table c.requires.opening.book.fits, all-due table c.args.scalars.trades),
+      sym e,
     )

@@ -1,5 +1,5 @@
 use Rattle.std.specs.Prelude.{◌≡◌, true}
-use mathlib.Core.Path.{sym, ap, ◌∙◌}
+use mathlib.Core.Path.{refl, sym, ap, ◌∙◌}
 use borrow.Author.Tests.{not-true, not-false}
 use Rattle.rules.specs.Book.{is_closed}
 use Rattle.rules.specs.Days.{following, followed}
@@ -15,13 +15,13 @@ use Rattle.ledger.proofs.open.turned.Goals as goal
 pub returns-then-not-is_closed : goal.returns-then-not-is_closed
 returns-then-not-is_closed c rows =
     let e = not-closed c.args.calendar.now (book_of c.args.scalars rows) (trades_of c.args.table.now) (sym c.is_closed.ensures ∙ not-true _ (ap not c.if-not-is_closed.true)) in
-    (rw (c.answered.ensures, e), rw e)
+    (rw e refl, rw e refl, sym e)
 
 pub returns-then-not-opens : goal.returns-then-not-opens
 returns-then-not-opens c rows =
     let closed : is_closed c.args.scalars.standing.phase ≡ true = sym c.is_closed.ensures ∙ not-false _ (ap not c.if-not-is_closed.false) in
     let e = no-day-to-open c.args.calendar.now (book_of c.args.scalars rows) (trades_of c.args.table.now) closed (sym c.opens.ensures ∙ not-true _ (ap not c.if-not-opens.true)) in
-    (rw (c.answered-then-not-opens.ensures, e), rw e)
+    (rw e refl, rw e refl, sym e)
 
 pub turns_terminated-requires : goal.turns_terminated-requires
 turns_terminated-requires c =
@@ -44,4 +44,4 @@ returns c rows =
     let follows : (followed c.args.calendar.now (following c.args.calendar.now c.args.scalars.standing.day)) ≡ true = sym c.opens.ensures ∙ not-false _ (ap not c.if-not-opens.false) in
     let stays = sym c.turns_terminated.ensures ∙ c.if-turns_terminated.false in
     let e = none-unless-ended c.args.calendar.now (book_of c.args.scalars rows) (trades_of c.args.table.now) closed follows stays in
-    (rw (c.answered-2.ensures, e, c.opened_standing-after.ensures, stays), rw (e, stays))
+    (rw (c.answered.ensures, e, c.opened_standing-after.ensures, stays) refl, rw (e, stays) refl, sym e)

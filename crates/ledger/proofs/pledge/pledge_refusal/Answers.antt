@@ -9,31 +9,6 @@ use Rattle.ledger.proofs.HeldLaws.{security-at-row}
 use Rattle.ledger.proofs.HeldFit.{row_fits}
 use Rattle.ledger.proofs.pledge.pledge_refusal.Goals as goal
 
-pub returns-then-kind-gt-CASH_KIND : goal.returns-then-kind-gt-CASH_KIND
-unfolding pledge_causes
-returns-then-kind-gt-CASH_KIND c kinds amounts =
-    search column
-
-pub returns-then-not-is_trading : goal.returns-then-not-is_trading
-unfolding pledge_causes
-returns-then-not-is_trading c kinds amounts =
-    search column
-
-pub returns-then-units-eq0 : goal.returns-then-units-eq0
-unfolding pledge_causes
-returns-then-units-eq0 c kinds amounts =
-    search column
-
-pub returns-then-scalars-units : goal.returns-then-scalars-units
-unfolding pledge_causes
-returns-then-scalars-units c kinds amounts =
-    search column depth 20
-
-pub returns-then-kind-eq-CASH_KIND : goal.returns-then-kind-eq-CASH_KIND
-unfolding pledge_causes
-returns-then-kind-eq-CASH_KIND c kinds amounts =
-    search column depth 20
-
 pub returns-then-units_of-units : goal.returns-then-units_of-units
 unfolding pledge_causes
 returns-then-units_of-units c kinds amounts =

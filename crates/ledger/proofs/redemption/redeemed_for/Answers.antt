@@ -1,20 +1,25 @@
-use Rattle.std.specs.Prelude.{◌-◌}
+use Rattle.std.specs.Prelude.{◌≡◌, ◌-◌, Ok, is_ok}
 use mathlib.Core.Path.{sym, ap}
 use native.Mathlib.Omega.{arith}
-use Rattle.money.proofs.Answers.{redemption-within}
-use Rattle.money.proofs.Bounds.{no-sheets}
+use Rattle.money.specs.Money.{redemption}
 use Rattle.money.specs.Units.{fen}
+use Rattle.money.proofs.Answers.{redemption_within}
+use Rattle.money.proofs.Bounds.{no-sheets}
 use Rattle.ledger.proofs.redemption.redeemed_for.Goals as goal
 
 pub returns-then-count-eq0 : goal.returns-then-count-eq0
 returns-then-count-eq0 c =
     ap fen (sym (no-sheets _ _ _ c.if-count-eq0.true))
 
-pub returns : goal.returns
-returns c =
-    let within = redemption-within c.args.count c.args.price (c.args.payment - c.first_at.result) c.requires.has_slot.1 c.requires.has_slot.2 (omega (arith, c.requires.place_bound.1)) in
-    rw (c.redemption-answer.ensures, within, c.first_at.ensures)
-
 pub overflow_sub-days : goal.overflow_sub-days
 overflow_sub-days c =
     omega (arith, c.first_at.ensures, c.requires.place_bound.0)
+
+pub unwrap-requires : goal.unwrap-requires
+unwrap-requires c =
+    ap is_ok (redemption_within _ _ _ _ c.requires.has_slot.1 c.requires.has_slot.2 (omega (arith, c.requires.place_bound.1)) c.redemption.ensures)
+
+pub returns : goal.returns
+returns c =
+    let told : c.redemption.result ≡ Ok (redemption c.args.count c.args.price (c.args.payment - c.first_at.result)) = redemption_within _ _ _ _ c.requires.has_slot.1 c.requires.has_slot.2 (omega (arith, c.requires.place_bound.1)) c.redemption.ensures in
+    rw (← c.first_at.ensures) (cc)
