@@ -1,8 +1,12 @@
 -- Scalars that go out and come back are as they were: first a book's, then what is well-formed.
 -- For the calls on a book in lent numbers. Assumes nothing.
-use Rattle.std.proofs.Common.{◌≡◌, ℕ, zero, suc, ◌≤◌, true, ◌||◌, eqb, sym, refl, arith, eqb-true, leb-true}
+use Rattle.std.proofs.lemmas.Option.{none-some, same_Some}
+use Rattle.std.proofs.Common.{◌≡◌, ℕ, zero, suc, ◌≤◌, Bool, true, false, ◌||◌, eqb, sym, refl, arith, eqb-true, leb-true}
 use Rattle.rules.specs.Book.{Day}
-use Rattle.std.specs.Prelude.{None, Some}
+use Rattle.std.specs.Prelude.{None, Some, Result, Ok, Err, is_err, if◌then◌else◌, ◌==◌}
+use mathlib.Core.Bool.{false≢true}
+use Rattle.money.specs.declared.refusal.Refusal.{Refusal}
+use Rattle.money.specs.Causes.{number_of, refusal_of}
 use Rattle.rules.specs.declared.book.Phase.{Phase}
 use Rattle.rules.specs.declared.book.Phase.TheVariants.{Closed, Trading, Paid}
 use Rattle.rules.specs.declared.book.Status.{Status}
@@ -56,6 +60,20 @@ unfolding scalars_from raw_of
 scalars-back scalars =
     let standing = scalars.standing in
     rw (day-back standing.day, phase-back standing.phase, status-back standing.status, failed-back standing.failed, short_back standing.short) refl
+
+-- what is there if a test holds, and else none: the test by what came out
+pub some_if : {A : Type 0} (test : Bool) (x y : A) → Some x ≡ (if test then Some y else None) → (test ≡ true) × (x ≡ y)
+some_if true x y e = (refl, same_Some x y e)
+some_if false x y e = absurd (none-some x (sym e))
+
+pub none_if : {A : Type 0} (test : Bool) (y : A) → None ≡ (if test then Some y else None) → test ≡ false
+none_if true y e = absurd (none-some y e)
+none_if false y e = refl
+
+-- a number that is not 0 is a refusal's
+pub refused-by-number : {A : Type 0} (ended : Result A Refusal) → (number_of (refusal_of ended) == 0) ≡ false → is_err ended ≡ true
+refused-by-number (Ok x) e = absurd (false≢true (sym e))
+refused-by-number (Err refusal) e = refl
 
 -- ---- what is well-formed: shows what the promises mean, and no proof cites it
 

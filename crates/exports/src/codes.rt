@@ -1,7 +1,6 @@
 // Where a firm stands as codes, and back: no enum crosses to C, so each case is a number, counted from 0.
-ghost use Rattle.std.specs.Prelude.{◌≡◌};
-ghost use Rattle.rules.specs.Days.{day_number};
-ghost use Rattle.exports.specs.Codes.{is_well_formed, day_at, phase_at, status_at, failed_at, short_at, standing_at, dated_number, phase_number, status_number, failed_number, short_number, codes_of};
+ghost use Rattle.std.specs.Prelude.{◌≡◌, nat_le, if◌then◌else◌};
+ghost use Rattle.exports.specs.Codes.{is_dated, is_well_formed, day_at, phase_at, status_at, failed_at, short_at, standing_at, codes_of};
 
 use rules::book::{FailedRun, Phase, ShortRun, Standing, Status};
 
@@ -17,174 +16,95 @@ pub struct Codes {
     pub short: u8,
 }
 
-// Whether each is the code of a case, and a day has its number only where there is one.
-#[tactic(auto, using(std::proofs::Common::refl, std::proofs::Common::rules, std::proofs::Common::ne_eqb), unfolding(crate::specs::Codes::is_well_formed, money::specs::Causes::first_of))]
-pub fn is_well_formed(codes: Codes) -> bool
-    ensures { result ≡ is_well_formed codes }
+// A day has its number only where there is one.
+#[tactic(auto, unfolding(crate::specs::Codes::day_at, rules::specs::Folds::every))]
+fn day_at(dated: u8, day: u32) -> Option<Option<u32>>
+    ensures { result ≡ (if is_dated dated day then Some (day_at dated day) else None) }
 {
-    if codes.phase > 2 {
-        return false;
+    match dated {
+        0 if day == 0 => Some(None),
+        1 => Some(Some(day)),
+        _ => None,
     }
-    if codes.status > 2 {
-        return false;
-    }
-    if codes.failed > 2 {
-        return false;
-    }
-    if codes.short > 3 {
-        return false;
-    }
-    if codes.dated > 1 {
-        return false;
-    }
-    if codes.dated == 1 {
-        return true;
-    }
-    codes.day == 0
 }
 
-#[tactic(auto, using(std::proofs::Common::refl, std::proofs::Common::ne_eqb), unfolding(crate::specs::Codes::day_at, money::specs::Causes::first_of))]
-fn day_at(dated: u8, day: u32) -> Option<u32>
-    ensures { result ≡ day_at dated day }
-{
-    if dated == 1 {
-        return Some(day);
-    }
-    None
-}
-
-#[tactic(auto, using(std::proofs::Common::refl, std::proofs::Common::ne_eqb), unfolding(crate::specs::Codes::phase_at, money::specs::Causes::first_of))]
-fn phase_at(code: u8) -> Phase
-    ensures { result ≡ phase_at code }
+#[tactic(auto, unfolding(crate::specs::Codes::phase_at))]
+fn phase_at(code: u8) -> Option<Phase>
+    ensures { result ≡ (if nat_le code 2 then Some (phase_at code) else None) }
 {
     match code {
-        0 => Phase::Closed,
-        1 => Phase::Trading,
-        _ => Phase::Paid,
+        0 => Some(Phase::Closed),
+        1 => Some(Phase::Trading),
+        2 => Some(Phase::Paid),
+        _ => None,
     }
 }
 
-#[tactic(auto, using(std::proofs::Common::refl, std::proofs::Common::ne_eqb), unfolding(crate::specs::Codes::status_at, money::specs::Causes::first_of))]
-fn status_at(code: u8) -> Status
-    ensures { result ≡ status_at code }
+#[tactic(auto, unfolding(crate::specs::Codes::status_at))]
+fn status_at(code: u8) -> Option<Status>
+    ensures { result ≡ (if nat_le code 2 then Some (status_at code) else None) }
 {
     match code {
-        0 => Status::Normal,
-        1 => Status::Suspended,
-        _ => Status::Terminated,
+        0 => Some(Status::Normal),
+        1 => Some(Status::Suspended),
+        2 => Some(Status::Terminated),
+        _ => None,
     }
 }
 
-#[tactic(auto, using(std::proofs::Common::refl, std::proofs::Common::ne_eqb), unfolding(crate::specs::Codes::failed_at, money::specs::Causes::first_of))]
-fn failed_at(code: u8) -> FailedRun
-    ensures { result ≡ failed_at code }
+#[tactic(auto, unfolding(crate::specs::Codes::failed_at))]
+fn failed_at(code: u8) -> Option<FailedRun>
+    ensures { result ≡ (if nat_le code 2 then Some (failed_at code) else None) }
 {
     match code {
-        0 => FailedRun::NotFailed,
-        1 => FailedRun::FailedOnce,
-        _ => FailedRun::FailedTwice,
+        0 => Some(FailedRun::NotFailed),
+        1 => Some(FailedRun::FailedOnce),
+        2 => Some(FailedRun::FailedTwice),
+        _ => None,
     }
 }
 
-#[tactic(auto, using(std::proofs::Common::refl, std::proofs::Common::ne_eqb), unfolding(crate::specs::Codes::short_at, money::specs::Causes::first_of))]
-fn short_at(code: u8) -> ShortRun
-    ensures { result ≡ short_at code }
+#[tactic(auto, unfolding(crate::specs::Codes::short_at))]
+fn short_at(code: u8) -> Option<ShortRun>
+    ensures { result ≡ (if nat_le code 3 then Some (short_at code) else None) }
 {
     match code {
-        0 => ShortRun::NotShort,
-        1 => ShortRun::ShortOnce,
-        2 => ShortRun::ShortTwice,
-        _ => ShortRun::ShortThrice,
+        0 => Some(ShortRun::NotShort),
+        1 => Some(ShortRun::ShortOnce),
+        2 => Some(ShortRun::ShortTwice),
+        3 => Some(ShortRun::ShortThrice),
+        _ => None,
     }
 }
 
-#[tactic(auto, using(std::proofs::Common::rules))]
-pub fn standing_at(codes: Codes) -> Standing
-    ensures { result ≡ standing_at codes }
+// Where the firm stands, if each is the code of a case.
+#[tactic(auto, unfolding(crate::specs::Codes::is_well_formed, rules::specs::Folds::every))]
+pub fn standing_at(codes: Codes) -> Option<Standing>
+    ensures { result ≡ (if is_well_formed codes then Some (standing_at codes) else None) }
 {
-    Standing {
-        day: day_at(codes.dated, codes.day),
-        phase: phase_at(codes.phase),
-        status: status_at(codes.status),
-        failed: failed_at(codes.failed),
-        short: short_at(codes.short),
-    }
+    let phase = phase_at(codes.phase)?;
+    let status = status_at(codes.status)?;
+    let failed = failed_at(codes.failed)?;
+    let short = short_at(codes.short)?;
+    let day = day_at(codes.dated, codes.day)?;
+    Some(Standing {
+        day,
+        phase,
+        status,
+        failed,
+        short,
+    })
 }
 
-fn dated_number(day: Option<u32>) -> u8
-    ensures { result ≡ dated_number day }
-{
-    match day {
-        None => 0,
-        Some(_) => 1,
-    }
-}
-
-fn day_number(day: Option<u32>) -> u32
-    ensures { result ≡ day_number day }
-{
-    match day {
-        None => 0,
-        Some(number) => number,
-    }
-}
-
-fn phase_number(phase: Phase) -> u8
-    ensures { result ≡ phase_number phase }
-{
-    match phase {
-        Phase::Closed => 0,
-        Phase::Trading => 1,
-        Phase::Paid => 2,
-    }
-}
-
-fn status_number(status: Status) -> u8
-    ensures { result ≡ status_number status }
-{
-    match status {
-        Status::Normal => 0,
-        Status::Suspended => 1,
-        Status::Terminated => 2,
-    }
-}
-
-fn failed_number(failed: FailedRun) -> u8
-    ensures { result ≡ failed_number failed }
-{
-    match failed {
-        FailedRun::NotFailed => 0,
-        FailedRun::FailedOnce => 1,
-        FailedRun::FailedTwice => 2,
-    }
-}
-
-fn short_number(short: ShortRun) -> u8
-    ensures { result ≡ short_number short }
-{
-    match short {
-        ShortRun::NotShort => 0,
-        ShortRun::ShortOnce => 1,
-        ShortRun::ShortTwice => 2,
-        ShortRun::ShortThrice => 3,
-    }
-}
-
-#[tactic(auto, using(std::proofs::Common::rules))]
 pub fn codes_of(standing: Standing) -> Codes
     ensures { result ≡ codes_of standing }
 {
-    let day = standing.day;
-    let phase = standing.phase;
-    let status = standing.status;
-    let failed = standing.failed;
-    let short = standing.short;
     Codes {
-        dated: dated_number(day),
-        day: day_number(day),
-        phase: phase_number(phase),
-        status: status_number(status),
-        failed: failed_number(failed),
-        short: short_number(short),
+        dated: standing.day.is_some() as u8,
+        day: standing.day.unwrap_or(0),
+        phase: standing.phase as u8,
+        status: standing.status as u8,
+        failed: standing.failed as u8,
+        short: standing.short as u8,
     }
 }

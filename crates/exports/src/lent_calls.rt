@@ -7,14 +7,13 @@ ghost use Rattle.ledger.specs.Lent.{lent, book_in, table_in, step_in, cover_in, 
 ghost use Rattle.exports.specs.Codes.{is_well_formed};
 ghost use Rattle.exports.specs.Raw.{scalars_from, raw_of, refused, refused_run};
 
+use crate::raw;
 use crate::raw::{RawDone, RawEnded, RawScalars};
-use crate::{codes, raw};
 use rules::answer::Cover;
 use scalars::headroom;
 
 // One event, as its 40 bytes.
 #[unsafe(no_mangle)]
-#[tactic(auto, using(std::proofs::Common::sym, std::proofs::Common::refl, std::proofs::Common::rules, ledger::proofs::Fitting::refuted, ledger::proofs::Fitting::upheld))]
 pub extern "C" fn lent_apply(
     calendar: &[u32],
     raw: RawScalars,
@@ -32,10 +31,9 @@ pub extern "C" fn lent_apply(
         × (accepted result.answer.number ≡ false → after ≡ before))
         × (is_well_formed raw.codes ≡ false → (result ≡ refused raw) × (after ≡ before)) }
 {
-    if !codes::is_well_formed(raw.codes) {
+    let Some(scalars) = raw::scalars_from(raw) else {
         return raw::refused(raw);
-    }
-    let scalars = raw::scalars_from(raw);
+    };
     let entry = decoder::entry::decode(event);
     let done = ledger::lent::apply(calendar, scalars, held, kinds, units, table, entry);
     raw::of_done(done)
@@ -43,7 +41,6 @@ pub extern "C" fn lent_apply(
 
 // Headroom and O.
 #[unsafe(no_mangle)]
-#[tactic(auto, using(std::proofs::Common::rules, ledger::proofs::Fitting::refuted, ledger::proofs::Fitting::upheld))]
 pub extern "C" fn lent_cover(
     calendar: &[u32],
     raw: RawScalars,
@@ -55,15 +52,14 @@ pub extern "C" fn lent_cover(
     ensures { let before = lent (scalars_from raw) held.now kinds.now units.now table.now in
         result ≡ (if is_well_formed raw.codes then cover_in calendar.now before else cover_refused) }
 {
-    if !codes::is_well_formed(raw.codes) {
+    let Some(scalars) = raw::scalars_from(raw) else {
         return headroom::cover_refused();
-    }
-    ledger::lent::cover(calendar, raw::scalars_from(raw), held, kinds, units, table)
+    };
+    ledger::lent::cover(calendar, scalars, held, kinds, units, table)
 }
 
 // Encoded events, 40 bytes each, and a line of seven numbers for each.
 #[unsafe(no_mangle)]
-#[tactic(auto, using(std::proofs::Common::sym, std::proofs::Common::refl, std::proofs::Common::rules, ledger::proofs::Fitting::refuted, ledger::proofs::Fitting::upheld))]
 pub extern "C" fn lent_run(
     calendar: &[u32],
     raw: RawScalars,
@@ -83,10 +79,9 @@ pub extern "C" fn lent_run(
         × ((result.number == 0) ≡ false → after ≡ before))
         × (is_well_formed raw.codes ≡ false → (result ≡ refused_run raw) × (after ≡ before) × (lines.new ≡ lines.old)) }
 {
-    if !codes::is_well_formed(raw.codes) {
+    let Some(scalars) = raw::scalars_from(raw) else {
         return raw::refused_run(raw);
-    }
-    let scalars = raw::scalars_from(raw);
+    };
     let ended = ledger::lent::run(calendar, scalars, held, kinds, units, table, events, lines);
-    raw::of_ended(ended)
+    raw::of_ended(scalars, ended)
 }

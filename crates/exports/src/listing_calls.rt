@@ -10,5 +10,8 @@ pub extern "C" fn book_run_listing(calendar: &[u32], events: &[u8], lines: &mut 
         (result ≡ number_of cause)
         × (lines.new ≡ written_by cause (listing_of calendar.now events.now) lines.old) }
 {
-    ledger::listing::run_listing(calendar, events, lines)
+    match ledger::listing::run_listing(calendar, events, lines) {
+        Ok(()) => 0,
+        Err(refusal) => refusal.into(),
+    }
 }

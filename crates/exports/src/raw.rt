@@ -1,10 +1,13 @@
 // A book's scalars as C has them: its securities with what is posted, its applications and its table are lent as rows of numbers.
-ghost use Rattle.std.specs.Prelude.{◌≡◌};
+ghost use Rattle.std.specs.Prelude.{◌≡◌, if◌then◌else◌};
+ghost use Rattle.std.specs.Result.{result_unwrap_or};
+ghost use Rattle.money.specs.Causes.{number_of, refusal_of};
+ghost use Rattle.exports.specs.Codes.{is_well_formed};
 ghost use Rattle.exports.specs.Raw.{scalars_from, raw_of, refused, refused_run};
 
 use crate::codes;
 use crate::codes::Codes;
-use ledger::lent::Ended;
+use money::refusal::Refusal;
 use money::units::Sheets;
 use rules::answer::Answer;
 use rules::book::{Cash, Guarantee, Nets, Sums};
@@ -42,76 +45,71 @@ pub struct RawEnded {
     pub raw: RawScalars,
 }
 
-#[tactic(auto, using(std::proofs::Common::rules), unfolding(crate::specs::Raw::scalars_from, money::specs::Causes::first_of))]
-pub fn scalars_from(raw: RawScalars) -> Scalars
-    ensures { result ≡ scalars_from raw }
+// A book's scalars, if their codes are well-formed.
+#[tactic(auto, unfolding(crate::specs::Raw::scalars_from))]
+pub fn scalars_from(raw: RawScalars) -> Option<Scalars>
+    ensures { result ≡ (if is_well_formed raw.codes then Some (scalars_from raw) else None) }
 {
-    let nets = raw.nets;
-    let sums = raw.sums;
-    let cash = raw.cash;
-    let guarantee = raw.guarantee;
-    let size = raw.size;
-    Scalars {
-        nets,
-        sums,
-        cash,
-        guarantee,
-        size,
-        standing: codes::standing_at(raw.codes),
+    let standing = codes::standing_at(raw.codes)?;
+    Some(Scalars {
+        nets: raw.nets,
+        sums: raw.sums,
+        cash: raw.cash,
+        guarantee: raw.guarantee,
+        size: raw.size,
+        standing,
         applications: raw.applications,
         trades: raw.trades,
-    }
+    })
 }
 
-#[tactic(auto, using(std::proofs::Common::rules), unfolding(crate::specs::Raw::raw_of, money::specs::Causes::first_of))]
+#[tactic(auto, unfolding(crate::specs::Raw::raw_of))]
 fn raw_of(scalars: Scalars) -> RawScalars
     ensures { result ≡ raw_of scalars }
 {
-    let nets = scalars.nets;
-    let sums = scalars.sums;
-    let cash = scalars.cash;
-    let guarantee = scalars.guarantee;
-    let size = scalars.size;
     RawScalars {
-        nets,
-        sums,
-        cash,
-        guarantee,
-        size,
+        nets: scalars.nets,
+        sums: scalars.sums,
+        cash: scalars.cash,
+        guarantee: scalars.guarantee,
+        size: scalars.size,
         codes: codes::codes_of(scalars.standing),
         applications: scalars.applications,
         trades: scalars.trades,
     }
 }
 
-#[tactic(auto, using(std::proofs::Common::rules))]
 pub fn of_done(done: Done) -> RawDone
     ensures { result ≡ record { answer = done.answer; raw = raw_of done.scalars } }
 {
-    let answer = done.answer;
     RawDone {
-        answer,
+        answer: done.answer,
         raw: raw_of(done.scalars),
     }
 }
 
-#[tactic(auto, using(std::proofs::Common::rules))]
-pub fn of_ended(ended: Ended) -> RawEnded
-    ensures { result ≡ record { number = ended.number; raw = raw_of ended.scalars } }
+// What a run leaves: other scalars, or its refusal's number beside the scalars as they were.
+pub fn of_ended(scalars: Scalars, ended: Result<Scalars, Refusal>) -> RawEnded
+    ensures { result ≡ record { number = number_of (refusal_of ended); raw = raw_of (result_unwrap_or ended scalars) } }
 {
-    RawEnded {
-        number: ended.number,
-        raw: raw_of(ended.scalars),
+    match ended {
+        Ok(after) => RawEnded {
+            number: 0,
+            raw: raw_of(after),
+        },
+        Err(refusal) => RawEnded {
+            number: refusal.into(),
+            raw: raw_of(scalars),
+        },
     }
 }
 
 // What the calls answer to scalars that are not well-formed.
-#[tactic(auto, using(std::proofs::Common::rules))]
 pub fn refused(raw: RawScalars) -> RawDone
     ensures { result ≡ refused raw }
 {
     RawDone {
-        answer: done::answer_of(1),
+        answer: done::answer_of(Refusal::NotFit.into()),
         raw,
     }
 }
@@ -119,5 +117,8 @@ pub fn refused(raw: RawScalars) -> RawDone
 pub fn refused_run(raw: RawScalars) -> RawEnded
     ensures { result ≡ refused_run raw }
 {
-    RawEnded { number: 1, raw }
+    RawEnded {
+        number: Refusal::NotFit.into(),
+        raw,
+    }
 }

@@ -74,7 +74,7 @@ fn write_run(calendar: &[u32], events: &[u8], text: &mut [u8]) -> Written
         × (text.new ≡ text_after written text.old) }
 {
     let mut lines = [0; EVENT_LIMIT * LINE_NUMBERS];
-    ledger::listing::run_listing(calendar, events, &mut lines);
+    let _ = ledger::listing::run_listing(calendar, events, &mut lines);
     write_lines(text, &lines, events.len() / EVENT_BYTES)
 }
 

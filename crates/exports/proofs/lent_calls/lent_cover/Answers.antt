@@ -1,12 +1,11 @@
-use Rattle.ledger.proofs.Fitting.{refuted, upheld}
-use mathlib.Core.Path.{ap}
-use Rattle.std.specs.Prelude.{not}
+use Rattle.exports.proofs.RawLaws.{some_if, none_if}
 use Rattle.exports.proofs.lent_calls.lent_cover.Goals as goal
 
-pub returns-then-not-is_well_formed : goal.returns-then-not-is_well_formed
-returns-then-not-is_well_formed c =
-    rw (refuted c.is_well_formed.ensures (ap not c.if-not-is_well_formed.true)) c.cover_refused.ensures
+pub returns-in_default : goal.returns-in_default
+returns-in_default c =
+    rw (none_if _ _ (rw c.in_default.is at c.scalars_from.ensures)) c.cover_refused.ensures
 
 pub returns : goal.returns
 returns c =
-    rw (upheld c.is_well_formed.ensures (ap not c.if-not-is_well_formed.false), ← c.scalars_from.ensures) c.cover.ensures
+    let formed = some_if _ _ _ c.in-Some.ensures in
+    rw (formed.0, ← formed.1) c.cover.ensures
