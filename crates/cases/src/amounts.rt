@@ -3,12 +3,14 @@ ghost use Rattle.std.specs.Prelude.{◌≡◌};
 ghost use Rattle.money.specs.Money.{redemption_amount};
 ghost use Rattle.money.specs.Collateral.{kind_worth};
 
+use money::amounts::Amount;
+use money::collateral::Worth;
 use money::units::{Fen, Sheets, Ticks};
 
 fn redemption(q: Sheets, price: Ticks, days: u32) -> Fen
     ensures { result.0 ≡ (redemption_amount q price days).fen.0 }
 {
-    let amount = money::amounts::redemption(q, price, days);
+    let amount = Amount::from(money::amounts::redemption(q, price, days));
     amount.fen
 }
 
@@ -16,7 +18,7 @@ fn redemption(q: Sheets, price: Ticks, days: u32) -> Fen
 fn value(kind: u8, units: u64, rate: u64) -> Sheets
     ensures { result.0 ≡ (kind_worth kind units 0 rate).sheets.0 }
 {
-    let worth = money::collateral::kind_worth(kind, units, 0, rate);
+    let worth = Worth::from(money::collateral::kind_worth(kind, units, 0, rate));
     worth.sheets
 }
 

@@ -68,13 +68,11 @@ pub fn first_trade() {
     ];
     let mut book = rules::book::fresh();
     let mut table = [none; 4];
-    let mut k = 0;
-    while k < 8 {
+    for k in 0..8 {
         let next = apply(&WEEK, book, table, Some(events[k]));
         check::expect(next.answer.number == 0);
         book = next.book;
         table = next.table;
-        k += 1;
     }
     let trade = table[0];
     check::expect(trade.contract.0 == 7);

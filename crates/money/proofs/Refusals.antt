@@ -7,8 +7,9 @@ use mathlib.Core.Option.{Option, none, some}
 use Prim.Native.Nat.{ℕ}
 use native.Mathlib.Omega.{arith}
 use lib.Dec.{eqb}
+use Rattle.std.specs.Prelude.{Result, Ok, Err, is_ok}
 use Rattle.money.specs.declared.refusal.Refusal.TheVariants.{NotFit, Undecodable, UnknownKind, WrongPhase, PermissionEnded, TradesSuspended, BadCount, BadPrice, BadDueDay, BadContract, TableFull, AboveHeadroom, NotEnough, PastLimit, BelowOutstanding, NoTradingDay, ListFull, BadLength, NoSuchDate, NotPosted}
-use Rattle.money.specs.Causes.{Cause, ◌⇒◌, Refusal, first_of, refusal_number}
+use Rattle.money.specs.Causes.{Cause, ◌⇒◌, Refusal, first_of, refusal_number, refusal_of}
 
 -- the cause in front applies
 pub hit : {test : Bool} (n : ℕ) (cs : List Cause) → test ≡ true → first_of ((test ⇒ n) ∷ cs) ≡ some n
@@ -61,3 +62,8 @@ not-0 ListFull e = omega arith
 not-0 BadLength e = omega arith
 not-0 NoSuchDate e = omega arith
 not-0 NotPosted e = omega arith
+
+-- a call that no cause turns down tells its result
+pub ok-where-none : {A : Type 0} (told : Result A Refusal) → refusal_of told ≡ none → is_ok told ≡ true
+ok-where-none (Ok result) e = refl
+ok-where-none (Err refusal) e = let z : ◌≡◌ {A = ℕ} 0 1 = cc in absurd (omega arith)

@@ -9,13 +9,13 @@ use Rattle.cases.proofs.dates.to_dates.Goals as goal
 pub expect-requires : goal.expect-requires
 unfolding date_answer date_of next_date month_length february leap first_of
 expect-requires c =
-    eq-eqb c.date_of-leap.result.date.day 29 (ap (λ (d : Dated). d.date.day) c.date_of-leap.ensures)
+    eq-eqb c.told-leap.result.date.day 29 (ap (λ (d : Dated). d.date.day) c.told-leap.ensures)
 
 pub expect-requires-2 : goal.expect-requires-2
 expect-requires-2 c =
-    eq-eqb c.date_of-last.result.date.year 2099 (ap (λ (d : Dated). d.date.year) (c.date_of-last.ensures ∙ last-date))
+    eq-eqb c.told-last.result.date.year 2099 (ap (λ (d : Dated). d.date.year) (c.told-last.ensures ∙ last-date))
 
 pub expect-requires-3 : goal.expect-requires-3
 unfolding date_answer first_of
 expect-requires-3 c =
-    eq-eqb c.date_of-none.result.number 19 (ap (λ (d : Dated). d.number) c.date_of-none.ensures)
+    eq-eqb c.told-none.result.number 19 (ap (λ (d : Dated). d.number) c.told-none.ensures)
