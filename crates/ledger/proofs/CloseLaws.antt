@@ -13,7 +13,6 @@ use Rattle.money.specs.Causes.{first_of, refusal_number}
 use Rattle.money.specs.Days.{Calendar}
 use Rattle.money.proofs.Refusals.{hit, skip, clear}
 use Rattle.rules.specs.Limits.{net_limit}
-use Rattle.rules.specs.Book.{answer}
 use Rattle.rules.specs.Unpaid.{passes}
 use Rattle.rules.specs.Days.{payment_day}
 use Rattle.rules.specs.Trades.{in_use, total, outstanding, maturing, maturity_amount, remaining, packed, over}

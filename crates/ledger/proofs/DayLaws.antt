@@ -3,11 +3,10 @@
 use Rattle.std.specs.Prelude.{◌≡◌, ℕ, false, not, Result, Ok, Err, is_ok}
 use Rattle.std.specs.Result.{result_ok, result_unwrap_or}
 use mathlib.Core.Path.{sym, ap, ◌∙◌}
-use mathlib.Core.Option.{Option, none, some}
+use mathlib.Core.Option.{Option}
 use Rattle.money.specs.declared.refusal.Refusal.{Refusal}
 use Rattle.money.specs.Days.{Calendar, missing, day_or_0}
 use Rattle.money.proofs.Answers.{day_told}
-use Rattle.rules.specs.Book.{Day}
 use Rattle.rules.specs.Days.{to_day, followed}
 
 pub not-missing : (told : Result ℕ Refusal) (found : Option ℕ) → day_told told ≡ found → is_ok told ≡ not (missing found)

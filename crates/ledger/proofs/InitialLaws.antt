@@ -17,7 +17,7 @@ use Rattle.rules.specs.Initial.{bad_count, initial_causes}
 use Rattle.rules.proofs.FoldLaws.{neither, every_holds}
 use Rattle.rules.proofs.FitParts.{fit_parts}
 use Rattle.rules.proofs.Accepted.{all-clear}
-use Rattle.ledger.specs.Types.{Book, Day, None, Some, Phase, Terms, Trade, Initial}
+use Rattle.ledger.specs.Types.{Book, Day, None, Some, Phase, Terms, Trade}
 use Rattle.ledger.specs.Flat.{capacity, trades_of}
 use Rattle.ledger.proofs.FlatLaws.{length-trades}
 

@@ -1,6 +1,6 @@
 -- A listing that is not refused, and the empty table that it starts on.
 -- For the proofs of listing.rt. Assumes nothing.
-use Rattle.std.specs.Prelude.{◌≡◌, ℕ, zero, suc, ◌+◌, ◌*◌, ◌<◌, ◌≤◌, true, not, eqb, List, get_or, replicate}
+use Rattle.std.specs.Prelude.{◌≡◌, ℕ, zero, suc, ◌+◌, ◌*◌, ◌<◌, ◌≤◌, true, List, get_or, replicate}
 use mathlib.Core.Path.{refl, sym}
 use mathlib.Core.Option.{none}
 use native.Mathlib.Numerals.{add-one}

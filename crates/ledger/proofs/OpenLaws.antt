@@ -2,7 +2,7 @@
 -- For the event Open. Assumes nothing.
 use Rattle.std.specs.Prelude.{◌≡◌, ℕ, ◌≤◌, true, false, ltb, List, length, nat_abs}
 use mathlib.Core.Path.{sym, ap, ◌∙◌}
-use mathlib.Core.Option.{Option, none, some}
+use mathlib.Core.Option.{none, some}
 use Rattle.money.specs.Causes.{first_of}
 use Rattle.money.specs.Units.{signed_fen}
 use Rattle.money.specs.Days.{Calendar}
@@ -13,14 +13,13 @@ use Rattle.rules.specs.Days.{following, payment_day, followed}
 use Rattle.rules.specs.Trades.{in_use}
 use Rattle.rules.specs.Fit.{net_fit, fit}
 use Rattle.rules.specs.Open.{turns_terminated, next_day, fallback_sum, net_with_fallbacks, unpaid_with_fallbacks, fallbacks_pass, open_causes, opened_standing, turned_book, opened_book}
-use Rattle.rules.specs.Step.{event_causes}
 use Rattle.rules.proofs.TableFit.{all-the-same}
 use Rattle.rules.proofs.DayFit.{next-day}
 use Rattle.rules.proofs.FitParts.{fit_parts, parts-fit}
 use Rattle.scalars.specs.Scalars.{with_unpaid}
 use Rattle.scalars.specs.declared.state.Scalars.{Scalars}
 use Rattle.scalars.specs.declared.done.Done.{Done}
-use Rattle.ledger.specs.Types.{Nets, Standing, Book, Trading, Trade, Open, Applied}
+use Rattle.ledger.specs.Types.{Nets, Standing, Book, Trading, Trade, Applied}
 use Rattle.ledger.specs.Flat.{Rows, book_of, applied_at, applied_by, trades_of, Redeemable}
 use Rattle.ledger.proofs.Column.{first_holds, second_holds, neither-holds}
 use Rattle.ledger.proofs.NetLaws.{over-net, within-net}

@@ -30,22 +30,13 @@ use scalars::{done, headroom, state, unpaid};
 fn may_close(standing: Standing) -> bool
     ensures { result ≡ may_close standing }
 {
-    if standing.is_paid() {
-        return true;
-    }
-    if !standing.is_trading() {
-        return false;
-    }
-    standing.is_terminated()
+    standing.is_paid() || standing.is_trading() && standing.is_terminated()
 }
 
 fn is_served(standing: Standing) -> bool
     ensures { result ≡ served standing }
 {
-    if !standing.is_paid() {
-        return false;
-    }
-    !standing.has_failed()
+    standing.is_paid() && !standing.has_failed()
 }
 
 fn longer(short: ShortRun) -> ShortRun
@@ -71,15 +62,10 @@ fn short_at_close(is_short: bool, short: ShortRun) -> ShortRun
 fn closed_standing(short: ShortRun, standing: Standing) -> Standing
     ensures { result ≡ closed_standing short standing }
 {
-    let day = standing.day;
-    let status = standing.status;
-    let failed = standing.failed;
     Standing {
-        day,
         phase: Phase::Closed,
-        status,
-        failed,
         short,
+        ..standing
     }
 }
 
@@ -158,21 +144,20 @@ fn closed_scalars(
         → postings_of held ≡ rows.postings
         → book_of result (rows_of held no_applications.kinds no_applications.units) ≡ closed_book calendar book trades table }
 {
-    let standing = scalars.standing;
-    let short = standing.short;
-    let guarantee = ended.guarantee;
     let is_short = headroom::is_short(scalars.size, ended.value, left);
-    let own = ended.own;
-    let client = scalars.cash.client;
-    let cash = Cash { own, client };
-    let mut next = state::with_unpaid(scalars, unpaid);
-    next.nets = cleared;
-    next.cash = cash;
-    next.guarantee = guarantee;
-    next.standing = closed_standing(short_at_close(is_short, short), standing);
-    next.applications = 0;
-    next.trades = kept;
-    next
+    let short = short_at_close(is_short, scalars.standing.short);
+    Scalars {
+        nets: cleared,
+        cash: Cash {
+            own: ended.own,
+            ..scalars.cash
+        },
+        guarantee: ended.guarantee,
+        standing: closed_standing(short, scalars.standing),
+        applications: 0,
+        trades: kept,
+        ..state::with_unpaid(scalars, unpaid)
+    }
 }
 
 // What Close does, once nothing refuses it: what was planned is written, before the table is packed.

@@ -27,11 +27,9 @@ pub fn cover_from(size: Sheets, figures: Figures) -> Cover
     ensures { let headroom = headroom_of size.0 figures.value.0 figures.outstanding.0 in
         result ≡ record { number = 0; headroom = signed_sheets headroom; outstanding = figures.outstanding } }
 {
-    let value = figures.value;
-    let outstanding = figures.outstanding;
     Cover {
         number: 0,
-        headroom: headroom_from(size, value, outstanding),
-        outstanding,
+        headroom: headroom_from(size, figures.value, figures.outstanding),
+        outstanding: figures.outstanding,
     }
 }

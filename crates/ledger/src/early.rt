@@ -26,9 +26,7 @@ fn past_due(scalars: Scalars, table: &[u64], place: usize, contract: Contract) -
     if place >= scalars.trades {
         return false;
     }
-    let standing = scalars.standing;
-    let day = standing.day;
-    flat::due_at(table, place) <= days::day_number(day)
+    flat::due_at(table, place) <= days::day_number(scalars.standing.day)
 }
 
 // What sheets of the trade at a place are redeemed for, from its first payment day to today's.
@@ -45,9 +43,7 @@ fn early_plan(
     ensures { (rows : Rows) →
         result ≡ early_of calendar.now (book_of scalars rows) (trades_of table.now) contract count price }
 {
-    let standing = scalars.standing;
-    let day = standing.day;
-    let payment = days::payment_day(calendar, day);
+    let payment = days::payment_day(calendar, scalars.standing.day);
     Redeemed {
         sheets: count,
         amount: redemption::redeemed_for(table, place, count, price, payment),
@@ -113,13 +109,11 @@ fn take_refusal(
     if left.0 < count.0 {
         return Err(Refusal::NotEnough);
     }
-    let nets = scalars.nets;
     let plan = early_plan(calendar, scalars, table, place, contract, count, price);
-    if nets::over_plus(nets, plan.amount) {
+    if nets::over_plus(scalars.nets, plan.amount) {
         return Err(Refusal::PastLimit);
     }
-    let sums = scalars.sums;
-    if unpaid::passes(sums.unpaid, plan.amount) {
+    if unpaid::passes(scalars.sums.unpaid, plan.amount) {
         return Err(Refusal::PastLimit);
     }
     Ok(())
@@ -170,9 +164,11 @@ pub fn early(
     let had = flat::sheets_at(&*table, place);
     let left = had.0 - plan.sheets.0;
     flat::put_sheets(table, place, Sheets(left));
-    let nets = scalars.nets;
-    let sums = scalars.sums;
-    let mut next = state::with_unpaid(scalars, unpaid::today_plus(sums.unpaid, plan.amount));
-    next.nets = nets::today_plus(nets, plan.amount);
-    Ok(done::answered(0, next))
+    Ok(done::accepted(Scalars {
+        nets: nets::today_plus(scalars.nets, plan.amount),
+        ..state::with_unpaid(
+            scalars,
+            unpaid::today_plus(scalars.sums.unpaid, plan.amount),
+        )
+    }))
 }

@@ -30,10 +30,9 @@ pub fn figures_of(calendar: &[u32], scalars: Scalars, held: &[u64], table: &[u64
     requires { FitsHeld calendar.now scalars held.now (trades_of table.now) }
     ensures { result ≡ figures_at scalars held.now (trades_of table.now) }
 {
-    let guarantee = scalars.guarantee;
     Figures {
         outstanding: trades::outstanding_of(table, scalars.trades),
-        value: vault::value_of(held, guarantee),
+        value: vault::value_of(held, scalars.guarantee),
     }
 }
 
@@ -83,11 +82,9 @@ fn revalued(
         × (outstanding (in_use scalars.trades trades) ≡ before.outstanding.0) }
     ensures { result ≡ figures_at scalars held.now (trades_of table.now) }
 {
-    let guarantee = scalars.guarantee;
-    let outstanding = before.outstanding;
     Figures {
-        outstanding,
-        value: vault::value_of(held, guarantee),
+        value: vault::value_of(held, scalars.guarantee),
+        ..before
     }
 }
 
@@ -106,11 +103,10 @@ fn figures_moved(
         × (Moved event before (figures_at scalars held.now trades)) }
     ensures { result ≡ figures_at scalars held.now (trades_of table.now) }
 {
-    let value = before.value;
     match event {
         Event::Open => Figures {
             outstanding: trades::outstanding_of(table, scalars.trades),
-            value,
+            ..before
         },
         Event::FundIn(_, _) => before,
         Event::FundOut(_, _) => before,
@@ -123,14 +119,14 @@ fn figures_moved(
             let more = before.outstanding.0 + terms.sheets.0;
             Figures {
                 outstanding: Sheets(more),
-                value,
+                ..before
             }
         }
         Event::Early(_, count, _) => {
             let less = before.outstanding.0 - count.0;
             Figures {
                 outstanding: Sheets(less),
-                value,
+                ..before
             }
         }
         Event::Pay => before,
@@ -158,8 +154,8 @@ pub fn figures_after(
     if number != 0 {
         return before;
     }
-    match entry {
-        Some(event) => figures_moved(calendar, before, event, scalars, held, table),
-        None => before,
-    }
+    let Some(event) = entry else {
+        return before;
+    };
+    figures_moved(calendar, before, event, scalars, held, table)
 }

@@ -10,7 +10,7 @@ use crate::{held, vault};
 use money::limits::CASH_KIND;
 use money::refusal::Refusal;
 use money::units::Fen;
-use rules::book::Guarantee;
+use rules::book::{Guarantee, Security};
 use scalars::done;
 use scalars::done::Done;
 use scalars::state::Scalars;
@@ -24,8 +24,7 @@ fn freeze_refusal(scalars: Scalars, held: &[u64], kind: u8, units: u64) -> Resul
     if kind > CASH_KIND {
         return Err(Refusal::UnknownKind);
     }
-    let guarantee = scalars.guarantee;
-    if vault::effective_of(held, guarantee, kind) < units {
+    if vault::effective_of(held, scalars.guarantee, kind) < units {
         return Err(Refusal::NotEnough);
     }
     Ok(())
@@ -38,20 +37,23 @@ fn put_frozen(held: &mut [u64], kind: u8, units: u64)
         × (postings_of held.new ≡ postings_of held.old) }
 {
     let at = kind as usize;
-    let mut security = held::security_at(&*held, at);
-    security.frozen = units;
-    held::put_security(held, at, security);
+    let security = held::security_at(&*held, at);
+    held::put_security(
+        held,
+        at,
+        Security {
+            frozen: units,
+            ..security
+        },
+    );
 }
 
 fn cash_frozen(guarantee: Guarantee, amount: Fen) -> Guarantee
     ensures { result ≡ cash_frozen amount.0 guarantee }
 {
-    let effective = guarantee.effective;
-    let arriving = guarantee.arriving;
     Guarantee {
-        effective,
-        arriving,
         frozen: amount,
+        ..guarantee
     }
 }
 
@@ -65,11 +67,11 @@ pub fn freeze(scalars: Scalars, held: &mut [u64], kind: u8, units: u64) -> Resul
 {
     freeze_refusal(scalars, &*held, kind, units)?;
     if kind == CASH_KIND {
-        let guarantee = scalars.guarantee;
-        let mut next = scalars;
-        next.guarantee = cash_frozen(guarantee, Fen(units));
-        return Ok(done::answered(0, next));
+        return Ok(done::accepted(Scalars {
+            guarantee: cash_frozen(scalars.guarantee, Fen(units)),
+            ..scalars
+        }));
     }
     put_frozen(held, kind, units);
-    Ok(done::answered(0, scalars))
+    Ok(done::accepted(scalars))
 }

@@ -27,11 +27,12 @@ fn balance(account: Account, cash: Cash) -> Fen
 fn with_account(account: Account, sum: Fen, cash: Cash) -> Cash
     ensures { result ≡ with_account account sum.0 cash }
 {
-    let own = cash.own;
-    let client = cash.client;
     match account {
-        Account::Own => Cash { own: sum, client },
-        Account::Client => Cash { own, client: sum },
+        Account::Own => Cash { own: sum, ..cash },
+        Account::Client => Cash {
+            client: sum,
+            ..cash
+        },
     }
 }
 
@@ -61,12 +62,10 @@ pub fn fund_in(scalars: Scalars, account: Account, amount: Fen) -> Result<Done, 
         applied_at (done_by scalars result) rows ≡ applied_by (first_of (fund_in_causes book account amount)) book (funded_in book account amount) }
 {
     fund_in_refusal(scalars, account, amount)?;
-    let cash = scalars.cash;
-    let mut next = scalars;
-    let held = balance(account, cash);
+    let held = balance(account, scalars.cash);
     let sum = held.0 + amount.0;
-    next.cash = with_account(account, Fen(sum), cash);
-    Ok(done::answered(0, next))
+    let cash = with_account(account, Fen(sum), scalars.cash);
+    Ok(done::accepted(Scalars { cash, ..scalars }))
 }
 
 #[tactic(auto, unfolding(rules::specs::Funds::fund_out_causes, money::specs::Causes::first_of))]
@@ -76,9 +75,7 @@ fn fund_out_refusal(scalars: Scalars, account: Account, amount: Fen) -> Result<(
     if amount.0 == 0 {
         return Err(Refusal::BadCount);
     }
-    let cash = scalars.cash;
-    let held = balance(account, cash);
-    if held.0 < amount.0 {
+    if balance(account, scalars.cash) < amount {
         return Err(Refusal::NotEnough);
     }
     Ok(())
@@ -91,10 +88,8 @@ pub fn fund_out(scalars: Scalars, account: Account, amount: Fen) -> Result<Done,
         applied_at (done_by scalars result) rows ≡ applied_by (first_of (fund_out_causes book account amount)) book (funded_out book account amount) }
 {
     fund_out_refusal(scalars, account, amount)?;
-    let cash = scalars.cash;
-    let mut next = scalars;
-    let held = balance(account, cash);
+    let held = balance(account, scalars.cash);
     let rest = held.0 - amount.0;
-    next.cash = with_account(account, Fen(rest), cash);
-    Ok(done::answered(0, next))
+    let cash = with_account(account, Fen(rest), scalars.cash);
+    Ok(done::accepted(Scalars { cash, ..scalars }))
 }

@@ -25,13 +25,7 @@ use scalars::{done, headroom, state};
 fn bad_count(count: Sheets) -> bool
     ensures { result ≡ bad_count count.0 }
 {
-    if count.0 == 0 {
-        return true;
-    }
-    if count.0 % 10 != 0 {
-        return true;
-    }
-    count.0 > TRADE_LIMIT
+    count.0 == 0 || count.0 % 10 != 0 || count.0 > TRADE_LIMIT
 }
 
 fn bad_due(calendar: &[u32], day: Option<u32>, due: u32) -> bool
@@ -132,14 +126,10 @@ fn term_refusal(calendar: &[u32], scalars: Scalars, terms: Terms) -> Result<(), 
     requires { (length calendar.now ≤ calendar_limit) × (day_number scalars.standing.day < term_limit) }
     ensures { (rows : Rows) → refusal_of result ≡ first_of (term_causes calendar.now (book_of scalars rows) terms) }
 {
-    let price = terms.price;
-    let fallback = terms.fallback;
-    if prices::bad_prices(price, fallback) {
+    if prices::bad_prices(terms.price, terms.fallback) {
         return Err(Refusal::BadPrice);
     }
-    let standing = scalars.standing;
-    let day = standing.day;
-    if bad_due(calendar, day, terms.due) {
+    if bad_due(calendar, scalars.standing.day, terms.due) {
         return Err(Refusal::BadDueDay);
     }
     Ok(())
@@ -150,8 +140,7 @@ fn slot_refusal(scalars: Scalars, table: &[u64], terms: Terms) -> Result<(), Ref
     requires { HasSlots table.now scalars.trades }
     ensures { (rows : Rows) → refusal_of result ≡ first_of (slot_causes (book_of scalars rows) (trades_of table.now) terms) }
 {
-    let contract = terms.contract;
-    if is_taken(table, scalars.trades, contract) {
+    if is_taken(table, scalars.trades, terms.contract) {
         return Err(Refusal::BadContract);
     }
     if is_full(table, scalars.trades) {
@@ -178,8 +167,7 @@ fn sheet_refusal(
     if lacks_headroom(calendar, scalars, held, table, known, count) {
         return Err(Refusal::AboveHeadroom);
     }
-    let nets = scalars.nets;
-    if nets::over_less(nets, principal_of(count)) {
+    if nets::over_less(scalars.nets, principal_of(count)) {
         return Err(Refusal::PastLimit);
     }
     Ok(())
@@ -216,21 +204,14 @@ fn begun_trade(calendar: &[u32], scalars: Scalars, terms: Terms) -> Trade
     requires { length calendar.now ≤ calendar_limit }
     ensures { (rows : Rows) → result ≡ begun calendar.now (book_of scalars rows) terms }
 {
-    let standing = scalars.standing;
-    let day = standing.day;
-    let contract = terms.contract;
-    let sheets = terms.sheets;
-    let price = terms.price;
-    let fallback = terms.fallback;
-    let product = terms.product as u64;
     Trade {
-        contract,
-        sheets,
-        price,
-        fallback,
-        first: days::payment_day(calendar, day),
+        contract: terms.contract,
+        sheets: terms.sheets,
+        price: terms.price,
+        fallback: terms.fallback,
+        first: days::payment_day(calendar, scalars.standing.day),
         due: terms.due,
-        product,
+        product: u64::from(terms.product),
     }
 }
 
@@ -256,5 +237,5 @@ pub fn initial(
     flat::put_trade(table, place, begun_trade(calendar, scalars, terms));
     let count = terms.sheets;
     let nets = nets::today_less(scalars.nets, principal_of(count));
-    Ok(done::answered(0, state::with_nets_and_trades(scalars, nets, place + 1)))
+    Ok(done::accepted(state::with_nets_and_trades(scalars, nets, place + 1)))
 }

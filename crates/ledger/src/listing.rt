@@ -6,51 +6,16 @@ ghost use Rattle.rules.specs.Listing.{listing_of, listing_causes, written_by};
 ghost use Rattle.ledger.specs.Flat.{scalars_of};
 
 use crate::layout::{HELD_LENGTH, WIDTH};
-use crate::{lent, run};
+use crate::{lent, run, split};
 use money::refusal::Refusal;
-use money::units::{Fen, Sheets, SignedFen};
-use rules::book::{
-    Cash, FailedRun, Guarantee, Nets, Phase, ShortRun, Standing, Status, Sums, Unpaid,
-};
 use rules::limits::{APPLICATION_LIMIT, JOURNAL_CAPACITY};
 use scalars::state;
 use scalars::state::Scalars;
 
-#[tactic(auto, unfolding(rules::specs::Book::fresh_book, money::specs::Causes::first_of))]
 fn fresh_scalars() -> Scalars
     ensures { result ≡ scalars_of fresh_book }
 {
-    Scalars {
-        nets: Nets {
-            today: SignedFen(0),
-            cleared: SignedFen(0),
-        },
-        sums: Sums {
-            unpaid: Unpaid {
-                today: Fen(0),
-                cleared: Fen(0),
-            },
-        },
-        cash: Cash {
-            own: Fen(0),
-            client: Fen(0),
-        },
-        guarantee: Guarantee {
-            effective: Fen(0),
-            arriving: Fen(0),
-            frozen: Fen(0),
-        },
-        size: Sheets(0),
-        standing: Standing {
-            day: None,
-            phase: Phase::Closed,
-            status: Status::Normal,
-            failed: FailedRun::NotFailed,
-            short: ShortRun::NotShort,
-        },
-        applications: 0,
-        trades: 0,
-    }
+    split::scalars_of(rules::book::fresh())
 }
 
 #[tactic(auto, unfolding(rules::specs::Listing::listing_causes, money::specs::Causes::first_of))]

@@ -7,20 +7,13 @@ ghost use Rattle.ledger.specs.Redemption.{amount_bound};
 
 use money::units::{Fen, SignedFen};
 use rules::book::Nets;
-use rules::limits::{NET_LIMIT, NET_LIMIT_DOWN};
+use rules::limits::NET_LIMIT;
 
 // Whether a net is within 4×10^18, up or down.
-#[tactic(auto, using(crate::proofs::NetLaws::above, crate::proofs::NetLaws::below, crate::proofs::NetLaws::inside))]
 fn net_fit(net: SignedFen) -> bool
     ensures { result ≡ net_fit net.0 }
 {
-    if net.0 > NET_LIMIT {
-        return false;
-    }
-    if net.0 < NET_LIMIT_DOWN {
-        return false;
-    }
-    true
+    net.0.unsigned_abs() <= NET_LIMIT
 }
 
 // No amount leads out of 64 bits: both are at most a net and an amount together.
@@ -44,9 +37,7 @@ fn negative(amount: Fen) -> SignedFen
     requires { amount.0 ≤ amount_bound }
     ensures { result ≡ signed_fen (neg_ℤ (pos amount.0)) }
 {
-    let size = signed(amount);
-    let below = 0 - size.0;
-    SignedFen(below)
+    SignedFen(-signed(amount).0)
 }
 
 pub fn today_fit(nets: Nets) -> bool
@@ -66,11 +57,9 @@ pub fn today_less(nets: Nets, amount: Fen) -> Nets
     requires { (net_fit nets.today.0 ≡ true) × (amount.0 ≤ amount_bound) }
     ensures { result ≡ record { today = signed_fen (nets.today.0 -ℤ pos amount.0); cleared = nets.cleared } }
 {
-    let today = nets.today;
-    let cleared = nets.cleared;
     Nets {
-        today: plus(today, negative(amount)),
-        cleared,
+        today: plus(nets.today, negative(amount)),
+        ..nets
     }
 }
 
@@ -79,11 +68,9 @@ pub fn today_plus(nets: Nets, amount: Fen) -> Nets
     requires { (net_fit nets.today.0 ≡ true) × (amount.0 ≤ amount_bound) }
     ensures { result ≡ record { today = signed_fen (nets.today.0 +ℤ pos amount.0); cleared = nets.cleared } }
 {
-    let today = nets.today;
-    let cleared = nets.cleared;
     Nets {
-        today: plus(today, signed(amount)),
-        cleared,
+        today: plus(nets.today, signed(amount)),
+        ..nets
     }
 }
 
@@ -93,11 +80,9 @@ pub fn today_at_close(nets: Nets, matured: Fen, started: Fen) -> Nets
     ensures { result ≡ record { today = signed_fen (nets.today.0 +ℤ pos matured.0 -ℤ pos started.0); cleared = nets.cleared } }
 {
     let with_matured = today_plus(nets, matured);
-    let today = with_matured.today;
-    let cleared = nets.cleared;
     Nets {
-        today: plus(today, negative(started)),
-        cleared,
+        today: plus(with_matured.today, negative(started)),
+        ..nets
     }
 }
 
@@ -121,11 +106,9 @@ pub fn cleared_plus(nets: Nets, amount: Fen) -> Nets
     requires { (net_fit nets.cleared.0 ≡ true) × (amount.0 ≤ amount_bound) }
     ensures { result ≡ record { today = nets.today; cleared = signed_fen (nets.cleared.0 +ℤ pos amount.0) } }
 {
-    let today = nets.today;
-    let cleared = nets.cleared;
     Nets {
-        today,
-        cleared: plus(cleared, signed(amount)),
+        cleared: plus(nets.cleared, signed(amount)),
+        ..nets
     }
 }
 
@@ -134,11 +117,9 @@ pub fn joined(nets: Nets) -> Nets
     requires { (net_fit nets.today.0 ≡ true) × (net_fit nets.cleared.0 ≡ true) }
     ensures { result ≡ record { today = signed_fen (pos 0); cleared = signed_fen (nets.cleared.0 +ℤ nets.today.0) } }
 {
-    let today = nets.today;
-    let cleared = nets.cleared;
     Nets {
         today: SignedFen(0),
-        cleared: plus(cleared, today),
+        cleared: plus(nets.cleared, nets.today),
     }
 }
 
@@ -146,10 +127,9 @@ pub fn joined(nets: Nets) -> Nets
 pub fn paid(nets: Nets) -> Nets
     ensures { result ≡ record { today = nets.today; cleared = signed_fen (pos 0) } }
 {
-    let today = nets.today;
     Nets {
-        today,
         cleared: SignedFen(0),
+        ..nets
     }
 }
 
@@ -161,18 +141,9 @@ pub fn client_pays(nets: Nets) -> bool
 }
 
 // The size of the net due.
-#[tactic(auto, using(crate::proofs::NetLaws::negated, crate::proofs::NetLaws::not_negative))]
 pub fn net_due(nets: Nets) -> Fen
     requires { net_fit nets.cleared.0 ≡ true }
     ensures { result.0 ≡ unsigned_abs nets.cleared.0 }
 {
-    let cleared = nets.cleared;
-    let net = cleared.0;
-    if net < 0 {
-        let below = 0 - net;
-        let size = below as u64;
-        return Fen(size);
-    }
-    let size = net as u64;
-    Fen(size)
+    Fen(nets.cleared.0.unsigned_abs())
 }

@@ -21,16 +21,11 @@ fn opened_standing(calendar: &[u32], standing: Standing) -> Standing
     requires { length calendar.now ≤ calendar_limit }
     ensures { result ≡ opened_standing calendar.now standing }
 {
-    let day = standing.day;
-    let status = standing.status;
-    let failed = standing.failed;
-    let short = standing.short;
     Standing {
-        day: days::next_day(calendar, day),
+        day: days::next_day(calendar, standing.day),
         phase: Phase::Trading,
-        status: status::status_at_open(status, failed, short),
-        failed,
-        short,
+        status: status::status_at_open(standing.status, standing.failed, standing.short),
+        ..standing
     }
 }
 
@@ -40,10 +35,7 @@ fn turns_terminated(before: Standing, after: Standing) -> bool
     requires { after.status ≡ status_at_open before.status before.failed before.short }
     ensures { result ≡ turns_terminated before }
 {
-    if before.is_terminated() {
-        return false;
-    }
-    after.is_terminated()
+    !before.is_terminated() && after.is_terminated()
 }
 
 // Art. 72: every trade is redeemed whole at its fallback price on the day opened.
@@ -52,8 +44,7 @@ fn fallback_sum(calendar: &[u32], scalars: Scalars, table: &[u64], after: Standi
     ensures { ((rows : Rows) → result ≡ fen (fallback_sum calendar.now (book_of scalars rows) (trades_of table.now)))
         × (result.0 ≤ amount_bound) }
 {
-    let day = after.day;
-    let payment = days::payment_day(calendar, day);
+    let payment = days::payment_day(calendar, after.day);
     let plan = redemption::termination_plan(table, scalars.trades, payment);
     plan.amount
 }
@@ -87,10 +78,11 @@ fn terminated(
     }
     // every due day has 32 bits, so every trade is due by the last of them
     redemption::redeem_due(table, scalars.trades, 4_294_967_295);
-    let mut next = state::with_unpaid(scalars, unpaid::cleared_plus(sums.unpaid, amount));
-    next.nets = with_fallbacks;
-    next.standing = after;
-    Ok(done::answered(0, next))
+    Ok(done::accepted(Scalars {
+        nets: with_fallbacks,
+        standing: after,
+        ..state::with_unpaid(scalars, unpaid::cleared_plus(sums.unpaid, amount))
+    }))
 }
 
 // The day opened, with what was posted before.
@@ -118,9 +110,10 @@ fn turned(calendar: &[u32], scalars: Scalars, table: &mut [u64]) -> Result<Done,
     if turns_terminated(standing, after) {
         return terminated(calendar, scalars, table, after);
     }
-    let mut next = scalars;
-    next.standing = after;
-    Ok(done::answered(0, next))
+    Ok(done::accepted(Scalars {
+        standing: after,
+        ..scalars
+    }))
 }
 
 // What was posted is forgotten, unless Open is refused.

@@ -85,15 +85,10 @@ fn failed_more(failed: FailedRun) -> FailedRun
 fn paid_standing(standing: Standing, failed: FailedRun) -> Standing
     ensures { result ≡ paid_standing failed standing }
 {
-    let day = standing.day;
-    let status = standing.status;
-    let short = standing.short;
     Standing {
-        day,
         phase: Phase::Paid,
-        status,
         failed,
-        short,
+        ..standing
     }
 }
 
@@ -103,10 +98,10 @@ fn not_made(scalars: Scalars) -> Scalars
     ensures { (rows : Rows) → book_of result rows ≡ after_pay true (book_of scalars rows) }
 {
     let standing = scalars.standing;
-    let failed = standing.failed;
-    let mut next = scalars;
-    next.standing = paid_standing(standing, failed_more(failed));
-    next
+    Scalars {
+        standing: paid_standing(standing, failed_more(standing.failed)),
+        ..scalars
+    }
 }
 
 #[tactic(auto, unfolding(rules::specs::Pay::after_pay, money::specs::Causes::first_of))]
@@ -116,15 +111,12 @@ fn paid(scalars: Scalars) -> Scalars
         × (scalars.cash.own.0 + scalars.cash.client.0 ≤ cash_limit) }
     ensures { (rows : Rows) → book_of result rows ≡ after_pay false (book_of scalars rows) }
 {
-    let nets = scalars.nets;
-    let cash = scalars.cash;
-    let standing = scalars.standing;
-    let sums = scalars.sums;
-    let mut next = state::with_unpaid(scalars, unpaid::paid(sums.unpaid));
-    next.nets = nets::paid(nets);
-    next.cash = cash_moved(nets, cash);
-    next.standing = paid_standing(standing, FailedRun::NotFailed);
-    next
+    Scalars {
+        nets: nets::paid(scalars.nets),
+        cash: cash_moved(scalars.nets, scalars.cash),
+        standing: paid_standing(scalars.standing, FailedRun::NotFailed),
+        ..state::with_unpaid(scalars, unpaid::paid(scalars.sums.unpaid))
+    }
 }
 
 #[tactic(auto, using(crate::proofs::Refusing::turned_down, crate::proofs::Refusing::carried_out), unfolding(rules::specs::Step::event_causes, rules::specs::Fit::nets_fit, money::specs::Causes::first_of))]
@@ -136,7 +128,7 @@ pub fn pay(scalars: Scalars) -> Result<Done, Refusal>
     let nets = scalars.nets;
     let cash = scalars.cash;
     if falls_short(nets, cash) {
-        return Ok(done::answered(99, not_made(scalars)));
+        return Ok(done::not_paid(not_made(scalars)));
     }
-    Ok(done::answered(0, paid(scalars)))
+    Ok(done::accepted(paid(scalars)))
 }

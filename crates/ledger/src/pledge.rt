@@ -12,7 +12,7 @@ use crate::held;
 use money::limits::{CASH_KIND, UNIT_LIMIT};
 use money::refusal::Refusal;
 use money::units::Fen;
-use rules::book::Guarantee;
+use rules::book::{Cash, Guarantee, Security};
 use scalars::done;
 use scalars::done::Done;
 use scalars::state::Scalars;
@@ -49,8 +49,7 @@ fn pledge_refusal(scalars: Scalars, held: &[u64], kind: u8, units: u64) -> Resul
         }
         return Ok(());
     }
-    let guarantee = scalars.guarantee;
-    if UNIT_LIMIT - units_of(held, guarantee, kind) < units {
+    if UNIT_LIMIT - units_of(held, scalars.guarantee, kind) < units {
         return Err(Refusal::PastLimit);
     }
     Ok(())
@@ -63,21 +62,24 @@ fn put_arrived(held: &mut [u64], kind: u8, units: u64)
         × (postings_of held.new ≡ postings_of held.old) }
 {
     let at = kind as usize;
-    let mut security = held::security_at(&*held, at);
-    security.arriving = security.arriving + units;
-    held::put_security(held, at, security);
+    let security = held::security_at(&*held, at);
+    held::put_security(
+        held,
+        at,
+        Security {
+            arriving: security.arriving + units,
+            ..security
+        },
+    );
 }
 
 fn cash_arrived(guarantee: Guarantee, amount: Fen) -> Guarantee
     requires { guarantee.arriving.0 + amount.0 ≤ cash_limit }
     ensures { result ≡ cash_arrived amount.0 guarantee }
 {
-    let effective = guarantee.effective;
-    let frozen = guarantee.frozen;
     Guarantee {
-        effective,
         arriving: Fen(guarantee.arriving.0 + amount.0),
-        frozen,
+        ..guarantee
     }
 }
 
@@ -94,12 +96,15 @@ pub fn pledge(scalars: Scalars, held: &mut [u64], kind: u8, units: u64) -> Resul
     pledge_refusal(scalars, &*held, kind, units)?;
     if kind == CASH_KIND {
         let own = scalars.cash.own.0 - units;
-        let guarantee = scalars.guarantee;
-        let mut next = scalars;
-        next.cash.own.0 = own;
-        next.guarantee = cash_arrived(guarantee, Fen(units));
-        return Ok(done::answered(0, next));
+        return Ok(done::accepted(Scalars {
+            cash: Cash {
+                own: Fen(own),
+                ..scalars.cash
+            },
+            guarantee: cash_arrived(scalars.guarantee, Fen(units)),
+            ..scalars
+        }));
     }
     put_arrived(held, kind, units);
-    Ok(done::answered(0, scalars))
+    Ok(done::accepted(scalars))
 }

@@ -17,10 +17,7 @@ use scalars::state::Scalars;
 fn bad_term(term: u64) -> bool
     ensures { result ≡ bad_term term }
 {
-    if term == 0 {
-        return true;
-    }
-    term > LONGEST_TERM
+    term == 0 || term > LONGEST_TERM
 }
 
 #[tactic(auto, unfolding(rules::specs::Post::post_causes, money::specs::Causes::first_of))]
@@ -38,9 +35,7 @@ fn post_refusal(scalars: Scalars, product: u8, posting: Posting) -> Result<(), R
     if standing.is_terminated() {
         return Err(Refusal::PermissionEnded);
     }
-    let price = posting.price;
-    let fallback = posting.fallback;
-    if prices::bad_prices(price, fallback) {
+    if prices::bad_prices(posting.price, posting.fallback) {
         return Err(Refusal::BadPrice);
     }
     if bad_term(posting.term) {
@@ -64,5 +59,5 @@ pub fn post(
 {
     post_refusal(scalars, product, posting)?;
     postings::put_posting(held, product as usize, posting);
-    Ok(done::answered(0, scalars))
+    Ok(done::accepted(scalars))
 }

@@ -8,8 +8,5 @@ use money::units::Ticks;
 pub fn bad_prices(price: Ticks, fallback: Ticks) -> bool
     ensures { result ≡ bad_prices price fallback }
 {
-    if price.0 > PRICE_LIMIT {
-        return true;
-    }
-    fallback.0 > PRICE_LIMIT
+    price.0 > PRICE_LIMIT || fallback.0 > PRICE_LIMIT
 }

@@ -8,6 +8,7 @@ ghost use Rattle.ledger.specs.Flat.{rows_of, book_of, applied_by, applied_at, he
 use crate::held;
 use money::limits::{CASH_KIND, RATE_LIMIT};
 use money::refusal::Refusal;
+use rules::book::Security;
 use scalars::done;
 use scalars::done::Done;
 use scalars::state::Scalars;
@@ -35,8 +36,7 @@ pub fn set_rate(scalars: Scalars, held: &mut [u64], kind: u8, rate: u64) -> Resu
 {
     rate_refusal(kind, rate)?;
     let at = kind as usize;
-    let mut security = held::security_at(&*held, at);
-    security.rate = rate;
-    held::put_security(held, at, security);
-    Ok(done::answered(0, scalars))
+    let security = held::security_at(&*held, at);
+    held::put_security(held, at, Security { rate, ..security });
+    Ok(done::accepted(scalars))
 }

@@ -37,7 +37,5 @@ pub fn set_size(scalars: Scalars, outstanding: Sheets, size: Sheets) -> Result<D
         → applied_at (done_by scalars result) rows ≡ applied_by (first_of (size_causes book table size)) book (sized book size) }
 {
     size_refusal(outstanding, size)?;
-    let mut next = scalars;
-    next.size = size;
-    Ok(done::answered(0, next))
+    Ok(done::accepted(Scalars { size, ..scalars }))
 }

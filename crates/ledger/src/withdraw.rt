@@ -86,7 +86,8 @@ pub fn withdraw(
     let at = scalars.applications;
     kinds[at] = kind;
     units[at] = count;
-    let mut next = scalars;
-    next.applications = at + 1;
-    Ok(done::answered(0, next))
+    Ok(done::accepted(Scalars {
+        applications: at + 1,
+        ..scalars
+    }))
 }

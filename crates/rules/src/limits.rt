@@ -7,12 +7,10 @@ pub const CAPACITY_LIMIT: usize = 4_096;
 pub const SIZE_LIMIT: u64 = 10_000_000_000;
 
 // "either net 4×10^18 up or down"
-pub const NET_LIMIT: i64 = 4_000_000_000_000_000_000;
-
-pub const NET_LIMIT_DOWN: i64 = -4_000_000_000_000_000_000;
+pub const NET_LIMIT: u64 = 4_000_000_000_000_000_000;
 
 // "U has the limit of a net"
-pub const UNPAID_LIMIT: u64 = NET_LIMIT as u64;
+pub const UNPAID_LIMIT: u64 = NET_LIMIT;
 
 // "up to 128 applications stand for the evening"
 pub const APPLICATION_LIMIT: usize = 128;

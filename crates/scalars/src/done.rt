@@ -36,6 +36,20 @@ pub fn answered(number: u8, scalars: Scalars) -> Done
     }
 }
 
+// Done is 0.
+pub fn accepted(scalars: Scalars) -> Done
+    ensures { result ≡ record { answer = answer 0; scalars = scalars } }
+{
+    answered(0, scalars)
+}
+
+// A payment that is not made is accepted too.
+pub fn not_paid(scalars: Scalars) -> Done
+    ensures { result ≡ record { answer = answer 99; scalars = scalars } }
+{
+    answered(99, scalars)
+}
+
 // A refusal's number, beside the scalars as they were.
 pub fn refused(refusal: Refusal, scalars: Scalars) -> Done
     ensures { result ≡ record { answer = answer (refusal_number refusal); scalars = scalars } }

@@ -6,4 +6,4 @@ pub returns : goal.returns
 unfolding closed_book is_short_close
 returns c =
     λ calendar rows held trades table nets unpaid end valued left kept posted.
-    rw (c.closed_standing-next.ensures, c.short_at_close.ensures, c.is_short-is_short.ensures, c.with_unpaid-next.ensures, valued, nets, unpaid, sym end, left, kept, posted)
+    rw (c.closed_standing.ensures, c.short_at_close-short.ensures, c.is_short-is_short.ensures, c.with_unpaid.ensures, valued, nets, unpaid, sym end, left, kept, posted)

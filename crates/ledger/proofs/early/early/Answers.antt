@@ -34,8 +34,8 @@ put_sheets-requires c =
     let r = early-redeems _ _ _ _ _ _ _ c.requires.fits c.place_of-place.ensures (c.in_ok-early_refusal.ensures c.requires.rows) in
     omega (arith, r.below, (fit-keeps _ _ _ c.requires.fits).room)
 
-pub today_plus-next-requires : goal.today_plus-next-requires
-today_plus-next-requires c =
+pub today_plus-requires : goal.today_plus-requires
+today_plus-requires c =
     let s = c.args in
     let book = book_of s.scalars c.requires.rows in
     let r = early-redeems _ book _ _ _ _ _ c.requires.fits c.place_of-place.ensures (c.in_ok-early_refusal.ensures c.requires.rows) in
@@ -54,7 +54,7 @@ returns c rows =
     let written = c.put_sheets.ensures ∙ ap (λ n. set (trades_of a.table.now) c.place_of-place.result (with_sheets n trade)) rest in
     let taken-off = take-off-here _ _ _ _ (fit-keeps _ _ _ c.requires.fits).room c.place_of-place.ensures _ r.below in
     let within = early-within a.calendar.now (book_of a.scalars rows) (trades_of a.table.now) a.contract a.count a.price none-applies in (
-      carried_out _ _ rows _ _ none-applies c.answered.ensures (rw (c.today_plus-next.ensures, c.with_unpaid-next.ensures, c.today_plus.ensures, c.early_plan-plan.ensures rows, within)),
+      carried_out _ _ rows _ _ none-applies c.accepted.ensures (rw (c.today_plus.ensures, c.with_unpaid.ensures, c.today_plus-2.ensures, c.early_plan-plan.ensures rows, within)),
       rw (← none-applies) (written ∙ taken-off),
     )
 

@@ -10,10 +10,6 @@ pub figures_moved-requires : goal.figures_moved-requires
 figures_moved-requires c =
     (c.requires.0, (rw c.in-Some.is at c.requires.1).1 c.if-number-ne0.false)
 
-pub returns-in-Some : goal.returns-in-Some
-returns-in-Some c =
-    c.figures_moved.ensures
-
-pub returns-in-None : goal.returns-in-None
-returns-in-None c =
-    sym (rw c.in-None.is at c.requires.1)
+pub returns-in_default : goal.returns-in_default
+returns-in_default c =
+    sym (rw c.in_default.is at c.requires.1)

@@ -1,4 +1,4 @@
-use Rattle.std.specs.Prelude.{◌≡◌, ℕ, ◌<◌, ◌≤◌, []}
+use Rattle.std.specs.Prelude.{◌≡◌, ℕ, ◌<◌, []}
 use mathlib.Core.Path.{refl, sym}
 use mathlib.Core.Option.{none}
 use native.Mathlib.Omega.{arith}
@@ -23,7 +23,7 @@ returns-in_err-freeze_refusal c kinds amounts =
 pub returns-then-kind-eq-CASH_KIND : goal.returns-then-kind-eq-CASH_KIND
 unfolding frozen
 returns-then-kind-eq-CASH_KIND c kinds amounts =
-    carried_out _ _ (rows_of _ kinds amounts) _ _ (c.in_ok-freeze_refusal.ensures kinds amounts) c.answered.ensures (rw (c.cash_frozen-next.ensures, eq-eqb _ _ c.if-kind-eq-CASH_KIND.true))
+    carried_out _ _ (rows_of _ kinds amounts) _ _ (c.in_ok-freeze_refusal.ensures kinds amounts) c.accepted.ensures (rw (c.cash_frozen.ensures, eq-eqb _ _ c.if-kind-eq-CASH_KIND.true))
 
 pub put_frozen-requires : goal.put_frozen-requires
 put_frozen-requires c =
@@ -35,5 +35,5 @@ returns c kinds amounts =
     let a = c.args in
     let known = security-kind (book_of a.scalars (rows_of a.held.now kinds amounts)) _ _ (c.in_ok-freeze_refusal.ensures kinds amounts) c.if-kind-eq-CASH_KIND.false in
     let row = security-at-row a.held.now a.scalars.guarantee a.kind known in
-    carried_out _ _ (rows_of a.held.now kinds amounts) _ _ (c.in_ok-freeze_refusal.ensures kinds amounts) c.answered-2.ensures
+    carried_out _ _ (rows_of a.held.now kinds amounts) _ _ (c.in_ok-freeze_refusal.ensures kinds amounts) c.accepted-2.ensures
     (rw (c.put_frozen.ensures.0, c.put_frozen.ensures.1, ne_eqb _ _ c.if-kind-eq-CASH_KIND.false, row))

@@ -30,7 +30,7 @@ returns-in_err-fund_in_refusal c rows =
 pub returns : goal.returns
 unfolding funded_in
 returns c rows =
-    carried_out _ _ rows _ _ (c.in_ok-fund_in_refusal.ensures rows) c.answered.ensures (rw (c.with_account-next.ensures, c.balance-held.ensures))
+    carried_out _ _ rows _ _ (c.in_ok-fund_in_refusal.ensures rows) c.accepted.ensures (rw (c.with_account-cash.ensures, c.balance-held.ensures))
 
 pub overflow_add-sum : goal.overflow_add-sum
 overflow_add-sum c =

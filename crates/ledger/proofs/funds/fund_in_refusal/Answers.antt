@@ -1,10 +1,8 @@
-use Rattle.std.specs.Prelude.{◌+◌, ◌<◌, ◌≤◌}
+use Rattle.std.specs.Prelude.{◌≤◌}
 use native.Mathlib.Omega.{arith}
 use Rattle.money.specs.Limits.{cash_limit}
 use Rattle.rules.specs.Fit.{all_cash}
-use Rattle.rules.specs.Funds.{fund_in_causes}
 use Rattle.rules.proofs.FitParts.{cash-fits}
-use Rattle.ledger.proofs.Column.{column}
 use Rattle.ledger.proofs.funds.fund_in_refusal.Goals as goal
 
 pub overflow_add-cash : goal.overflow_add-cash

@@ -23,7 +23,7 @@ returns-in_err-fund_out_refusal c rows =
 pub returns : goal.returns
 unfolding funded_out
 returns c rows =
-    carried_out _ _ rows _ _ (c.in_ok-fund_out_refusal.ensures rows) c.answered.ensures (rw (c.with_account-next.ensures, c.balance-held.ensures))
+    carried_out _ _ rows _ _ (c.in_ok-fund_out_refusal.ensures rows) c.accepted.ensures (rw (c.with_account-cash.ensures, c.balance-held.ensures))
 
 pub overflow_sub-rest : goal.overflow_sub-rest
 overflow_sub-rest c =

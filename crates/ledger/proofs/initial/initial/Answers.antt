@@ -1,6 +1,5 @@
 use Rattle.std.specs.Prelude.{[]}
-use Rattle.std.proofs.lemmas.Result.{err_from_is_err_and}
-use mathlib.Core.Path.{refl, sym, ◌∙◌}
+use mathlib.Core.Path.{refl, ◌∙◌}
 use native.Mathlib.Omega.{arith}
 use Rattle.money.specs.Money.{principal}
 use Rattle.rules.specs.Initial.{initial_book, initial_table}
@@ -32,7 +31,7 @@ unfolding initial_book initial_table
 returns c kinds units =
     let none-applies = c.in_ok-initial_refusal.ensures kinds units in
     let rows = rows_of c.args.held.now kinds units in (
-      carried_out _ _ rows _ _ none-applies c.answered.ensures (rw (c.with_nets_and_trades.ensures, c.today_less-nets.ensures, c.principal_of.ensures)),
+      carried_out _ _ rows _ _ none-applies c.accepted.ensures (rw (c.with_nets_and_trades.ensures, c.today_less-nets.ensures, c.principal_of.ensures)),
       c.put_trade.ensures.0 ∙ rw (c.begun_trade.ensures rows, ← none-applies) refl,
     )
 

@@ -65,8 +65,8 @@ returns c rows =
     let unpaid = c.args.scalars.sums.unpaid in
     let cleared = c.cleared_plus-with_fallbacks.ensures ∙ ap (λ (amount : Fen). record { today = nets.today; cleared = signed_fen (nets.cleared.0 +ℤ pos amount.0) }) (c.fallback_sum-amount.ensures.0 rows) in
     let owed = c.cleared_plus.ensures ∙ ap (λ (amount : Fen). unless_past amount.0 unpaid (cleared_plus amount.0 unpaid)) (c.fallback_sum-amount.ensures.0 rows) ∙ not-past unpaid _ _ within in
-    let owing = c.with_unpaid-next.ensures ∙ ap (λ (unpaid : Unpaid). with_unpaid unpaid c.args.scalars) owed in (
-      carried_out _ _ rows _ _ (sym e) c.answered.ensures (terminated-book calendar c.args.scalars c.with_unpaid-next.result rows (trades_of table) c.cleared_plus-with_fallbacks.result c.args.after ended c.requires.opening.opened cleared owing),
+    let owing = c.with_unpaid.ensures ∙ ap (λ (unpaid : Unpaid). with_unpaid unpaid c.args.scalars) owed in (
+      carried_out _ _ rows _ _ (sym e) c.accepted.ensures (terminated-book calendar c.args.scalars c.with_unpaid.result rows (trades_of table) c.cleared_plus-with_fallbacks.result c.args.after ended c.requires.opening.opened cleared owing),
       c.redeem_due.ensures ∙ rw (e, ended, fit-in-use calendar (book_of c.args.scalars c.requires.opening.book.rows) table c.requires.opening.book.fits, all-due table c.args.scalars.trades),
       sym e,
     )

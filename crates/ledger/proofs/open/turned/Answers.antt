@@ -44,4 +44,4 @@ returns c rows =
     let follows : (followed c.args.calendar.now (following c.args.calendar.now c.args.scalars.standing.day)) ≡ true = sym c.opens.ensures ∙ not-false _ (ap not c.if-not-opens.false) in
     let stays = sym c.turns_terminated.ensures ∙ c.if-turns_terminated.false in
     let e = none-unless-ended c.args.calendar.now (book_of c.args.scalars rows) (trades_of c.args.table.now) closed follows stays in
-    (rw (c.answered.ensures, e, c.opened_standing-after.ensures, stays) refl, rw (e, stays) refl, sym e)
+    (rw (c.accepted.ensures, e, c.opened_standing-after.ensures, stays) refl, rw (e, stays) refl, sym e)

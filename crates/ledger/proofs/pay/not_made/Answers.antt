@@ -4,4 +4,4 @@ use Rattle.ledger.proofs.pay.not_made.Goals as goal
 pub returns : goal.returns
 unfolding after_pay
 returns c rows =
-    rw (c.paid_standing-next.ensures, c.failed_more.ensures)
+    rw (c.paid_standing.ensures, c.failed_more.ensures)

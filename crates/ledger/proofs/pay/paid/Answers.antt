@@ -4,4 +4,4 @@ use Rattle.ledger.proofs.pay.paid.Goals as goal
 pub returns : goal.returns
 unfolding after_pay
 returns c rows =
-    rw (c.paid_standing-next.ensures, c.cash_moved-next.ensures, c.paid-next.ensures, c.with_unpaid-next.ensures, c.paid.ensures)
+    rw (c.paid_standing.ensures, c.cash_moved.ensures, c.with_unpaid.ensures, c.paid.ensures, c.paid-2.ensures)

@@ -23,7 +23,7 @@ falls_short-requires c = cleared-fits _ c.requires.0
 
 pub returns-then-falls_short : goal.returns-then-falls_short
 returns-then-falls_short c rows =
-    rw (c.answered.ensures, c.not_made.ensures rows, ← c.in_ok-pay_refusal.ensures rows, sym c.falls_short.ensures ∙ c.if-falls_short.true) refl
+    rw (c.not_paid.ensures, c.not_made.ensures rows, ← c.in_ok-pay_refusal.ensures rows, sym c.falls_short.ensures ∙ c.if-falls_short.true) refl
 
 pub paid-requires : goal.paid-requires
 paid-requires c =
@@ -31,4 +31,4 @@ paid-requires c =
 
 pub returns : goal.returns
 returns c rows =
-    rw (c.answered-2.ensures, c.paid.ensures rows, ← c.in_ok-pay_refusal.ensures rows, sym c.falls_short.ensures ∙ c.if-falls_short.false) refl
+    rw (c.accepted.ensures, c.paid.ensures rows, ← c.in_ok-pay_refusal.ensures rows, sym c.falls_short.ensures ∙ c.if-falls_short.false) refl

@@ -35,15 +35,15 @@ pub returns-in_err-pledge_refusal : goal.returns-in_err-pledge_refusal
 returns-in_err-pledge_refusal c kinds amounts =
     turned_down _ _ (rows_of _ kinds amounts) _ _ _ _ c.from_residual.ensures.1 (c.in_err-pledge_refusal.ensures kinds amounts) refl
 
-pub cash_arrived-next-requires : goal.cash_arrived-next-requires
-cash_arrived-next-requires c =
+pub cash_arrived-requires : goal.cash_arrived-requires
+cash_arrived-requires c =
     let a = c.args in
     omega (arith, owned (book_of a.scalars (rows_of a.held.now [] [])) a.kind a.units (c.in_ok-pledge_refusal.ensures [] []) c.if-kind-eq-CASH_KIND.true, (cash-fits _ _ c.requires.2).sum)
 
 pub returns-then-kind-eq-CASH_KIND : goal.returns-then-kind-eq-CASH_KIND
 unfolding pledged
 returns-then-kind-eq-CASH_KIND c kinds amounts =
-    carried_out _ _ (rows_of _ kinds amounts) _ _ (c.in_ok-pledge_refusal.ensures kinds amounts) c.answered.ensures (rw (c.cash_arrived-next.ensures, eq-eqb _ _ c.if-kind-eq-CASH_KIND.true))
+    carried_out _ _ (rows_of _ kinds amounts) _ _ (c.in_ok-pledge_refusal.ensures kinds amounts) c.accepted.ensures (rw (c.cash_arrived.ensures, eq-eqb _ _ c.if-kind-eq-CASH_KIND.true))
 
 pub put_arrived-requires : goal.put_arrived-requires
 put_arrived-requires c =
@@ -60,7 +60,7 @@ returns c kinds amounts =
     let a = c.args in
     let known = security-kind (book_of a.scalars (rows_of a.held.now kinds amounts)) a.kind a.units (c.in_ok-pledge_refusal.ensures kinds amounts) c.if-kind-eq-CASH_KIND.false in
     let row = security-at-row a.held.now a.scalars.guarantee a.kind known in
-    carried_out _ _ (rows_of a.held.now kinds amounts) _ _ (c.in_ok-pledge_refusal.ensures kinds amounts) c.answered-2.ensures
+    carried_out _ _ (rows_of a.held.now kinds amounts) _ _ (c.in_ok-pledge_refusal.ensures kinds amounts) c.accepted-2.ensures
     (rw (c.put_arrived.ensures.0, c.put_arrived.ensures.1, ne_eqb _ _ c.if-kind-eq-CASH_KIND.false, row))
 
 pub overflow_sub-own : goal.overflow_sub-own

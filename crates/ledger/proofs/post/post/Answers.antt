@@ -29,4 +29,4 @@ unfolding posted
 returns c kinds units =
     let put = c.put_posting.ensures in
     let rows = rows_of c.args.held.now kinds units in
-    carried_out _ _ rows _ _ (c.in_ok-post_refusal.ensures rows) c.answered.ensures (rw (put.0, put.1))
+    carried_out _ _ rows _ _ (c.in_ok-post_refusal.ensures rows) c.accepted.ensures (rw (put.0, put.1))

@@ -1,11 +1,11 @@
 use Rattle.std.specs.Prelude.{◌≡◌, ℕ, ◌<◌}
-use mathlib.Core.Path.{refl, sym}
+use mathlib.Core.Path.{sym}
 use mathlib.Core.Option.{none}
 use borrow.Author.Tests.{leb-false}
 use Rattle.money.specs.Causes.{first_of}
 use Rattle.rules.specs.Rate.{rate_causes, rated}
 use Rattle.rules.proofs.Accepted.{all-clear}
-use Rattle.ledger.specs.Flat.{rows_of, book_of}
+use Rattle.ledger.specs.Flat.{rows_of}
 use Rattle.ledger.proofs.HeldLaws.{security-at-row}
 use Rattle.ledger.proofs.Refusing.{carried_out}
 use Rattle.ledger.proofs.rate.set_rate.Goals as goal
@@ -25,5 +25,5 @@ unfolding rated
 returns c kinds units =
     let a = c.args in
     let here = security-at-row a.held.now a.scalars.guarantee a.kind (security-kind _ a.rate c.in_ok-rate_refusal.ensures) in
-    carried_out _ _ (rows_of a.held.now kinds units) _ _ c.in_ok-rate_refusal.ensures c.answered.ensures
+    carried_out _ _ (rows_of a.held.now kinds units) _ _ c.in_ok-rate_refusal.ensures c.accepted.ensures
     (rw (c.put_security.ensures.0, c.put_security.ensures.1, c.security_at-security.ensures, here))

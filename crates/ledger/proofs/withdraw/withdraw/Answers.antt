@@ -30,10 +30,10 @@ pub returns : goal.returns
 unfolding withdrawn
 returns c =
     let a = c.args in
-    carried_out _ _ (rows_of a.held.now a.kinds.now a.units.now) _ _ c.in_ok-withdraw_refusal.ensures c.answered.ensures refl
+    carried_out _ _ (rows_of a.held.now a.kinds.now a.units.now) _ _ c.in_ok-withdraw_refusal.ensures c.accepted.ensures refl
 
 pub offset_bounds-units-at : goal.offset_bounds-units-at
 offset_bounds-units-at c = omega (arith, room-for-one _ _ _ c.in_ok-withdraw_refusal.ensures)
 
-pub overflow_add-next : goal.overflow_add-next
-overflow_add-next c = omega (arith, room-for-one _ _ _ c.in_ok-withdraw_refusal.ensures)
+pub overflow_add-at : goal.overflow_add-at
+overflow_add-at c = omega (arith, room-for-one _ _ _ c.in_ok-withdraw_refusal.ensures)
