@@ -40,8 +40,8 @@ unfolding lines_text
 next-lines numbers k line e =
     rw (add-one k, e) (ap (λ (place : ℕ). lines_text k numbers ++ line_text place (line_from (drop (k * 7) numbers))) (omega arith))
 
-pub length-next : (numbers : List ℕ) (k : ℕ) (line : Line) → line ≡ line_from (drop (k * 7) numbers) → length (lines_text (k + 1) numbers) ≡ length (lines_text k numbers) + length (line_text (k + 1) line)
-length-next numbers k line e = ap length (next-lines numbers k line e) ∙ length-append (lines_text k numbers) (line_text (k + 1) line)
+pub length_next : (numbers : List ℕ) (k : ℕ) (line : Line) → line ≡ line_from (drop (k * 7) numbers) → length (lines_text (k + 1) numbers) ≡ length (lines_text k numbers) + length (line_text (k + 1) line)
+length_next numbers k line e = ap length (next-lines numbers k line e) ∙ length-append (lines_text k numbers) (line_text (k + 1) line)
 
 pub no_lines : (numbers : List ℕ) → lines_text 0 numbers ≡ []
 unfolding lines_text
@@ -51,7 +51,7 @@ grows : (numbers : List ℕ) (k more : ℕ) → length (lines_text k numbers) �
 grows numbers k zero = rw (add-zero k) (le_refl _)
 grows numbers k (suc more) =
     let line = line_from (drop ((k + more) * 7) numbers) in
-    rw (add-suc k more) (omega (arith, rw (add-one (k + more)) at (length-next numbers (k + more) line refl), grows numbers k more))
+    rw (add-suc k more) (omega (arith, rw (add-one (k + more)) at (length_next numbers (k + more) line refl), grows numbers k more))
 
 -- the first lines are no longer than all
 within : (numbers : List ℕ) (k count : ℕ) → k ≤ count → length (lines_text k numbers) ≤ length (lines_text count numbers)
@@ -60,7 +60,7 @@ within numbers k count h = let e : k + (count - k) ≡ count = omega arith in rw
 -- where all lines fit, so does the one after the first k
 pub line-fits : (numbers text : List ℕ) (k count : ℕ) (line : Line) → line ≡ line_from (drop (k * 7) numbers) → k < count
     → length (lines_text count numbers) ≤ length text → 0 + length (lines_text k numbers) + length (line_text (k + 1) line) ≤ length text
-line-fits numbers text k count line e more fits = omega (arith, length-next numbers k line e, within numbers (k + 1) count (omega arith), fits)
+line-fits numbers text k count line e more fits = omega (arith, length_next numbers k line e, within numbers (k + 1) count (omega arith), fits)
 
 -- numbers behind the lines' own are not read
 same_line : (count : ℕ) (numbers rest : List ℕ) → count * 7 + 7 ≤ length numbers → line_from (drop (count * 7) (numbers ++ rest)) ≡ line_from (drop (count * 7) numbers)

@@ -67,10 +67,7 @@ pub all-due : {text whole : List ℕ} {at : ℕ} → at + length whole ≤ lengt
 all-due h = record { long = h; ends = refl; puts = refl }
 
 module _ {text whole text' : List ℕ} {at at' : ℕ} where
-  -- the first part has room, and is put
-  pub first-fits : (a rest : List ℕ) → Due text at whole text' at' (a ++ rest) → at' + length a ≤ length text'
-  first-fits a rest d = omega (arith, d.long, length-append a rest)
-
+  -- the first part is put
   pub first-put : (a rest : List ℕ) {text'' : List ℕ} {at'' : ℕ} → Due text at whole text' at' (a ++ rest) → (at'' ≡ at' + length a) × (text'' ≡ placed text' at' a) → Due text at whole text'' at'' rest
   first-put a rest d s =
       let both = length-append a rest in
@@ -148,22 +145,22 @@ length-decimal number = omega (arith, length_digits 10 (places_to 19 number) num
 
 -- ---- a headroom, and a line
 
-pub signed-plain : (negative size : ℕ) → negative ≡ 0 → signed negative size ≡ spaced size
+pub signed_plain : (negative size : ℕ) → negative ≡ 0 → signed negative size ≡ spaced size
 unfolding signed
-signed-plain negative size e = rw (eq-eqb negative 0 e)
+signed_plain negative size e = rw (eq-eqb negative 0 e)
 
-pub signed-minus : (negative size : ℕ) → (negative ≡ 0 → ⊥) → signed negative size ≡ 32 ∷ 45 ∷ decimal size
+pub signed_minus : (negative size : ℕ) → (negative ≡ 0 → ⊥) → signed negative size ≡ 32 ∷ 45 ∷ decimal size
 unfolding signed
-signed-minus negative size e = rw (ne_eqb negative 0 e)
+signed_minus negative size e = rw (ne_eqb negative 0 e)
 
-pub length-spaced : (number : ℕ) → length (spaced number) ≡ 1 + length (decimal number)
+pub length_spaced : (number : ℕ) → length (spaced number) ≡ 1 + length (decimal number)
 unfolding spaced
-length-spaced number = omega arith
+length_spaced number = omega arith
 
-pub length-line : (place : ℕ) (line : Line)
+pub length_line : (place : ℕ) (line : Line)
     → length (line_text place line) ≡ length (decimal place) + length (spaced line.answer) + length (signed line.negative line.size.0) + length (spaced line.outstanding.0) + length (spaced line.own.0) + length (spaced line.client.0) + length (spaced line.guarantee.0) + 1
 unfolding line_text
-length-line place line = simp length-append
+length_line place line = simp length-append
 
 -- a line's parts, each put after the one before
 pub line-due : (place : ℕ) (line : Line) {text : List ℕ} {at : ℕ} → at + length (line_text place line) ≤ length text

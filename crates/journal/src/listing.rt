@@ -12,7 +12,7 @@ use money::limits::CALENDAR_LIMIT;
 use rules::limits::{EVENT_BYTES, EVENT_LIMIT, LINE_NUMBERS};
 
 // How many bytes the lines of `count` events take.
-#[tactic(auto, using(crate::proofs::LineLaws::no_lines))]
+#[tactic(auto, using(crate::proofs::LineLaws::no_lines, crate::proofs::LineLaws::length_next))]
 fn lines_length(lines: &[u64], count: usize) -> usize
     requires { (count ≤ event_limit) × (count * line_numbers ≤ length lines.now) }
     ensures { result ≡ length (lines_text count lines.now) }

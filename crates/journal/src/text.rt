@@ -35,6 +35,7 @@ fn put_number(text: &mut [u8], at: usize, number: u64) -> usize
     put(text, at, &spelled[..count])
 }
 
+#[tactic(auto, using(crate::proofs::TextLaws::length_spaced))]
 fn put_spaced(text: &mut [u8], at: usize, number: u64) -> usize
     requires { at + length (spaced number) ≤ length text.old }
     ensures { (result ≡ at + length (spaced number)) × (text.new ≡ placed text.old at (spaced number)) }
@@ -44,6 +45,7 @@ fn put_spaced(text: &mut [u8], at: usize, number: u64) -> usize
 }
 
 // A headroom: its sign, 0 where there is none, and its size.
+#[tactic(auto, using(crate::proofs::TextLaws::signed_plain, crate::proofs::TextLaws::signed_minus))]
 fn put_signed(text: &mut [u8], at: usize, negative: u64, size: Sheets) -> usize
     requires { at + length (signed negative size.0) ≤ length text.old }
     ensures { (result ≡ at + length (signed negative size.0))
@@ -56,6 +58,7 @@ fn put_signed(text: &mut [u8], at: usize, negative: u64, size: Sheets) -> usize
     put_number(text, digits, size.0)
 }
 
+#[tactic(auto, using(crate::proofs::TextLaws::signed_plain, crate::proofs::TextLaws::signed_minus, crate::proofs::TextLaws::length_spaced))]
 fn signed_length(negative: u64, size: Sheets) -> usize
     ensures { (result ≡ length (signed negative size.0)) × (result ≤ 22) }
 {
@@ -95,6 +98,7 @@ pub fn line_at(lines: &[u64], from: usize) -> Line
 }
 
 // How many bytes a line takes: beside its numbers five spaces and the line end.
+#[tactic(auto, using(crate::proofs::TextLaws::length_line, crate::proofs::TextLaws::length_spaced))]
 pub fn line_length(place: usize, line: Line) -> usize
     ensures { (result ≡ length (line_text place line)) × (result ≤ line_bytes) }
 {
@@ -105,6 +109,7 @@ pub fn line_length(place: usize, line: Line) -> usize
     front + headroom + cash + rest + 6
 }
 
+#[tactic(auto, using(crate::proofs::TextLaws::length_line))]
 pub fn put_line(text: &mut [u8], at: usize, place: usize, line: Line) -> usize
     requires { at + length (line_text place line) ≤ length text.old }
     ensures { (result ≡ at + length (line_text place line)) × (text.new ≡ placed text.old at (line_text place line)) }
