@@ -42,16 +42,16 @@ trades-before front rest n e = same-front (front ++ rest) front n (λ j l. get_o
 abbrev pub Copied : List ℕ → List Trade → (k : ℕ) → Type 0
 Copied row table k = (i : ℕ) → i < k → get_or (trades_of row) i no_trade ≡ get_or table i no_trade
 
-pub next-copied : (row next : List ℕ) (table : List Trade) (k : ℕ) → k * width + 4 < length row → trades_of next ≡ set (trades_of row) k (get_or table k no_trade) → Copied row table k → Copied next table (k + 1)
-next-copied row next table k room e copied =
+pub copied_next : (row next : List ℕ) (table : List Trade) (k : ℕ) → k * width + 4 < length row → trades_of next ≡ set (trades_of row) k (get_or table k no_trade) → Copied row table k → Copied next table (k + 1)
+copied_next row next table k room e copied =
     let there : k < length (trades_of row) = omega (arith, length-trades row (capacity row), room) in
     rw e
     (below_more _ _
     (λ i l. let other : i ≢ k = omega arith in rw get_or-set_other (copied i l))
     (rw get_or-set_same))
 
-pub all-copied : (row : List ℕ) (table : List Trade) (k : ℕ) → length table * width ≤ length row → length table ≤ k → Copied row table k → trades_to row (length table) ≡ table
-all-copied row table k room end copied =
+pub copied_all : (row : List ℕ) (table : List Trade) (k : ℕ) → length table * width ≤ length row → length table ≤ k → Copied row table k → trades_to row (length table) ≡ table
+copied_all row table k room end copied =
     ext_get_or no_trade (trades_to row (length table)) table (length-trades row (length table))
     (λ i l.
     let inside : i < length table = omega (arith, length-trades row (length table), l) in
