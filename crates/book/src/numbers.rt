@@ -15,20 +15,15 @@ pub fn apply_flat(calendar: &[u32], book: Book, table: &mut [u64], entry: Option
         (result ≡ applied_of next)
         × (trades_of table.new ≡ next.table) }
 {
-    let vault = book.vault;
-    let withdrawals = book.withdrawals;
     let scalars = split::scalars_of(book);
-    let postings = book.postings;
-    let mut held = split::held_of(vault, postings);
-    let mut kinds = split::kinds_of(withdrawals);
-    let mut units = split::units_of(withdrawals);
+    let mut held = split::held_of(book.vault, book.postings);
+    let mut kinds = split::kinds_of(book.withdrawals);
+    let mut units = split::units_of(book.withdrawals);
     let done = lent::apply(
         calendar, scalars, &mut held, &mut kinds, &mut units, table, entry,
     );
-    let answer = done.answer;
-    let after = done.scalars;
     Applied {
-        answer,
-        book: split::book_of(after, &held, kinds, units),
+        answer: done.answer,
+        book: split::book_of(done.scalars, &held, kinds, units),
     }
 }

@@ -47,9 +47,9 @@ fn apply_by(
         × (table.new ≡ next.table) }
 {
     let n = table.len();
-    copies::copy_in(&*table, flat);
+    copies::copy_in(table, flat);
     let applied = apply_first(calendar, book, flat, n, entry);
-    copies::copy_out(&*flat, table);
+    copies::copy_out(flat, table);
     applied
 }
 
@@ -68,10 +68,7 @@ fn apply_in_numbers(calendar: &[u32], book: Book, table: &mut [Trade], entry: Op
 fn slots_used(book: Book, slots: usize) -> usize
     ensures { result ≡ min (book.trades + 1) slots }
 {
-    if book.trades < slots {
-        return book.trades + 1;
-    }
-    slots
+    book.trades.saturating_add(1).min(slots)
 }
 
 // One entry on any book and any table.

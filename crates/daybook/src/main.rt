@@ -5,6 +5,7 @@ ghost use Rattle.std.specs.Prelude.{◌≤◌, length, take};
 ghost use Rattle.daybook.specs.Input.{Lists, Within};
 
 use journal::limits::{JOURNAL_BYTES, LISTING_BYTES};
+use std::io;
 use std::io::Read;
 
 // One byte more than the longest journal has, so that a longer input, cut there, is still malformed.
@@ -13,28 +14,20 @@ const INPUT_BYTES: usize = JOURNAL_BYTES + 1;
 // Room for the longest listing.
 const TEXT_BYTES: usize = LISTING_BYTES;
 
-// How many bytes were read, or that a read failed.
-#[derive(Clone, Copy)]
-enum Input {
-    Read(usize),
-    Failed,
-}
-
-// The input to its end, or as much of it as there is room for.
-fn read_input<R: Read>(input: &mut R, room: &mut [u8]) -> Input
+// How many bytes the input has, read to its end, or as much of it as there is room for.
+fn read_input<R: Read>(input: &mut R, room: &mut [u8]) -> io::Result<usize>
     ensures { Within result (length room.new) }
 {
     let mut size = 0;
+    // A `while`: each step is as long as what one read gives.
     while size < room.len() {
-        let Ok(count) = input.read(&mut room[size..]) else {
-            return Input::Failed;
-        };
+        let count = input.read(&mut room[size..])?;
         if count == 0 {
-            return Input::Read(size);
+            break;
         }
         size += count;
     }
-    Input::Read(size)
+    Ok(size)
 }
 
 // The listing of the input of which the first `size` bytes were read, in front of a text that has room for every listing.
@@ -43,13 +36,12 @@ fn write_input(read: &[u8; INPUT_BYTES], size: usize, text: &mut [u8; TEXT_BYTES
     ensures { Lists (length read.now) (take size read.now) text.new result }
 {
     let room: &[u8] = read;
-    let written = journal::listing::write_listing(&room[..size], text);
-    written.length
+    journal::listing::write_listing(&room[..size], text).unwrap()
 }
 
 fn main(rt: HostRuntime) {
     let mut read = [0; INPUT_BYTES];
-    let Input::Read(size) = read_input(&mut rt.stdin(), &mut read) else {
+    let Ok(size) = read_input(&mut rt.stdin(), &mut read) else {
         let _ = eprintln!(rt; "daybook: cannot read standard input");
         return;
     };

@@ -1,3 +1,4 @@
 -- What crosses to C in another form than it has here.
 pub mod Codes
 pub mod Raw
+pub mod Journal

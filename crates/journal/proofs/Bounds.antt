@@ -1,6 +1,6 @@
 -- How long a journal and its listing can be: for callers of write_listing.
 -- Assumes nothing.
-use Rattle.std.specs.Prelude.{◌≡◌, ℕ, zero, suc, ◌*◌, ◌<◌, ◌≤◌, Bool, true, false, cond, eqb, leb, List, ◌∷◌, length, take, drop}
+use Rattle.std.specs.Prelude.{◌≡◌, ℕ, zero, suc, ◌*◌, ◌<◌, ◌≤◌, Bool, true, false, cond, eqb, leb, List, ◌∷◌, length, take, drop, Some}
 use mathlib.Core.Path.{refl, sym, ap, ◌∙◌}
 use mathlib.Core.Option.{Option, none, some}
 use native.Mathlib.Numerals.{add-one}
@@ -11,10 +11,10 @@ use Rattle.money.specs.Causes.{first_of}
 use Rattle.rules.specs.Listing.{listing_of}
 use Rattle.journal.specs.Sections.{event_count, calendar_of, events_of, journal_causes}
 use Rattle.journal.specs.Text.{Line, decimal, spaced, signed, line_from, line_text}
-use Rattle.journal.specs.Listing.{lines_text, refused_line, listing_by, listing_text, text_causes, answer_of, text_after}
+use Rattle.journal.specs.Listing.{lines_text, refused_line, listing_by, listing_text, text_causes, written_length, text_after}
 use Rattle.journal.specs.Limits.{journal_bytes, line_bytes, listing_bytes}
-use Rattle.journal.proofs.TextLaws.{length-decimal, length-spaced, length-line}
-use Rattle.journal.proofs.LineLaws.{no_lines, length-next}
+use Rattle.journal.proofs.TextLaws.{length-decimal, length_spaced, length_line}
+use Rattle.journal.proofs.LineLaws.{no_lines, length_next}
 use Rattle.journal.proofs.SectionLaws.{journal-within}
 
 length-signed : (negative size : ℕ) → length (signed negative size) ≤ 22
@@ -29,12 +29,12 @@ line-high : (place : ℕ) (line : Line) → length (line_text place line) ≤ li
 line-high place line =
     omega (
       arith,
-      length-line place line,
-      length-spaced line.answer,
-      length-spaced line.outstanding.0,
-      length-spaced line.own.0,
-      length-spaced line.client.0,
-      length-spaced line.guarantee.0,
+      length_line place line,
+      length_spaced line.answer,
+      length_spaced line.outstanding.0,
+      length_spaced line.own.0,
+      length_spaced line.client.0,
+      length_spaced line.guarantee.0,
       length-signed line.negative line.size.0,
       length-decimal place,
       length-decimal line.answer,
@@ -48,7 +48,7 @@ lines-high : (count : ℕ) (numbers : List ℕ) → length (lines_text count num
 lines-high zero numbers = omega (arith, ap length (no_lines numbers))
 lines-high (suc count) numbers =
     let line = line_from (drop (count * 7) numbers) in
-    omega (arith, rw (add-one count) at (length-next numbers count line refl), line-high (suc count) line, lines-high count numbers)
+    omega (arith, rw (add-one count) at (length_next numbers count line refl), line-high (suc count) line, lines-high count numbers)
 
 -- no bytes have a listing that is longer
 pub listing-high : (bytes : List ℕ) → length (listing_text bytes) ≤ listing_bytes
@@ -83,8 +83,8 @@ cut-listing room bytes more = go (leb (length bytes) room) refl
 
 -- where there is room for the longest listing, every listing is written
 pub room-for-all : (bytes text : List ℕ) → listing_bytes ≤ length text
-    → ((answer_of (listing_text bytes) text).length ≡ length (listing_text bytes)) × (take (length (listing_text bytes)) (text_after (listing_text bytes) text) ≡ listing_text bytes)
-unfolding answer_of text_after text_causes first_of
+    → (written_length (listing_text bytes) text ≡ Some (length (listing_text bytes))) × (take (length (listing_text bytes)) (text_after (listing_text bytes) text) ≡ listing_text bytes)
+unfolding written_length text_after text_causes first_of
 room-for-all bytes text h =
     rw (le-ltb (length text) (length (listing_text bytes)) (omega (arith, listing-high bytes)))
     (refl, take_at (listing_text bytes) _ (length (listing_text bytes)) refl)

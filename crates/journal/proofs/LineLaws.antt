@@ -1,6 +1,6 @@
 -- The lines of a listing, one more at a time, and the text that holds them: for listing.rt.
 -- Assumes nothing.
-use Rattle.std.specs.Prelude.{◌≡◌, ℕ, zero, suc, ◌+◌, ◌-◌, ◌*◌, ◌/◌, ◌%◌, ◌<◌, ◌≤◌, List, [], ◌∷◌, ◌++◌, length, get_or, take, drop}
+use Rattle.std.specs.Prelude.{◌≡◌, ℕ, zero, suc, ◌+◌, ◌-◌, ◌*◌, ◌/◌, ◌%◌, ◌<◌, ◌≤◌, List, [], ◌∷◌, ◌++◌, length, get_or, take, drop, Some, None}
 use mathlib.Core.Path.{refl, sym, ap, ◌∙◌}
 use mathlib.Core.Option.{none}
 use native.Mathlib.Nat.{add-zero, zero-add, add-suc, le_refl}
@@ -22,7 +22,7 @@ use Rattle.rules.specs.Run.{run}
 use Rattle.rules.specs.Listing.{journal_table, entries_of, line_of, lines_of, listing_of, length_causes, listing_causes, written_by}
 use Rattle.journal.specs.Text.{Line, line_from, line_text}
 use Rattle.journal.specs.Buffer.{placed}
-use Rattle.journal.specs.Listing.{Written, lines_text, text_causes, answer_of, text_after}
+use Rattle.journal.specs.Listing.{lines_text, text_causes, written_length, text_after}
 
 -- ---- a line's numbers, by place
 
@@ -40,8 +40,8 @@ unfolding lines_text
 next-lines numbers k line e =
     rw (add-one k, e) (ap (λ (place : ℕ). lines_text k numbers ++ line_text place (line_from (drop (k * 7) numbers))) (omega arith))
 
-pub length-next : (numbers : List ℕ) (k : ℕ) (line : Line) → line ≡ line_from (drop (k * 7) numbers) → length (lines_text (k + 1) numbers) ≡ length (lines_text k numbers) + length (line_text (k + 1) line)
-length-next numbers k line e = ap length (next-lines numbers k line e) ∙ length-append (lines_text k numbers) (line_text (k + 1) line)
+pub length_next : (numbers : List ℕ) (k : ℕ) (line : Line) → line ≡ line_from (drop (k * 7) numbers) → length (lines_text (k + 1) numbers) ≡ length (lines_text k numbers) + length (line_text (k + 1) line)
+length_next numbers k line e = ap length (next-lines numbers k line e) ∙ length-append (lines_text k numbers) (line_text (k + 1) line)
 
 pub no_lines : (numbers : List ℕ) → lines_text 0 numbers ≡ []
 unfolding lines_text
@@ -51,11 +51,16 @@ grows : (numbers : List ℕ) (k more : ℕ) → length (lines_text k numbers) �
 grows numbers k zero = rw (add-zero k) (le_refl _)
 grows numbers k (suc more) =
     let line = line_from (drop ((k + more) * 7) numbers) in
-    rw (add-suc k more) (omega (arith, rw (add-one (k + more)) at (length-next numbers (k + more) line refl), grows numbers k more))
+    rw (add-suc k more) (omega (arith, rw (add-one (k + more)) at (length_next numbers (k + more) line refl), grows numbers k more))
 
 -- the first lines are no longer than all
-pub within : (numbers : List ℕ) (k count : ℕ) → k ≤ count → length (lines_text k numbers) ≤ length (lines_text count numbers)
+within : (numbers : List ℕ) (k count : ℕ) → k ≤ count → length (lines_text k numbers) ≤ length (lines_text count numbers)
 within numbers k count h = let e : k + (count - k) ≡ count = omega arith in rw e at (grows numbers k (count - k))
+
+-- where all lines fit, so does the one after the first k
+pub line-fits : (numbers text : List ℕ) (k count : ℕ) (line : Line) → line ≡ line_from (drop (k * 7) numbers) → k < count
+    → length (lines_text count numbers) ≤ length text → 0 + length (lines_text k numbers) + length (line_text (k + 1) line) ≤ length text
+line-fits numbers text k count line e more fits = omega (arith, length_next numbers k line e, within numbers (k + 1) count (omega arith), fits)
 
 -- numbers behind the lines' own are not read
 same_line : (count : ℕ) (numbers rest : List ℕ) → count * 7 + 7 ≤ length numbers → line_from (drop (count * 7) (numbers ++ rest)) ≡ line_from (drop (count * 7) numbers)
@@ -72,13 +77,13 @@ lines-in-front (suc count) numbers rest h = rw (lines-in-front count numbers res
 
 -- ---- the lent text afterwards
 
-pub too_short : (listing text : List ℕ) → length text < length listing → (◌≡◌ {A = Written} (record { number = 14; length = 0 }) (answer_of listing text)) × (text ≡ text_after listing text)
-unfolding answer_of text_after text_causes
+pub too_short : (listing text : List ℕ) → length text < length listing → (None ≡ written_length listing text) × (text ≡ text_after listing text)
+unfolding written_length text_after text_causes
 too_short listing text h = rw (hit 14 [] (lt-ltb _ _ h)) (refl, refl)
 
 pub in-front : (listing text text' : List ℕ) (end : ℕ) → length listing ≤ length text → end ≡ length listing → text' ≡ placed text 0 listing
-    → (◌≡◌ {A = Written} (record { number = 0; length = end }) (answer_of listing text)) × (text' ≡ text_after listing text)
-unfolding answer_of text_after text_causes placed
+    → (Some end ≡ written_length listing text) × (text' ≡ text_after listing text)
+unfolding written_length text_after text_causes placed
 in-front listing text text' end h e p = rw (skip 14 [] (le-ltb _ _ h) clear, e) (refl, p ∙ rw (zero-add (length listing)) refl)
 
 -- ---- the book's run

@@ -1,6 +1,6 @@
 -- Bytes put into a text one after the other, and the digits of a number: for text.rt.
 -- Assumes nothing.
-use Rattle.std.specs.Prelude.{◌≡◌, ℕ, zero, suc, ◌+◌, ◌-◌, ◌/◌, ◌^◌, ◌<◌, ◌≤◌, Bool, true, false, cond, leb, List, [], ◌∷◌, ◌++◌, length, take, drop, set}
+use Rattle.std.specs.Prelude.{◌≡◌, ℕ, zero, suc, ◌+◌, ◌-◌, ◌/◌, ◌^◌, ◌<◌, ◌≤◌, Bool, true, false, cond, leb, List, [], ◌∷◌, ◌++◌, length, take, drop}
 use mathlib.Core.Path.{refl, sym, ap, ◌∙◌}
 use mathlib.Core.List.{append_assoc}
 use native.Mathlib.Nat.{pow-le-pow_right}
@@ -8,8 +8,8 @@ use native.Mathlib.Numerals.{add-one}
 use native.Mathlib.Omega.{arith}
 use borrow.Author.Tests.{le-leb, lt-leb, leb-true, leb-false, eq-eqb, ne_eqb}
 use lib.Dec.{lit<}
-use lib.ListN.{length-append, length-drop, length-set}
-use lib.Seq.{append_snoc, set_split, length-take-le, take_at, drop-append-add, drop-drop, paste, take-length}
+use lib.ListN.{length-append, length-drop}
+use lib.Seq.{length-take-le, take_at, drop-append-add, drop-drop, paste, take-length}
 use Rattle.io.specs.Digits.{last_digits, IsDigitCount}
 use Rattle.journal.specs.Text.{Line, places_to, decimal, spaced, signed, line_text}
 use Rattle.journal.specs.Buffer.{placed}
@@ -34,15 +34,6 @@ placed-then text a b at h =
     let long : at + length (a ++ b) ≡ at + length a + length b = omega (arith, length-append a b) in
     rw (take_at (take at text ++ a) (drop (at + length a) text) (at + length a) front, rest, long, append_assoc (take at text) a b)
 
--- one byte
-pub byte-placed : (text : List ℕ) (at byte : ℕ) → at < length text → set text at byte ≡ placed text at (byte ∷ [])
-unfolding placed
-byte-placed text at byte h = set_split text at byte h ∙ rw (add-one at) (sym (append_snoc (take at text) byte (drop (suc at) text)))
-
--- one byte, and others after it
-pub byte-then : (text bytes : List ℕ) (at byte : ℕ) → at + 1 + length bytes ≤ length text → placed (set text at byte) (at + 1) bytes ≡ placed text at (byte ∷ bytes)
-byte-then text bytes at byte h = rw (byte-placed text at byte (omega arith)) (placed-then text (byte ∷ []) bytes at h)
-
 -- a copy of all bytes is such a text
 pub pasted : (text bytes : List ℕ) (at : ℕ) → paste text at bytes (length bytes) ≡ placed text at bytes
 unfolding placed
@@ -66,11 +57,29 @@ then {text} {text'} {text''} {a} {b} {at} {end} {end'} h p q = record {
 pub room : {text text' a : List ℕ} {at end : ℕ} (b : List ℕ) → Put text at a text' end → at + length a + length b ≤ length text → end + length b ≤ length text'
 room {text} {text'} {a} {at} {end} b p h = rw (p.ends, p.puts, length-placed text a at (omega arith)) h
 
--- a byte after what was put
-pub then-byte : {text text' a : List ℕ} {at end : ℕ} (byte : ℕ) → at + length a + 1 ≤ length text → Put text at a text' end → Put text at (a ++ byte ∷ []) (set text' end byte) (end + 1)
-then-byte {text} {text'} {a} {at} {end} byte h p =
-    let inside : end + 1 ≤ length text' = room (byte ∷ []) p h in
-    then h p (record { ends = refl; puts = byte-placed text' end byte (omega arith) })
+-- what is left to put so that the whole stands in the text
+pub record Due (text : List ℕ) (at : ℕ) (whole text' : List ℕ) (at' : ℕ) (rest : List ℕ) : Type 0 where
+  pub long : at' + length rest ≤ length text'
+  pub ends : at' + length rest ≡ at + length whole
+  pub puts : placed text' at' rest ≡ placed text at whole
+
+pub all-due : {text whole : List ℕ} {at : ℕ} → at + length whole ≤ length text → Due text at whole text at whole
+all-due h = record { long = h; ends = refl; puts = refl }
+
+module _ {text whole text' : List ℕ} {at at' : ℕ} where
+  -- the first part is put
+  pub first-put : (a rest : List ℕ) {text'' : List ℕ} {at'' : ℕ} → Due text at whole text' at' (a ++ rest) → (at'' ≡ at' + length a) × (text'' ≡ placed text' at' a) → Due text at whole text'' at'' rest
+  first-put a rest d s =
+      let both = length-append a rest in
+      let room : at' + length a + length rest ≤ length text' = omega (arith, d.long, both) in
+      record {
+        long = rw (s.0, s.1, length-placed text' a at' (omega arith)) room;
+        ends = omega (arith, s.0, d.ends, both);
+        puts = rw (s.0, s.1) (placed-then text' a rest at' room ∙ d.puts);
+      }
+
+  pub rest-put : {rest text'' : List ℕ} {at'' : ℕ} → Due text at whole text' at' rest → (at'' ≡ at' + length rest) × (text'' ≡ placed text' at' rest) → (at'' ≡ at + length whole) × (text'' ≡ placed text at whole)
+  rest-put d s = (s.0 ∙ d.ends, s.1 ∙ d.puts)
 
 -- ---- a number's digits
 
@@ -136,85 +145,28 @@ length-decimal number = omega (arith, length_digits 10 (places_to 19 number) num
 
 -- ---- a headroom, and a line
 
-pub signed-plain : (negative size : ℕ) → negative ≡ 0 → signed negative size ≡ spaced size
+pub signed_plain : (negative size : ℕ) → negative ≡ 0 → signed negative size ≡ spaced size
 unfolding signed
-signed-plain negative size e = rw (eq-eqb negative 0 e)
+signed_plain negative size e = rw (eq-eqb negative 0 e)
 
-pub signed-minus : (negative size : ℕ) → (negative ≡ 0 → ⊥) → signed negative size ≡ 32 ∷ 45 ∷ decimal size
+pub signed_minus : (negative size : ℕ) → (negative ≡ 0 → ⊥) → signed negative size ≡ 32 ∷ 45 ∷ decimal size
 unfolding signed
-signed-minus negative size e = rw (ne_eqb negative 0 e)
+signed_minus negative size e = rw (ne_eqb negative 0 e)
 
-pub length-spaced : (number : ℕ) → length (spaced number) ≡ 1 + length (decimal number)
+pub length_spaced : (number : ℕ) → length (spaced number) ≡ 1 + length (decimal number)
 unfolding spaced
-length-spaced number = omega arith
+length_spaced number = omega arith
 
--- the space and then the number
-pub spaced-put : (text text' : List ℕ) (at number end : ℕ) → at + length (spaced number) ≤ length text
-    → end ≡ at + 1 + length (decimal number) → text' ≡ placed (set text at 32) (at + 1) (decimal number)
-    → (end ≡ at + length (spaced number)) × (text' ≡ placed text at (spaced number))
-unfolding spaced
-spaced-put text text' at number end h e p = (omega arith, p ∙ byte-then text (decimal number) at 32 (omega arith))
-
--- the space, the sign and then the number
-pub signed-put : (text text' : List ℕ) (at negative size end : ℕ) → (negative ≡ 0 → ⊥) → at + length (signed negative size) ≤ length text
-    → end ≡ at + 2 + length (decimal size) → text' ≡ placed (set (set text at 32) (at + 1) 45) (at + 2) (decimal size)
-    → (end ≡ at + length (signed negative size)) × (text' ≡ placed text at (signed negative size))
-signed-put text text' at negative size end m h e p =
-    let minus : signed negative size ≡ 32 ∷ 45 ∷ decimal size = signed-minus negative size m in
-    let room : at + length (32 ∷ 45 ∷ decimal size) ≤ length text = rw minus at h in
-    let after : at + 1 + 1 ≡ at + 2 = omega arith in
-    let inner : placed (set (set text at 32) (at + 1) 45) (at + 1 + 1) (decimal size) ≡ placed (set text at 32) (at + 1) (45 ∷ decimal size) =
-    byte-then (set text at 32) (decimal size) (at + 1) 45 (simp length-set (omega arith)) in
-    rw minus (omega arith, p ∙ rw after at inner ∙ byte-then text (45 ∷ decimal size) at 32 (omega arith))
-
-pub length-line : (place : ℕ) (line : Line)
+pub length_line : (place : ℕ) (line : Line)
     → length (line_text place line) ≡ length (decimal place) + length (spaced line.answer) + length (signed line.negative line.size.0) + length (spaced line.outstanding.0) + length (spaced line.own.0) + length (spaced line.client.0) + length (spaced line.guarantee.0) + 1
 unfolding line_text
-length-line place line = simp length-append
+length_line place line = simp length-append
 
--- a line's parts up to its answer, its headroom, O, own, client and guarantee cash
-module _ (place : ℕ) (line : Line) where
-  abbrev pub to-answer : List ℕ
-  to-answer = decimal place ++ spaced line.answer
-
-  abbrev pub to-headroom : List ℕ
-  to-headroom = to-answer ++ signed line.negative line.size.0
-
-  abbrev pub to-outstanding : List ℕ
-  to-outstanding = to-headroom ++ spaced line.outstanding.0
-
-  abbrev pub to-own : List ℕ
-  to-own = to-outstanding ++ spaced line.own.0
-
-  abbrev pub to-client : List ℕ
-  to-client = to-own ++ spaced line.client.0
-
-  abbrev pub to-guarantee : List ℕ
-  to-guarantee = to-client ++ spaced line.guarantee.0
-
-  pub line-parts : line_text place line ≡ to-guarantee ++ 10 ∷ []
-  unfolding line_text
-  line-parts = refl
-
-  -- each of them fits where the line does
-  module _ (text : List ℕ) (at : ℕ) (h : at + length (line_text place line) ≤ length text) where
-    pub end_fits : at + length to-guarantee + 1 ≤ length text
-    end_fits = omega (arith, ap length line-parts, length-append to-guarantee (10 ∷ []), h)
-
-    pub guarantee-fits : at + length to-client + length (spaced line.guarantee.0) ≤ length text
-    guarantee-fits = omega (arith, end_fits, length-append to-client (spaced line.guarantee.0))
-
-    pub client-fits : at + length to-own + length (spaced line.client.0) ≤ length text
-    client-fits = omega (arith, guarantee-fits, length-append to-own (spaced line.client.0))
-
-    pub own-fits : at + length to-outstanding + length (spaced line.own.0) ≤ length text
-    own-fits = omega (arith, client-fits, length-append to-outstanding (spaced line.own.0))
-
-    pub outstanding-fits : at + length to-headroom + length (spaced line.outstanding.0) ≤ length text
-    outstanding-fits = omega (arith, own-fits, length-append to-headroom (spaced line.outstanding.0))
-
-    pub headroom-fits : at + length to-answer + length (signed line.negative line.size.0) ≤ length text
-    headroom-fits = omega (arith, outstanding-fits, length-append to-answer (signed line.negative line.size.0))
-
-    pub answer-fits : at + length (decimal place) + length (spaced line.answer) ≤ length text
-    answer-fits = omega (arith, headroom-fits, length-append (decimal place) (spaced line.answer))
+-- a line's parts, each put after the one before
+pub line-due : (place : ℕ) (line : Line) {text : List ℕ} {at : ℕ} → at + length (line_text place line) ≤ length text
+    → Due text at (line_text place line) text at
+    (decimal place
+    ++ (spaced line.answer
+    ++ (signed line.negative line.size.0 ++ (spaced line.outstanding.0 ++ (spaced line.own.0 ++ (spaced line.client.0 ++ (spaced line.guarantee.0 ++ 10 ∷ [])))))))
+unfolding line_text
+line-due place line h = simp append_assoc (all-due (simp append_assoc at h))

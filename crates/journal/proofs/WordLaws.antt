@@ -1,4 +1,4 @@
--- A number of four bytes by its halves, and a calendar's words, one more at a time: for section.rt, calendar.rt and their callers.
+-- A number of four bytes, and a calendar's words, one more at a time: for section.rt, calendar.rt and their callers.
 -- Assumes nothing.
 use Rattle.std.specs.Prelude.{◌≡◌, ℕ, zero, suc, ◌+◌, ◌*◌, ◌<◌, ◌≤◌, List, ◌++◌, length, get_or, take, drop, set}
 use mathlib.Core.Path.{refl, sym, ap, ◌∙◌}
@@ -7,17 +7,12 @@ use native.Mathlib.Omega.{arith}
 use lib.ListN.{length-append}
 use lib.Seq.{drop-cons, drop-drop, set_at, take_at, append_snoc}
 use Rattle.rules.specs.Entry.{number_at}
-use Rattle.rules.proofs.Bytes.{no_bytes, first_byte, first_four}
+use Rattle.rules.proofs.Bytes.{no_bytes, first_four}
 use Rattle.journal.specs.Sections.{words_of}
 
-pub two_bytes : (bytes : List ℕ) (at next : ℕ) → next ≡ at + 1 → at + 2 ≤ length bytes → number_at at 2 bytes ≡ get_or bytes at 0 + 256 * get_or bytes next 0
-two_bytes bytes at next follows inside =
-    omega (arith, first_byte bytes at next 1 follows (omega arith), first_byte bytes next (next + 1) 0 refl (omega arith), no_bytes bytes (next + 1))
-
--- a number of four bytes by its halves
-pub two-and-two : (bytes : List ℕ) (at : ℕ) → at + 4 ≤ length bytes → number_at at 4 bytes ≡ number_at at 2 bytes + 65536 * number_at (at + 2) 2 bytes
-two-and-two bytes at inside =
-    omega (arith, first_four bytes at 0 inside, no_bytes bytes (at + 4), two_bytes bytes at (at + 1) refl (omega arith), two_bytes bytes (at + 2) (at + 3) (omega arith) (omega arith))
+pub four_bytes : (bytes : List ℕ) (at : ℕ) → at + 4 ≤ length bytes
+    → number_at at 4 bytes ≡ get_or bytes at 0 + 256 * get_or bytes (at + 1) 0 + 65536 * get_or bytes (at + 2) 0 + 16777216 * get_or bytes (at + 3) 0
+four_bytes bytes at inside = omega (arith, first_four bytes at 0 inside, no_bytes bytes (at + 4))
 
 pub length-words : (count : ℕ) (bytes : List ℕ) → length (words_of count bytes) ≡ count
 unfolding words_of

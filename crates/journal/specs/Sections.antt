@@ -1,16 +1,13 @@
 -- Which bytes are a journal, its calendar and its events' bytes. (01, The journal)
 -- Assumes nothing.
-use Rattle.std.specs.Prelude.{◌≡◌, ℕ, zero, suc, ◌+◌, ◌-◌, ◌*◌, List, [], ◌∷◌, ◌++◌, length, drop, nat_lt}
-use Rattle.std.proofs.Math.Option.{Option, none, some}
+use Rattle.std.specs.Prelude.{◌≡◌, ℕ, zero, suc, ◌+◌, ◌-◌, ◌*◌, List, [], ◌∷◌, ◌++◌, length, drop, nat_lt, Option, Some, None}
+use Rattle.std.proofs.Math.Option.{Option as Maybe, none, some}
 use Rattle.money.specs.Limits.{calendar_limit}
 use Rattle.money.specs.Causes.{Cause, ◌⇒◌, first_of, number_of}
 use Rattle.money.specs.Days.{Calendar}
 use Rattle.rules.specs.Entry.{event_bytes, number_at}
 use Rattle.rules.specs.Listing.{event_limit}
-pub use Rattle.journal.specs.declared.section.Section.{Section}
-pub use Rattle.journal.specs.declared.section.Section.TheVariants.{Whole, Malformed}
-pub use Rattle.journal.specs.declared.sections.Sections.{Sections}
-pub use Rattle.journal.specs.declared.sections.Sections.TheVariants.{Both, Refused}
+pub use Rattle.journal.specs.declared.sections.Counts.{Counts}
 
 -- "each after its count, all little-endian: a 32-bit count"
 abbrev pub count_bytes : ℕ
@@ -64,26 +61,26 @@ calendar_of bytes = words_of (word_count bytes) (drop count_bytes bytes)
 unfoldable pub events_of : List ℕ → List ℕ
 events_of bytes = drop (events_at bytes + count_bytes) bytes
 
--- what reading a section answers: its count, or that it is malformed
-unfoldable pub section_by : Option ℕ → (count : ℕ) → Section
-section_by none count = Whole count
-section_by (some number) count = Malformed
+-- what reading a section answers: its count, or none where it is malformed
+unfoldable pub section_by : Maybe ℕ → (count : ℕ) → Option ℕ
+section_by none count = Some count
+section_by (some number) count = None
 
-abbrev pub section_at : (limit width at : ℕ) → List ℕ → Section
+abbrev pub section_at : (limit width at : ℕ) → List ℕ → Option ℕ
 section_at limit width at bytes = section_by (first_of (section_causes limit width at bytes)) (count_at at bytes)
 
 -- 18: "journal malformed"
-abbrev pub section_number : Section → ℕ
-section_number (Whole count) = 0
-section_number Malformed = 18
+abbrev pub section_number : Option ℕ → ℕ
+section_number (Some count) = 0
+section_number None = 18
 
 -- what is promised of a section that is read: which it is, and its number
-abbrev pub IsSectionAt : (limit width at : ℕ) → List ℕ → Section → Type 0
+abbrev pub IsSectionAt : (limit width at : ℕ) → List ℕ → Option ℕ → Type 0
 IsSectionAt limit width at bytes section =
     (section ≡ section_at limit width at bytes) × (section_number section ≡ number_of (first_of (section_causes limit width at bytes)))
 
 -- where a reader stands that has passed a section: at its end, and where it was if the section is malformed
-unfoldable pub past_by : Option ℕ → (at end : ℕ) → ℕ
+unfoldable pub past_by : Maybe ℕ → (at end : ℕ) → ℕ
 past_by none at end = end
 past_by (some number) at end = at
 
@@ -94,18 +91,18 @@ past_section limit width at bytes = past_by (first_of (section_causes limit widt
 abbrev pub left_from : (at : ℕ) → List ℕ → ℕ
 left_from at bytes = length bytes - at
 
--- what reading both answers: their counts, or that the journal is malformed
-unfoldable pub sections_by : Option ℕ → (words events : ℕ) → Sections
-sections_by none words events = Both words events
-sections_by (some number) words events = Refused
+-- what reading both answers: their counts, or none where the journal is malformed
+unfoldable pub sections_by : Maybe ℕ → (words events : ℕ) → Option Counts
+sections_by none words events = Some (record { words = words; events = events })
+sections_by (some number) words events = None
 
-abbrev pub sections_of : List ℕ → Sections
+abbrev pub sections_of : List ℕ → Option Counts
 sections_of bytes = sections_by (first_of (journal_causes bytes)) (word_count bytes) (event_count bytes)
 
-abbrev pub sections_number : Sections → ℕ
-sections_number (Both words events) = 0
-sections_number Refused = 18
+abbrev pub sections_number : Option Counts → ℕ
+sections_number (Some counts) = 0
+sections_number None = 18
 
 -- what is promised of both
-abbrev pub AreSectionsOf : List ℕ → Sections → Type 0
+abbrev pub AreSectionsOf : List ℕ → Option Counts → Type 0
 AreSectionsOf bytes sections = (sections ≡ sections_of bytes) × (sections_number sections ≡ number_of (first_of (journal_causes bytes)))

@@ -11,9 +11,7 @@ pub fn read_words(journal: &[u8], at: usize, count: usize, words: &mut [u32])
     requires { (at + count * 4 ≤ length journal.now) × (count ≤ length words.old) }
     ensures { words.new ≡ words_of count (drop at journal.now) ++ drop count words.old }
 {
-    let mut k = 0;
-    while k < count {
-        words[k] = section::number4(journal, at + k * WORD_BYTES);
-        k += 1;
+    for (k, word) in words[..count].iter_mut().enumerate() {
+        *word = section::number4(journal, at + k * WORD_BYTES);
     }
 }

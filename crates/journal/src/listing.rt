@@ -4,33 +4,22 @@ ghost use Rattle.money.specs.Limits.{calendar_limit};
 ghost use Rattle.rules.specs.Entry.{event_bytes};
 ghost use Rattle.rules.specs.Listing.{event_limit, line_numbers, listing_of};
 ghost use Rattle.journal.specs.Buffer.{placed};
-ghost use Rattle.journal.specs.Listing.{lines_text, refused_line, listing_text, answer_of, text_after};
+ghost use Rattle.journal.specs.Listing.{lines_text, refused_line, listing_text, written_length, text_after};
 
 use crate::section::{COUNT_BYTES, WORD_BYTES};
-use crate::sections::Sections;
 use crate::{calendar, sections, text};
 use money::limits::CALENDAR_LIMIT;
 use rules::limits::{EVENT_BYTES, EVENT_LIMIT, LINE_NUMBERS};
 
-// A number of document 01, and how many bytes were written.
-#[repr(C)]
-#[derive(Clone, Copy)]
-pub struct Written {
-    pub number: u8,
-    pub length: usize,
-}
-
 // How many bytes the lines of `count` events take.
-#[tactic(auto, using(crate::proofs::LineLaws::no_lines))]
+#[tactic(auto, using(crate::proofs::LineLaws::no_lines, crate::proofs::LineLaws::length_next))]
 fn lines_length(lines: &[u64], count: usize) -> usize
     requires { (count ≤ event_limit) × (count * line_numbers ≤ length lines.now) }
     ensures { result ≡ length (lines_text count lines.now) }
 {
     let mut total = 0;
-    let mut k = 0;
-    while k < count {
+    for k in 0..count {
         total += text::line_length(k + 1, text::line_at(lines, k * LINE_NUMBERS));
-        k += 1;
     }
     total
 }
@@ -41,36 +30,31 @@ fn put_lines(text: &mut [u8], lines: &[u64], count: usize)
     ensures { text.new ≡ placed text.old 0 (lines_text count lines.now) }
 {
     let mut at = 0;
-    let mut k = 0;
-    while k < count {
+    for k in 0..count {
         at = text::put_line(text, at, k + 1, text::line_at(lines, k * LINE_NUMBERS));
-        k += 1;
     }
 }
 
-// The lines of `count` events, where the text has room for all of them.
-fn write_lines(text: &mut [u8], lines: &[u64], count: usize) -> Written
+// The lines of `count` events, where the text has room for all of them; none where it has not, as of each call below.
+fn write_lines(text: &mut [u8], lines: &[u64], count: usize) -> Option<usize>
     requires { (count ≤ event_limit) × (count * line_numbers ≤ length lines.now) }
     ensures { let written = lines_text count lines.now in
-        (result ≡ answer_of written text.old)
+        (result ≡ written_length written text.old)
         × (text.new ≡ text_after written text.old) }
 {
     let length = lines_length(lines, count);
     if text.len() < length {
-        return Written {
-            number: 14,
-            length: 0,
-        };
+        return None;
     }
     put_lines(text, lines, count);
-    Written { number: 0, length }
+    Some(length)
 }
 
 // The lines of some events' bytes, run on a fresh book.
-fn write_run(calendar: &[u32], events: &[u8], text: &mut [u8]) -> Written
+fn write_run(calendar: &[u32], events: &[u8], text: &mut [u8]) -> Option<usize>
     requires { (length calendar.now ≤ calendar_limit) × (length events.now % event_bytes ≡ 0) × (length events.now / event_bytes ≤ event_limit) }
     ensures { let written = lines_text (length events.now / event_bytes) (listing_of calendar.now events.now) in
-        (result ≡ answer_of written text.old)
+        (result ≡ written_length written text.old)
         × (text.new ≡ text_after written text.old) }
 {
     let mut lines = [0; EVENT_LIMIT * LINE_NUMBERS];
@@ -79,31 +63,27 @@ fn write_run(calendar: &[u32], events: &[u8], text: &mut [u8]) -> Written
 }
 
 // The line of a journal that is none.
-fn write_refused(text: &mut [u8]) -> Written
-    ensures { (result ≡ answer_of refused_line text.old) × (text.new ≡ text_after refused_line text.old) }
+fn write_refused(text: &mut [u8]) -> Option<usize>
+    ensures { (result ≡ written_length refused_line text.old) × (text.new ≡ text_after refused_line text.old) }
 {
     if text.len() < 16 {
-        return Written {
-            number: 14,
-            length: 0,
-        };
+        return None;
     }
-    let length = text::put(text, 0, b"journal refused\n");
-    Written { number: 0, length }
+    Some(text::put(text, 0, b"journal refused\n"))
 }
 
 // The listing of any bytes, in front of a lent text.
 #[tactic(auto, using(crate::proofs::SectionLaws::journal))]
-pub fn write_listing(journal: &[u8], text: &mut [u8]) -> Written
+pub fn write_listing(journal: &[u8], text: &mut [u8]) -> Option<usize>
     ensures { let written = listing_text journal.now in
-        (result ≡ answer_of written text.old)
+        (result ≡ written_length written text.old)
         × (text.new ≡ text_after written text.old) }
 {
-    let Sections::Both(words, events) = sections::sections_of(journal) else {
+    let Some(counts) = sections::sections_of(journal) else {
         return write_refused(text);
     };
     let mut calendar = [0; CALENDAR_LIMIT];
-    calendar::read_words(journal, COUNT_BYTES, words, &mut calendar);
-    let start = COUNT_BYTES + words * WORD_BYTES + COUNT_BYTES;
-    write_run(&calendar[..words], &journal[start..], text)
+    calendar::read_words(journal, COUNT_BYTES, counts.words, &mut calendar);
+    let start = COUNT_BYTES + counts.words * WORD_BYTES + COUNT_BYTES;
+    write_run(&calendar[..counts.words], &journal[start..], text)
 }

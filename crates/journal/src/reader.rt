@@ -1,9 +1,9 @@
-// A reader over the lent journal keeps its place. Each function over it is thin: it takes the reader apart and leaves the
+// A reader over the lent journal keeps its place. Each of its methods is thin: it takes the reader apart and leaves the
 // work to `section`, which has a slice and numbers.
 ghost use Rattle.std.specs.Prelude.{◌≡◌};
 ghost use Rattle.journal.specs.Sections.{IsSectionAt, left_from, past_section};
 
-use crate::section::{Section, left_from, past_section, section_at};
+use crate::section::{left_from, past_section, section_at};
 
 #[derive(Clone, Copy)]
 pub struct Reader<'a> {
@@ -11,35 +11,34 @@ pub struct Reader<'a> {
     pub at: usize,
 }
 
-// A reader at the first byte.
-pub fn new<'a>(journal: &'a [u8]) -> Reader<'a>
-    ensures { (result.journal ≡ journal.entry) × (result.at ≡ 0) }
-{
-    Reader { journal, at: 0 }
-}
-
-// The section at the reader's place.
-pub fn section<'a>(reader: Reader<'a>, limit: u32, width: u32) -> Section
-    ensures { IsSectionAt limit width reader.entry.at reader.entry.journal.now result }
-{
-    section_at(reader.journal, reader.at, limit, width)
-}
-
-// The reader past that section; where it is malformed, the reader as it was.
-pub fn past<'a>(reader: Reader<'a>, limit: u32, width: u32) -> Reader<'a>
-    ensures { (result.journal ≡ reader.entry.journal)
-        × (result.at ≡ past_section limit width reader.entry.at reader.entry.journal.now) }
-{
-    let at = past_section(reader.journal, reader.at, limit, width);
-    Reader {
-        journal: reader.journal,
-        at,
+impl<'a> Reader<'a> {
+    // A reader at the first byte.
+    pub fn new(journal: &'a [u8]) -> Reader<'a>
+        ensures { (result.journal ≡ journal.entry) × (result.at ≡ 0) }
+    {
+        Reader { journal, at: 0 }
     }
-}
 
-// How many bytes are left from the reader's place on.
-pub fn left<'a>(reader: Reader<'a>) -> usize
-    ensures { result ≡ left_from reader.entry.at reader.entry.journal.now }
-{
-    left_from(reader.journal, reader.at)
+    // How many pieces the section at the reader's place has; none where it is malformed.
+    pub fn section(self, limit: u32, width: u32) -> Option<usize>
+        ensures { IsSectionAt limit width self.entry.at self.entry.journal.now result }
+    {
+        section_at(self.journal, self.at, limit, width)
+    }
+
+    // The reader past that section; where it is malformed, the reader as it was.
+    pub fn past(self, limit: u32, width: u32) -> Reader<'a>
+        ensures { (result.journal ≡ self.entry.journal)
+            × (result.at ≡ past_section limit width self.entry.at self.entry.journal.now) }
+    {
+        let at = past_section(self.journal, self.at, limit, width);
+        Reader { at, ..self }
+    }
+
+    // How many bytes are left from the reader's place on.
+    pub fn left(self) -> usize
+        ensures { result ≡ left_from self.entry.at self.entry.journal.now }
+    {
+        left_from(self.journal, self.at)
+    }
 }

@@ -1,5 +1,5 @@
 // A section of a journal from its first byte on: the work that a reader leaves, on a slice and numbers.
-ghost use Rattle.std.specs.Prelude.{◌≡◌, ◌+◌, ◌<◌, ◌≤◌, length};
+ghost use Rattle.std.specs.Prelude.{◌≡◌, ◌+◌, ◌≤◌, length};
 ghost use Rattle.rules.specs.Entry.{number_at};
 ghost use Rattle.journal.specs.Sections.{IsSectionAt, left_from, past_section};
 
@@ -9,63 +9,39 @@ pub const COUNT_BYTES: usize = 4;
 // "words of 32 bits"
 pub const WORD_BYTES: usize = 4;
 
-// A section with how many pieces it has.
-#[derive(Clone, Copy)]
-pub enum Section {
-    Whole(usize),
-    Malformed,
-}
-
-// A byte as a number of 4 bytes.
-fn wide(byte: u8) -> u32
-    ensures { (result ≡ byte) × (result < 256) }
-{
-    byte as u32
-}
-
-#[tactic(auto, using(crate::proofs::WordLaws::two_bytes))]
-fn number2(bytes: &[u8], at: usize) -> u32
-    requires { at + 2 ≤ length bytes.now }
-    ensures { (result ≡ number_at at 2 bytes.now) × (result < 65536) }
-{
-    wide(bytes[at]) + wide(bytes[at + 1]) * 256
-}
-
 // The number of 4 bytes, the least byte first.
+#[tactic(auto, using(crate::proofs::WordLaws::four_bytes))]
 pub(crate) fn number4(bytes: &[u8], at: usize) -> u32
     requires { at + 4 ≤ length bytes.now }
     ensures { result ≡ number_at at 4 bytes.now }
 {
-    number2(bytes, at) + number2(bytes, at + 2) * 65_536
+    u32::from_le_bytes([bytes[at], bytes[at + 1], bytes[at + 2], bytes[at + 3]])
 }
 
 // How many bytes are left from a place on.
 pub fn left_from(journal: &[u8], at: usize) -> usize
     ensures { result ≡ left_from at journal.now }
 {
-    if journal.len() < at {
-        return 0;
-    }
-    journal.len() - at
+    journal.len().saturating_sub(at)
 }
 
-// The section that starts at a place, its pieces `width` bytes each.
-pub fn section_at(journal: &[u8], at: usize, limit: u32, width: u32) -> Section
+// How many pieces of `width` bytes each the section has that starts at a place; none where it is malformed.
+pub fn section_at(journal: &[u8], at: usize, limit: u32, width: u32) -> Option<usize>
     ensures { IsSectionAt limit width at journal.now result }
 {
     let left = left_from(journal, at);
     if left < COUNT_BYTES {
-        return Section::Malformed;
+        return None;
     }
     let count = number4(journal, at);
     if count > limit {
-        return Section::Malformed;
+        return None;
     }
     let taken = count as usize * width as usize;
     if left - COUNT_BYTES < taken {
-        return Section::Malformed;
+        return None;
     }
-    Section::Whole(count as usize)
+    Some(count as usize)
 }
 
 // The place past that section. A malformed one is not passed: the place stays, so that there always is one.
@@ -73,7 +49,7 @@ pub fn section_at(journal: &[u8], at: usize, limit: u32, width: u32) -> Section
 pub fn past_section(journal: &[u8], at: usize, limit: u32, width: u32) -> usize
     ensures { result ≡ past_section limit width at journal.now }
 {
-    let Section::Whole(count) = section_at(journal, at, limit, width) else {
+    let Some(count) = section_at(journal, at, limit, width) else {
         return at;
     };
     at + COUNT_BYTES + count * width as usize

@@ -12,12 +12,9 @@ pub fn put(text: &mut [u8], at: usize, bytes: &[u8]) -> usize
     requires { at + length bytes.now ≤ length text.old }
     ensures { (result ≡ at + length bytes.now) × (text.new ≡ placed text.old at bytes.now) }
 {
-    let mut k = 0;
-    while k < bytes.len() {
-        text[at + k] = bytes[k];
-        k += 1;
-    }
-    at + bytes.len()
+    let end = at + bytes.len();
+    text[at..end].copy_from_slice(bytes);
+    end
 }
 
 // How many bytes a number takes.
@@ -38,15 +35,17 @@ fn put_number(text: &mut [u8], at: usize, number: u64) -> usize
     put(text, at, &spelled[..count])
 }
 
+#[tactic(auto, using(crate::proofs::TextLaws::length_spaced))]
 fn put_spaced(text: &mut [u8], at: usize, number: u64) -> usize
     requires { at + length (spaced number) ≤ length text.old }
     ensures { (result ≡ at + length (spaced number)) × (text.new ≡ placed text.old at (spaced number)) }
 {
-    text[at] = b' ';
-    put_number(text, at + 1, number)
+    let digits = put(text, at, b" ");
+    put_number(text, digits, number)
 }
 
 // A headroom: its sign, 0 where there is none, and its size.
+#[tactic(auto, using(crate::proofs::TextLaws::signed_plain, crate::proofs::TextLaws::signed_minus))]
 fn put_signed(text: &mut [u8], at: usize, negative: u64, size: Sheets) -> usize
     requires { at + length (signed negative size.0) ≤ length text.old }
     ensures { (result ≡ at + length (signed negative size.0))
@@ -55,11 +54,11 @@ fn put_signed(text: &mut [u8], at: usize, negative: u64, size: Sheets) -> usize
     if negative == 0 {
         return put_spaced(text, at, size.0);
     }
-    text[at] = b' ';
-    text[at + 1] = b'-';
-    put_number(text, at + 2, size.0)
+    let digits = put(text, at, b" -");
+    put_number(text, digits, size.0)
 }
 
+#[tactic(auto, using(crate::proofs::TextLaws::signed_plain, crate::proofs::TextLaws::signed_minus, crate::proofs::TextLaws::length_spaced))]
 fn signed_length(negative: u64, size: Sheets) -> usize
     ensures { (result ≡ length (signed negative size.0)) × (result ≤ 22) }
 {
@@ -87,25 +86,19 @@ pub fn line_at(lines: &[u64], from: usize) -> Line
     ensures { result ≡ line_from (drop from lines.now) }
 {
     let row = &lines[from..from + LINE_NUMBERS];
-    let answer = row[0];
-    let negative = row[1];
-    let size = row[2];
-    let outstanding = row[3];
-    let own = row[4];
-    let client = row[5];
-    let guarantee = row[6];
     Line {
-        answer,
-        negative,
-        size: Sheets(size),
-        outstanding: Sheets(outstanding),
-        own: Fen(own),
-        client: Fen(client),
-        guarantee: Fen(guarantee),
+        answer: row[0],
+        negative: row[1],
+        size: Sheets(row[2]),
+        outstanding: Sheets(row[3]),
+        own: Fen(row[4]),
+        client: Fen(row[5]),
+        guarantee: Fen(row[6]),
     }
 }
 
 // How many bytes a line takes: beside its numbers five spaces and the line end.
+#[tactic(auto, using(crate::proofs::TextLaws::length_line, crate::proofs::TextLaws::length_spaced))]
 pub fn line_length(place: usize, line: Line) -> usize
     ensures { (result ≡ length (line_text place line)) × (result ≤ line_bytes) }
 {
@@ -116,6 +109,7 @@ pub fn line_length(place: usize, line: Line) -> usize
     front + headroom + cash + rest + 6
 }
 
+#[tactic(auto, using(crate::proofs::TextLaws::length_line))]
 pub fn put_line(text: &mut [u8], at: usize, place: usize, line: Line) -> usize
     requires { at + length (line_text place line) ≤ length text.old }
     ensures { (result ≡ at + length (line_text place line)) × (text.new ≡ placed text.old at (line_text place line)) }
@@ -127,6 +121,5 @@ pub fn put_line(text: &mut [u8], at: usize, place: usize, line: Line) -> usize
     let client = put_spaced(text, own, line.own.0);
     let guarantee = put_spaced(text, client, line.client.0);
     let end = put_spaced(text, guarantee, line.guarantee.0);
-    text[end] = b'\n';
-    end + 1
+    put(text, end, b"\n")
 }

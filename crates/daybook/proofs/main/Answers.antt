@@ -11,8 +11,8 @@ listing-within room text size count lists =
     omega (arith, listed.0, ap length listed.1, length-take count text)
 
 pub slice_bounds-text-end : goal.slice_bounds-text-end
-slice_bounds-text-end c = listing-within c.read_input.new.room _ c.in-Read.size _ c.write_input-length.ensures
+slice_bounds-text-end c = listing-within c.read_input.new.room _ c.in-Ok.size _ c.write_input-length.ensures
 
 pub slice_bounds-write_all-end : goal.slice_bounds-write_all-end
 slice_bounds-write_all-end c =
-    sym (length-take-le _ _ (listing-within c.read_input.new.room _ c.in-Read.size _ c.write_input-length.ensures))
+    sym (length-take-le _ _ (listing-within c.read_input.new.room _ c.in-Ok.size _ c.write_input-length.ensures))

@@ -1,8 +1,8 @@
-use Rattle.std.proofs.Common.{◌≡◌, length, ◌∙◌, arith}
-use Rattle.book.proofs.TableLaws.{written_all}
+use Rattle.std.proofs.Common.{length, ◌≡◌, sym, arith}
+use Rattle.book.proofs.TableLaws.{copied_all}
 use Rattle.book.proofs.copies.copy_out.Goals as goal
 
 pub returns : goal.returns
 returns c =
-    let at-end : c.loop-slot.slot ≡ length c.args.table.now = omega (arith, c.loop-slot.invariant.0) in
-    rw at-end at c.loop-slot.invariant.1 ∙ written_all c.args.flat.now c.args.table.now
+    let long : length c.loop-place.table ≡ length c.args.table.now = omega arith in
+    sym (rw long at (copied_all _ _ _ (omega (arith, c.requires)) (omega arith) c.loop-place.invariant))

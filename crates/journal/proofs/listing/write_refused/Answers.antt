@@ -16,4 +16,4 @@ returns-then-text-lt16 c =
 pub returns : goal.returns
 unfolding refused_line
 returns c =
-    in-front refused_line _ _ _ (omega (arith, line-long, c.if-text-lt16.false)) c.put-length.ensures.0 c.put-length.ensures.1
+    in-front refused_line _ _ _ (omega (arith, line-long, c.if-text-lt16.false)) c.put.ensures.0 c.put.ensures.1

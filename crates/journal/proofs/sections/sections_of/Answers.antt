@@ -1,36 +1,23 @@
-use Rattle.std.proofs.Common.{ap, ◌∙◌, arith}
+use Rattle.std.proofs.Common.{arith}
 use Rattle.journal.proofs.SectionLaws.{no-calendar, to-events, no-events, to_end, some_left, none_left}
 use Rattle.journal.proofs.sections.sections_of.Goals as goal
 
-pub returns-in_default : goal.returns-in_default
-returns-in_default c =
-    let same = ap (λ r. r.now) c.new-reader.ensures.0 in
-    no-calendar c.args.journal.now _ c.new-reader.ensures.1 (rw same at c.in_default.ensures)
+pub returns-in_err-words : goal.returns-in_err-words
+returns-in_err-words c = rw c.from_residual.ensures (no-calendar _ _ _ c.new-reader.ensures c.in_err-words.ensures)
 
-pub returns-in_default-section : goal.returns-in_default-section
-returns-in_default-section c =
-    let bytes = c.args.journal.now in
-    let same = ap (λ r. r.now) c.new-reader.ensures.0 in
-    let moved = ap (λ r. r.now) c.past-reader.ensures.0 ∙ same in
-    let here = to-events bytes _ _ _ c.new-reader.ensures.1 (rw same at c.in-Whole.ensures) (rw same at c.past-reader.ensures.1) in
-    no-events bytes _ _ here (rw moved at c.in_default-section.ensures)
+pub returns-in_err-events : goal.returns-in_err-events
+returns-in_err-events c =
+    let here = to-events _ _ _ _ _ _ c.new-reader.ensures c.in_ok-words.ensures c.past-reader.ensures in
+    rw c.from_residual-in_err-events.ensures (no-events _ _ _ _ here c.in_err-events.ensures)
 
 pub returns-then-left-gt0 : goal.returns-then-left-gt0
 returns-then-left-gt0 c =
-    let bytes = c.args.journal.now in
-    let same = ap (λ r. r.now) c.new-reader.ensures.0 in
-    let moved = ap (λ r. r.now) c.past-reader.ensures.0 ∙ same in
-    let ended = ap (λ r. r.now) c.past-reader-2.ensures.0 ∙ moved in
-    let here = to-events bytes _ _ _ c.new-reader.ensures.1 (rw same at c.in-Whole.ensures) (rw same at c.past-reader.ensures.1) in
-    let there = to_end bytes _ _ here _ _ (rw moved at c.in-Whole-section.ensures) (rw moved at c.past-reader-2.ensures.1) in
-    some_left bytes _ _ here _ _ _ there (rw ended at c.left.ensures) (omega (arith, c.if-left-gt0.true))
+    let here = to-events _ _ _ _ _ _ c.new-reader.ensures c.in_ok-words.ensures c.past-reader.ensures in
+    let there = to_end _ _ _ _ here _ _ _ c.in_ok-events.ensures c.past-reader-2.ensures in
+    some_left _ _ _ _ here _ _ _ _ there c.left.ensures (omega arith)
 
 pub returns : goal.returns
 returns c =
-    let bytes = c.args.journal.now in
-    let same = ap (λ r. r.now) c.new-reader.ensures.0 in
-    let moved = ap (λ r. r.now) c.past-reader.ensures.0 ∙ same in
-    let ended = ap (λ r. r.now) c.past-reader-2.ensures.0 ∙ moved in
-    let here = to-events bytes _ _ _ c.new-reader.ensures.1 (rw same at c.in-Whole.ensures) (rw same at c.past-reader.ensures.1) in
-    let there = to_end bytes _ _ here _ _ (rw moved at c.in-Whole-section.ensures) (rw moved at c.past-reader-2.ensures.1) in
-    none_left bytes _ _ here _ _ _ there (rw ended at c.left.ensures) (omega (arith, c.if-left-gt0.false))
+    let here = to-events _ _ _ _ _ _ c.new-reader.ensures c.in_ok-words.ensures c.past-reader.ensures in
+    let there = to_end _ _ _ _ here _ _ _ c.in_ok-events.ensures c.past-reader-2.ensures in
+    none_left _ _ _ _ here _ _ _ _ there c.left.ensures (omega arith)
