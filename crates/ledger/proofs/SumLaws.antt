@@ -31,6 +31,12 @@ module _ {A : Type 0} where
 pub one-fails : (n : ℕ) (p : ℕ → Bool) (k : ℕ) → k < n → p k ≡ false → all_below n p ≡ false
 one-fails n p k h e = by-test (λ b. b ≡ false) (all_below n p) (λ all. sym (all-at n p all k h) ∙ e) (λ none. refl)
 
+-- tests that agree
+pub all_same : (n : ℕ) (p q : ℕ → Bool) → ((k : ℕ) → k < n → p k ≡ q k) → all_below n p ≡ all_below n q
+unfolding all_below
+all_same zero p q h = refl
+all_same (suc n) p q h = rw (all_same n p q (λ k l. h k (omega arith)), h n (omega arith)) refl
+
 -- ---- sums
 
 pub sum_bound : (m n : ℕ) (f : ℕ → ℕ) → ((k : ℕ) → k < n → f k ≤ m) → sum_below n f ≤ n * m
@@ -52,6 +58,12 @@ pub sum_same : (n : ℕ) (f g : ℕ → ℕ) → ((k : ℕ) → k < n → f k �
 unfolding sum_below
 sum_same zero f g h = refl
 sum_same (suc n) f g h = omega (arith, sum_same n f g (λ k l. h k (omega arith)), h n (omega arith))
+
+-- the first term apart
+pub sum-front : (n : ℕ) (f : ℕ → ℕ) → sum_below (suc n) f ≡ f 0 + sum_below n (λ k. f (suc k))
+unfolding sum_below
+sum-front zero f = omega arith
+sum-front (suc n) f = omega (arith, sum-front n f)
 
 -- two sums that differ in one term differ by that term
 pub sum-changed : (n k : ℕ) (f g : ℕ → ℕ) → k < n → ((j : ℕ) → j < n → (j ≡ k → ⊥) → f j ≡ g j) → sum_below n f + g k ≡ sum_below n g + f k

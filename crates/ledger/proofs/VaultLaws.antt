@@ -1,6 +1,9 @@
 -- Collateral: the tests of fit cash and applications by their parts, V of a sound vault, and V after units of one kind are taken out.
 -- Assumes nothing.
-use Rattle.std.specs.Prelude.{◌≡◌, ℕ, ◌+◌, ◌-◌, ◌<◌, ◌≤◌, Bool, true, false, cond, eqb, length, get_or}
+use Rattle.std.specs.Prelude.{◌≡◌, ℕ, zero, suc, ◌+◌, ◌-◌, ◌<◌, ◌≤◌, Bool, true, false, cond, eqb, List, [], ◌∷◌, map, filter, sum, length, get_or, take}
+use Rattle.std.specs.List.{zip}
+use Rattle.std.proofs.lemmas.List.Sums.{sum_by-cons}
+use native.Mathlib.Nat.{zero-add}
 use mathlib.Core.Path.{refl, sym, ap, ◌∙◌}
 use native.Mathlib.Decide.{ℕ_discrete}
 use native.Mathlib.Omega.{arith}
@@ -9,18 +12,17 @@ use lib.Seq.{get_or-set_same, get_or-set_other}
 use Rattle.money.specs.Limits.{cash_limit, rate_limit}
 use Rattle.money.specs.Collateral.{rate_of, unit_limit_of, kind_value}
 use Rattle.money.proofs.Bounds.{value-bound}
-use Rattle.rules.specs.Folds.{sum_below}
+use Rattle.rules.specs.Folds.{sum_below, all_below}
 use Rattle.rules.specs.Limits.{application_limit}
 use Rattle.rules.specs.Book.{no_security}
 use Rattle.rules.specs.Vault.{security_at, effective_of, frozen_of, value}
 use Rattle.rules.specs.Fit.{securities_fit, all_cash, cash_fit, application_fit, withdrawals_fit}
 use Rattle.rules.specs.Withdraw.{applied}
 use Rattle.rules.specs.Close.{fewer, taken_out}
-use Rattle.rules.proofs.FoldLaws.{all_of}
 use Rattle.rules.proofs.FitParts.{securities-fit, withdrawals-fit}
 use Rattle.ledger.specs.Types.{Cash, Guarantee, Vault, Withdrawals}
 use Rattle.ledger.specs.Figures.{value_bound}
-use Rattle.ledger.proofs.SumLaws.{one-fails, sum_bound, sum-part, sum-changed}
+use Rattle.ledger.proofs.SumLaws.{sum-front, sum_bound, sum-part, sum-changed}
 
 -- ---- fit cash
 
@@ -51,13 +53,9 @@ module _ (withdrawals : Withdrawals) where
   unfolding withdrawals_fit
   too_many h = rw (lt-leb withdrawals.count application_limit h)
 
-  pub one-unfit : (i : ℕ) → withdrawals.count ≤ application_limit → i < withdrawals.count → application_at i ≡ false → false ≡ withdrawals_fit withdrawals
+  pub fit_each : withdrawals.count ≤ application_limit → all_below withdrawals.count application_at ≡ withdrawals_fit withdrawals
   unfolding withdrawals_fit
-  one-unfit i h l e = rw (le-leb withdrawals.count application_limit h) (sym (one-fails withdrawals.count application_at i l e))
-
-  pub all_fit : withdrawals.count ≤ application_limit → ((i : ℕ) → i < withdrawals.count → application_at i ≡ true) → true ≡ withdrawals_fit withdrawals
-  unfolding withdrawals_fit
-  all_fit h each = rw (le-leb withdrawals.count application_limit h) (sym (all_of withdrawals.count application_at each))
+  fit_each h = rw (le-leb withdrawals.count application_limit h)
 
   module _ (fits : withdrawals_fit withdrawals ≡ true) where
     pub applied-at-bound : (kind i : ℕ) → i < withdrawals.count → applied_at kind i ≤ cash_limit
@@ -71,6 +69,27 @@ module _ (withdrawals : Withdrawals) where
     unfolding applied
     applied-bound kind =
         omega (arith, sum_bound cash_limit withdrawals.count (applied_at kind) (applied-at-bound kind), (withdrawals-fit withdrawals fits).count)
+
+-- an iterator over both rows, that keeps the kind and sums its units, sums the same
+pub picked : (kind n : ℕ) (kinds units : List ℕ) → n ≤ length kinds → n ≤ length units
+    → sum (map (λ (a : ℕ × ℕ). a.1) (filter (λ (a : ℕ × ℕ). eqb a.0 kind) (zip (take n kinds) (take n units)))) ≡ sum_below n (λ i. cond (eqb (get_or kinds i 0) kind) (get_or units i 0) 0)
+unfolding sum_below
+picked kind zero kinds units h l = refl
+picked kind (suc n) [] units h l = absurd (omega arith)
+picked kind (suc n) (k ∷ kinds) [] h l = absurd (omega arith)
+picked kind (suc n) (k ∷ kinds) (u ∷ units) h l =
+    by (eqb k kind) (picked kind n kinds units (omega arith) (omega arith))
+    ∙ sym (sum-front n (λ i. cond (eqb (get_or (k ∷ kinds) i 0) kind) (get_or (u ∷ units) i 0) 0))
+  where
+    rest : List (ℕ × ℕ)
+    rest = filter (λ (a : ℕ × ℕ). eqb a.0 kind) (zip (take n kinds) (take n units))
+
+    later : ℕ
+    later = sum_below n (λ i. cond (eqb (get_or kinds i 0) kind) (get_or units i 0) 0)
+
+    by : (same : Bool) → sum (map (λ (a : ℕ × ℕ). a.1) rest) ≡ later → sum (map (λ (a : ℕ × ℕ). a.1) (cond same ((k, u) ∷ rest) rest)) ≡ cond same u 0 + later
+    by true e = sum_by-cons (λ x. x) u (map (λ (a : ℕ × ℕ). a.1) rest) ∙ ap (λ s. u + s) e
+    by false e = e ∙ sym (zero-add later)
 
 -- ---- a vault whose value is defined
 

@@ -23,7 +23,7 @@ fn freeze_refusal(scalars: Scalars, held: &[u64], kind: u8, units: u64) -> u8
         return 3;
     }
     let guarantee = scalars.guarantee;
-    if vault::effective_of(held, guarantee, kind) < units {
+    if vault::had_of(held, guarantee, kind).effective < units {
         return 13;
     }
     0

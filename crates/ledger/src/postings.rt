@@ -48,15 +48,7 @@ pub fn any_posted(held: &[u64]) -> bool
     requires { length held.now ≡ held_length }
     ensures { result ≡ false → (number : ℕ) → number < product_limit → is_posted (posting_in held.now number) ≡ false }
 {
-    let mut number = 0;
-    while number < PRODUCT_LIMIT {
-        let posting = posting_at(held, number);
-        if posting.term != 0 {
-            return true;
-        }
-        number += 1;
-    }
-    false
+    (0..PRODUCT_LIMIT).any(|number| posting_at(held, number).term != 0)
 }
 
 pub fn put_posting(held: &mut [u64], number: usize, posting: Posting)
@@ -75,11 +67,7 @@ pub fn forget(held: &mut [u64])
     requires { length held.old ≡ held_length }
     ensures { (postings_of held.new ≡ no_postings) × (securities_of held.new ≡ securities_of held.old) }
 {
-    let mut at = POSTINGS_FROM;
-    while at < HELD_LENGTH {
-        held[at] = 0;
-        at += 1;
-    }
+    held[POSTINGS_FROM..HELD_LENGTH].fill(0);
 }
 
 #[tactic(auto, using(crate::proofs::SumLaws::none_left))]
@@ -102,12 +90,5 @@ pub fn postings_fit(held: &[u64]) -> bool
     requires { length held.now ≡ held_length }
     ensures { result ≡ postings_fit (postings_of held.now) }
 {
-    let mut number = 0;
-    while number < PRODUCT_LIMIT {
-        if !posting_fit(posting_at(held, number)) {
-            return false;
-        }
-        number += 1;
-    }
-    true
+    (0..PRODUCT_LIMIT).all(|number| posting_fit(posting_at(held, number)))
 }

@@ -7,9 +7,9 @@ unfolding freeze_causes
 returns-then-kind-gt-CASH_KIND c kinds amounts =
     search column
 
-pub returns-then-effective_of-units : goal.returns-then-effective_of-units
+pub returns-then-had_of-units : goal.returns-then-had_of-units
 unfolding freeze_causes
-returns-then-effective_of-units c kinds amounts =
+returns-then-had_of-units c kinds amounts =
     search column
 
 pub returns : goal.returns

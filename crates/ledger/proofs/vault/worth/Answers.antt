@@ -7,4 +7,4 @@ pub returns : goal.returns
 returns c =
     let p = c.requires in
     let a = c.args in
-    ap (λ (w : Worth). w.sheets) c.kind_worth-worth.ensures ∙ worth-within a.kind a.effective a.frozen a.rate p.0 p.1 p.2 p.3
+    ap (λ (w : Worth). w.sheets) c.kind_worth.ensures ∙ worth-within a.kind a.had.effective a.had.frozen a.had.rate p.0 p.1 p.2 p.3
