@@ -3,6 +3,8 @@
 -- Assumes nothing.
 use Rattle.std.specs.Prelude.{◌≡◌, ℕ, zero, suc, ◌+◌, ◌-◌, ◌<◌, ◌≤◌, Bool, true, false, cond, List, [], ◌∷◌, map, length, get_or, set, take}
 use Rattle.std.specs.List.{zip}
+use Rattle.std.specs.Bool.{then_some}
+use Rattle.std.specs.Option.{MatchOption}
 use Rattle.std.proofs.lemmas.List.{get_or-take}
 use Rattle.std.proofs.lemmas.Slice.Zip.{length-zip, get_or-zip}
 use Rattle.std.proofs.lemmas.Grind.{get_or_default_zero}
@@ -72,13 +74,19 @@ module _ (served : Bool) (claims kind units : ℕ) (vault : Vault) where
   unfolding may_go
   frozen-stay e h = rw (e, lt-leb (frozen_of vault kind + units) (effective_of vault kind) h)
 
-  pub uncovered : served ≡ true → frozen_of vault kind + units ≤ effective_of vault kind → covers (value (taken_out kind units vault)) claims ≡ false → may_go served claims kind units vault ≡ false
+  uncovered : served ≡ true → frozen_of vault kind + units ≤ effective_of vault kind → covers (value (taken_out kind units vault)) claims ≡ false → may_go served claims kind units vault ≡ false
   unfolding may_go
   uncovered e h k = rw (e, le-leb (frozen_of vault kind + units) (effective_of vault kind) h, k)
 
-  pub may-go : served ≡ true → frozen_of vault kind + units ≤ effective_of vault kind → covers (value (taken_out kind units vault)) claims ≡ true → may_go served claims kind units vault ≡ true
+  may-go : served ≡ true → frozen_of vault kind + units ≤ effective_of vault kind → covers (value (taken_out kind units vault)) claims ≡ true → may_go served claims kind units vault ≡ true
   unfolding may_go
   may-go e h k = rw (e, le-leb (frozen_of vault kind + units) (effective_of vault kind) h, k)
+
+  -- and by V afterwards, in whole
+  pub judged-so : (covered : Bool) (after : Sheets) → served ≡ true → frozen_of vault kind + units ≤ effective_of vault kind → after.0 ≡ value (taken_out kind units vault) → covered ≡ covers after.0 claims
+      → MatchOption (then_some covered after) (may_go served claims kind units vault ≡ false) (λ left. (may_go served claims kind units vault ≡ true) × (left.0 ≡ value (taken_out kind units vault)))
+  judged-so true after e h a k = (may-go e h (rw a at (sym k)), a)
+  judged-so false after e h a k = uncovered e h (rw a at (sym k))
 
   -- what goes was unfrozen
   pub unfrozen : may_go served claims kind units vault ≡ true → frozen_of vault kind + units ≤ effective_of vault kind

@@ -1,9 +1,8 @@
 -- The securities in their row, four numbers each: which security stands where, what storing one changes, and whether all are fit.
 -- For the functions over the row, and those above them. Assumes nothing.
-use Rattle.std.specs.Prelude.{◌≡◌, ℕ, suc, ◌+◌, ◌-◌, ◌*◌, ◌<◌, ◌≤◌, ◌⊎◌, List, [], ◌∷◌, length, get_or, set, replicate, take}
+use Rattle.std.specs.Prelude.{◌≡◌, ℕ, ◌+◌, ◌-◌, ◌*◌, ◌<◌, ◌≤◌, ◌⊎◌, List, [], ◌∷◌, length, get_or, set, replicate, take}
 use mathlib.Core.Path.{sym, ap, ◌∙◌}
 use mathlib.Core.Logic.{inl, inr}
-use native.Mathlib.Numerals.{add-one}
 use native.Mathlib.Nat.{add-zero}
 use native.Mathlib.Omega.{arith}
 use native.Mathlib.Decide.{dec_lt, ℕ_discrete}
@@ -19,6 +18,7 @@ use Rattle.rules.specs.Folds.{all_below}
 use Rattle.ledger.specs.Types.{Security, Guarantee}
 use Rattle.ledger.specs.Flat.{security_in, up_to, securities_of, vault_of, postings_from, postings_of}
 use Rattle.ledger.proofs.SumLaws.{all_same}
+use Rattle.ledger.proofs.RowLaws.{row-put}
 use Rattle.ledger.proofs.UpToLaws.{length-up-to, up-to-below, same-up-to}
 use Rattle.ledger.proofs.PostingLaws.{postings-kept, zeros-post-nothing}
 use Rattle.ledger.proofs.StoreLaws.{get_or-sets-inside, get_or-sets-outside}
@@ -77,23 +77,10 @@ numbers-put held kind security h e =
         same_numbers (sets held (kind * 4) (numbers security)) held i i (λ k m. get_or-sets-outside (numbers security) held (kind * 4) (i * 4 + k) (apart kind i k q m))
         ∙ sym (get_or-set_other (securities_of held) kind i security no_security q ∙ security-below held 32 i l)
 
--- the four stores as the code makes them
-abbrev stores : List ℕ → (kind : ℕ) → Security → List ℕ
-stores held kind security =
-    set
-    (set (set (set held (kind * 4) security.effective) (kind * 4 + 1) security.arriving) (kind * 4 + 2) security.frozen)
-    (kind * 4 + 3)
-    security.rate
-
-in_a_row : (held : List ℕ) (kind : ℕ) (security : Security) → stores held kind security ≡ sets held (kind * 4) (numbers security)
-in_a_row held kind security =
-    let by_2 : kind * 4 + 2 ≡ suc (suc (kind * 4)) = omega arith in
-    let by-3 : kind * 4 + 3 ≡ suc (suc (suc (kind * 4))) = omega arith in
-    rw (add-one (kind * 4), by_2, by-3)
-
 pub security-put : (held : List ℕ) (kind : ℕ) (security : Security) → kind < 32 → length held ≡ 160
-    → (securities_of (stores held kind security) ≡ set (securities_of held) kind security) × (postings_of (stores held kind security) ≡ postings_of held)
-security-put held kind security h e = rw (in_a_row held kind security) (
+    → (securities_of (put_mid (kind * 4) (kind * 4 + 4 - kind * 4) held (numbers security)) ≡ set (securities_of held) kind security)
+    × (postings_of (put_mid (kind * 4) (kind * 4 + 4 - kind * 4) held (numbers security)) ≡ postings_of held)
+security-put held kind security h e = rw (row-put held (kind * 4) (numbers security) (omega arith)) (
   numbers-put held kind security h e,
   postings-kept _ held (λ k l. get_or-sets-outside (numbers security) held (kind * 4) k (inr (omega arith))),
 )

@@ -1,16 +1,11 @@
 -- A line of the listing: headroom's sign and size, its seven numbers in a row, and what they tell of an outcome.
 -- For the proofs of line.rt and run.rt. Assumes nothing.
-use Rattle.std.specs.Prelude.{◌≡◌, ℕ, ◌+◌, ◌-◌, ◌<◌, ◌≤◌, ltb, List, [], ◌∷◌, ◌++◌, length, take, drop, nat_abs}
+use Rattle.std.specs.Prelude.{◌≡◌, ℕ, ◌+◌, ◌<◌, ◌≤◌, ltb, List, [], ◌∷◌, nat_abs}
 use Rattle.std.specs.Int.{abs_diff, from_bool}
-use mathlib.Core.Path.{refl, sym, ap, ◌∙◌}
 use native.Mathlib.Decide.{dec_lt}
 use native.Mathlib.Omega.{arith}
 use borrow.Author.Tests.{lt-ltb, le-ltb}
 use lib.IntN.{sub_ℕ}
-use lib.Seq.{sets, sets-eq}
-use borrow.Rule.Slice.PartMut.{put_mid}
-use Rattle.std.proofs.lemmas.Slice.{put_mid-paste}
-use Rattle.std.proofs.lemmas.List.{take_all}
 use Rattle.rules.specs.Vault.{headroom_of, headroom}
 use Rattle.rules.specs.Step.{Outcome}
 use Rattle.rules.specs.Listing.{sign_of, line_of}
@@ -34,14 +29,6 @@ module _ (covered outstanding : ℕ) where
       by : Dec (covered < outstanding) → abs_diff covered outstanding ≡ nat_abs (sub_ℕ covered outstanding)
       by (yes h) = rw (lt-ltb covered outstanding h) (omega arith)
       by (no h) = let ample : outstanding ≤ covered = omega arith in rw (le-ltb covered outstanding ample) (omega arith)
-
--- ---- a row of numbers copied to its place
-
-pub row-put : (l : List ℕ) (at : ℕ) (row : List ℕ) → at + length row ≤ length l → put_mid at (at + length row - at) l row ≡ sets l at row
-row-put l at row h =
-    put_mid-paste at _ l row row (length row) refl (omega arith) refl
-    ∙ ap (λ (r : List ℕ). take at l ++ r ++ drop (at + length row) l) (take_all (length row) row (omega arith))
-    ∙ sym (sets-eq row l at h)
 
 -- ---- what a line tells
 

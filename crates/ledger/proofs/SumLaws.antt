@@ -86,6 +86,7 @@ pub test-holds : (test : Bool) (tests : List Bool) (r : Bool) → test ≡ true 
 unfolding every
 test-holds test tests r e f = rw e f
 
-pub none_left : true ≡ every []
+pub only-test : (test : Bool) → test ≡ every (test ∷ [])
 unfolding every
-none_left = refl
+only-test true = refl
+only-test false = refl

@@ -1,4 +1,4 @@
--- Collateral: the tests of fit cash and applications by their parts, V of a sound vault, and V after units of one kind are taken out.
+-- Collateral: the test of applications by its parts, what they sum to, V of a sound vault, and V after units of one kind are taken out.
 -- Assumes nothing.
 use Rattle.std.specs.Prelude.{◌≡◌, ℕ, zero, suc, ◌+◌, ◌-◌, ◌<◌, ◌≤◌, Bool, true, false, cond, eqb, List, [], ◌∷◌, map, filter, sum, length, get_or, take}
 use Rattle.std.specs.List.{zip}
@@ -16,28 +16,13 @@ use Rattle.rules.specs.Folds.{sum_below, all_below}
 use Rattle.rules.specs.Limits.{application_limit}
 use Rattle.rules.specs.Book.{no_security}
 use Rattle.rules.specs.Vault.{security_at, effective_of, frozen_of, value}
-use Rattle.rules.specs.Fit.{securities_fit, all_cash, cash_fit, application_fit, withdrawals_fit}
+use Rattle.rules.specs.Fit.{securities_fit, application_fit, withdrawals_fit}
 use Rattle.rules.specs.Withdraw.{applied}
 use Rattle.rules.specs.Close.{fewer, taken_out}
 use Rattle.rules.proofs.FitParts.{securities-fit, withdrawals-fit}
-use Rattle.ledger.specs.Types.{Cash, Guarantee, Vault, Withdrawals}
+use Rattle.ledger.specs.Types.{Vault, Withdrawals}
 use Rattle.ledger.specs.Figures.{value_bound}
 use Rattle.ledger.proofs.SumLaws.{sum-front, sum_bound, sum-part, sum-changed}
-
--- ---- fit cash
-
-module _ (cash : Cash) (guarantee : Guarantee) where
-  pub cash-over : cash_limit < all_cash cash guarantee → false ≡ cash_fit cash guarantee
-  unfolding cash_fit
-  cash-over h = rw (lt-leb (all_cash cash guarantee) cash_limit h)
-
-  pub cash-frozen : all_cash cash guarantee ≤ cash_limit → guarantee.effective.0 < guarantee.frozen.0 → false ≡ cash_fit cash guarantee
-  unfolding cash_fit
-  cash-frozen h k = rw (le-leb (all_cash cash guarantee) cash_limit h, lt-leb guarantee.frozen.0 guarantee.effective.0 k)
-
-  pub cash-within : all_cash cash guarantee ≤ cash_limit → guarantee.frozen.0 ≤ guarantee.effective.0 → true ≡ cash_fit cash guarantee
-  unfolding cash_fit
-  cash-within h k = rw (le-leb (all_cash cash guarantee) cash_limit h, le-leb guarantee.frozen.0 guarantee.effective.0 k)
 
 -- ---- fit applications, and the units that are applied for
 

@@ -76,25 +76,14 @@ fn judged(
         → let goes = may_go served (claims_of outstanding.0 unpaid.0) kind units vault in
         MatchOption result (goes ≡ false) (λ after. (goes ≡ true) × (after.0 ≡ value_of (taken_out kind units vault))) }
 {
-    if !served {
+    if !served || had.effective - had.frozen < units {
         return None;
     }
-    if had.effective - had.frozen < units {
-        return None;
-    }
+    let effective = had.effective - units;
     let with = vault::worth(kind, had);
-    let without = vault::worth(
-        kind,
-        Security {
-            effective: had.effective - units,
-            ..had
-        },
-    );
+    let without = vault::worth(kind, Security { effective, ..had });
     let after = Sheets(value.0 - with.0 + without.0);
-    if !headroom::covers(after, outstanding, unpaid) {
-        return None;
-    }
-    Some(after)
+    headroom::covers(after, outstanding, unpaid).then_some(after)
 }
 
 // Own and guarantee cash and V as the evening goes on, and the applications done and dropped so far. The securities stand in their row.
@@ -108,7 +97,6 @@ pub struct EveningScalars {
 }
 
 // The applications in order: of each one's kind a copy is looked at, and written back if it goes.
-#[tactic(auto, using(crate::proofs::SumLaws::turn_more, crate::proofs::EveningLaws::held_fits, crate::proofs::EveningLaws::turn, crate::proofs::EveningLaws::unfrozen), unfolding(rules::specs::Close::applications, money::specs::Causes::first_of))]
 pub fn applications(
     served: bool,
     outstanding: Sheets,
@@ -137,33 +125,19 @@ pub fn applications(
         × (postings_of held.new ≡ postings_of held.old) }
 {
     let mut evening = begun;
-    for (kind, amount) in kinds[..count].iter().zip(&units[..count]) {
-        let had = vault::had_of(&*held, evening.guarantee, *kind);
-        match judged(
-            served,
-            outstanding,
-            unpaid,
-            *kind,
-            *amount,
-            had,
-            evening.value,
-        ) {
+    for (&kind, &amount) in kinds[..count].iter().zip(&units[..count]) {
+        let had = vault::had_of(&*held, evening.guarantee, kind);
+        let value = evening.value;
+        match judged(served, outstanding, unpaid, kind, amount, had, value) {
             Some(after) => {
                 evening.done += 1;
                 evening.value = after;
-                let left = had.effective - *amount;
-                if *kind < CASH_KIND {
-                    held::put_security(
-                        held,
-                        *kind as usize,
-                        Security {
-                            effective: left,
-                            ..had
-                        },
-                    );
+                let effective = had.effective - amount;
+                if kind < CASH_KIND {
+                    held::put_security(held, kind as usize, Security { effective, ..had });
                 } else {
-                    evening.guarantee.effective = Fen(left);
-                    evening.own = Fen(evening.own.0 + *amount);
+                    evening.guarantee.effective = Fen(effective);
+                    evening.own = Fen(evening.own.0 + amount);
                 }
             }
             None => evening.dropped += 1,

@@ -83,15 +83,10 @@ fn failed_more(failed: FailedRun) -> FailedRun
 fn paid_standing(standing: Standing, failed: FailedRun) -> Standing
     ensures { result ≡ paid_standing failed standing }
 {
-    let day = standing.day;
-    let status = standing.status;
-    let short = standing.short;
     Standing {
-        day,
         phase: Phase::Paid,
-        status,
         failed,
-        short,
+        ..standing
     }
 }
 

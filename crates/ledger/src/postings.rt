@@ -14,6 +14,7 @@ use rules::limits::{AHEAD_LIMIT, PRODUCT_LIMIT};
 
 pub const LONGEST_TERM: u64 = AHEAD_LIMIT as u64;
 
+// Its prices share a number, so it is read and written otherwise than a security, whose numbers stand alone.
 #[tactic(auto, unfolding(crate::specs::Flat::posting_in, money::specs::Causes::first_of))]
 pub fn posting_at(held: &[u64], number: usize) -> Posting
     requires { (number < product_limit) × (length held.now ≡ held_length) }
@@ -70,20 +71,12 @@ pub fn forget(held: &mut [u64])
     held[POSTINGS_FROM..HELD_LENGTH].fill(0);
 }
 
-#[tactic(auto, using(crate::proofs::SumLaws::none_left))]
 fn posting_fit(posting: Posting) -> bool
     ensures { result ≡ posting_fit posting }
 {
-    if posting.term > LONGEST_TERM {
-        return false;
-    }
-    if posting.price.0 > PRICE_LIMIT {
-        return false;
-    }
-    if posting.fallback.0 > PRICE_LIMIT {
-        return false;
-    }
-    true
+    posting.term <= LONGEST_TERM
+        && posting.price.0 <= PRICE_LIMIT
+        && posting.fallback.0 <= PRICE_LIMIT
 }
 
 pub fn postings_fit(held: &[u64]) -> bool

@@ -15,23 +15,13 @@ use money::units::Sheets;
 use rules::book::{Cash, Guarantee, Security};
 use rules::limits::APPLICATION_LIMIT;
 
-#[tactic(auto, using(crate::proofs::SumLaws::none_left))]
+// Here and below sums saturate, so that none wraps on an unfit book.
 fn security_fit(security: Security) -> bool
     ensures { result ≡ security_fit security }
 {
-    if security.effective > UNIT_LIMIT {
-        return false;
-    }
-    if security.arriving > UNIT_LIMIT - security.effective {
-        return false;
-    }
-    if security.rate > RATE_LIMIT {
-        return false;
-    }
-    if security.frozen > security.effective {
-        return false;
-    }
-    true
+    security.effective.saturating_add(security.arriving) <= UNIT_LIMIT
+        && security.rate <= RATE_LIMIT
+        && security.frozen <= security.effective
 }
 
 pub fn securities_fit(held: &[u64]) -> bool
@@ -41,41 +31,18 @@ pub fn securities_fit(held: &[u64]) -> bool
     (0..SECURITIES).all(|kind| security_fit(held::security_at(held, kind)))
 }
 
-// Each sum is tested before the next, so that none wraps on an unfit book.
 pub fn cash_fit(cash: Cash, guarantee: Guarantee) -> bool
     ensures { result ≡ cash_fit cash guarantee }
 {
-    if cash.own.0 > CASH_LIMIT {
-        return false;
-    }
-    if cash.client.0 > CASH_LIMIT {
-        return false;
-    }
-    if guarantee.effective.0 > CASH_LIMIT {
-        return false;
-    }
-    if guarantee.arriving.0 > CASH_LIMIT {
-        return false;
-    }
-    if cash.own.0 + cash.client.0 + guarantee.effective.0 + guarantee.arriving.0 > CASH_LIMIT {
-        return false;
-    }
-    if guarantee.frozen.0 > guarantee.effective.0 {
-        return false;
-    }
-    true
+    let own = cash.own.0.saturating_add(cash.client.0);
+    let held = guarantee.effective.0.saturating_add(guarantee.arriving.0);
+    own.saturating_add(held) <= CASH_LIMIT && guarantee.frozen.0 <= guarantee.effective.0
 }
 
 fn application_fit(kind: u8, units: u64) -> bool
     ensures { result ≡ application_fit kind units }
 {
-    if kind > CASH_KIND {
-        return false;
-    }
-    if units > CASH_LIMIT {
-        return false;
-    }
-    true
+    kind <= CASH_KIND && units <= CASH_LIMIT
 }
 
 #[tactic(auto, using(crate::proofs::VaultLaws::too_many))]
@@ -83,10 +50,7 @@ pub fn withdrawals_fit(kinds: &[u8], units: &[u64], count: usize) -> bool
     requires { (length kinds.now ≡ application_limit) × (length units.now ≡ application_limit) }
     ensures { result ≡ withdrawals_fit (record { kinds = kinds.entry.now; units = units.now; count = count }) }
 {
-    if count > APPLICATION_LIMIT {
-        return false;
-    }
-    (0..count).all(|i| application_fit(kinds[i], units[i]))
+    count <= APPLICATION_LIMIT && (0..count).all(|i| application_fit(kinds[i], units[i]))
 }
 
 // What is had of a kind: a security as its row has it, or guarantee cash as one. The rate of cash is not looked at.
@@ -133,7 +97,6 @@ fn value_at(held: &[u64], guarantee: Guarantee, kind: u8) -> Sheets
 }
 
 // V: the value of the 32 securities, and of the guarantee cash.
-#[tactic(auto, unfolding(rules::specs::Vault::value, money::specs::Causes::first_of))]
 pub fn value_of(held: &[u64], guarantee: Guarantee) -> Sheets
     requires { (length held.now ≡ held_length)
         × (securities_fit (vault_of guarantee (securities_of held.now)) ≡ true)
@@ -148,7 +111,6 @@ pub fn value_of(held: &[u64], guarantee: Guarantee) -> Sheets
 }
 
 // The units of a kind that stand applied for.
-#[tactic(auto, unfolding(rules::specs::Withdraw::applied, money::specs::Causes::first_of))]
 pub fn applied_of(kinds: &[u8], units: &[u64], count: usize, kind: u8) -> u64
     requires { (length kinds.now ≡ application_limit)
         × (length units.now ≡ application_limit)

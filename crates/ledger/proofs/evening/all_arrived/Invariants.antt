@@ -1,4 +1,4 @@
-use Rattle.std.proofs.Common.{◌≡◌, length}
+use Rattle.std.proofs.Common.{◌≡◌}
 use Rattle.rules.specs.Close.{security_arrived}
 use Rattle.ledger.specs.Flat.{securities_of, postings_of}
 use Rattle.ledger.proofs.EveningLaws.{map_below}

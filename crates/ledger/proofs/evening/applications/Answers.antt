@@ -1,7 +1,6 @@
 -- Each application goes, or stays: what is had of its kind, what is judged of it, and the evening after its turn.
 use Rattle.std.proofs.Common.{arith, sym, ap, ◌∙◌, refl, ◌≡◌, ℕ, ◌+◌, ◌<◌, ◌≤◌, List, ◌∷◌, [], ◌++◌, Bool, true, false, length, length-append, take}
-use Rattle.std.specs.Prelude.{cond, get_or}
-use Rattle.std.specs.List.{zip}
+use Rattle.std.specs.Prelude.{cond}
 use Rattle.std.proofs.lemmas.Iterator.{YieldsList-from_slice, YieldsList-from_zip}
 use Rattle.std.proofs.lemmas.Iterator.Consumers.{YieldsList-turn, YieldsList-end}
 use Rattle.std.proofs.lemmas.Slice.Zip.{length-zip}
@@ -11,11 +10,11 @@ use Rattle.rules.specs.Folds.{in_turn}
 use Rattle.rules.specs.Vault.{security_at, is_cash, value as value_of}
 use Rattle.rules.specs.Close.{Evening, taken_out, claims_of, may_go, settled, applications}
 use Rattle.rules.proofs.FitParts.{ApplicationFits, securities-fit, withdrawals-fit}
-use Rattle.ledger.specs.Types.{Security, Vault, Withdrawals}
-use Rattle.ledger.specs.Flat.{securities_of, postings_of, vault_of, evening_at}
+use Rattle.ledger.specs.Types.{Vault, Withdrawals}
+use Rattle.ledger.specs.Flat.{securities_of, vault_of, evening_at}
 use Rattle.ledger.proofs.SumLaws.{turn-none, turn_more}
 use Rattle.ledger.proofs.HeldLaws.{length-securities, security-at-row}
-use Rattle.ledger.proofs.EveningLaws.{asked, made, Kept, Held, Come, come, held_fits, security-taken, cash-taken, sound-of, turn, turns-keep, turns-count, unfrozen}
+use Rattle.ledger.proofs.EveningLaws.{asked, made, Kept, Come, come, held_fits, security-taken, cash-taken, sound-of, turn, turns-keep, turns-count, unfrozen}
 use Rattle.ledger.proofs.evening.applications.Goals as goal
 use Rattle.ledger.proofs.evening.applications.Goals.{In-Some, After-had_of-had, In-Some-judged}
 
@@ -62,16 +61,16 @@ module _ (c : In-Some) where
   abbrev before : Evening
   before = evening_at c.loop-kind.evening (securities_of c.loop-kind.held)
 
-  at-hand : Come c.args.kinds.now c.args.units.now c.args.count (length c.loop-kind.yielded) c.in-Some.kind.now c.in-Some.amount.now
+  at-hand : Come c.args.kinds.now c.args.units.now c.args.count (length c.loop-kind.yielded) c.in-Some.field-0-0.now c.in-Some.field-0-1.now
   at-hand =
       let a = c.args in
       let few : a.count ≤ 128 = (withdrawals-fit _ c.requires.kinds_len.3).count in
       let at =
       YieldsList-turn (YieldsList-from_zip {s = c.into_iter-kind-iterator.result} (YieldsList-from_slice (take a.count a.kinds.now) (cc)) (YieldsList-from_slice (take a.count a.units.now) (cc)))
-      c.loop-kind.yielded c.loop-kind.kind-iterator c.loop-kind.yielded_by c.next.result c.next.new.self (c.in-Some.kind, c.in-Some.amount) c.in-Some.is c.next.ensures.steps in
+      c.loop-kind.yielded c.loop-kind.kind-iterator c.loop-kind.yielded_by c.next.result c.next.new.self _ c.in-Some.is c.next.ensures.steps in
       come a.kinds.now a.units.now a.count _ _ _ (omega (arith, few, c.requires.kinds_len.0)) (omega (arith, few, c.requires.kinds_len.1)) at.0 at.1
 
-  fits : ApplicationFits c.in-Some.kind.now c.in-Some.amount.now
+  fits : ApplicationFits c.in-Some.field-0-0.now c.in-Some.field-0-1.now
   fits = rw (at-hand.kind-is, at-hand.amount-is) ((withdrawals-fit _ c.requires.kinds_len.3).each _ at-hand.below)
 
   kept : Kept before
@@ -99,12 +98,12 @@ judged-requires c =
 
 -- what was judged of it, where it goes
 module _ (c : In-Some-judged) where
-  goes : may_go c.args.served (claims_of c.args.outstanding.0 c.args.unpaid.0) c.in-Some.kind.now c.in-Some.amount.now (vault_of c.loop-kind.evening.guarantee (securities_of c.loop-kind.held)) ≡ true
+  goes : may_go c.args.served (claims_of c.args.outstanding.0 c.args.unpaid.0) c.in-Some.field-0-0.now c.in-Some.field-0-1.now (vault_of c.loop-kind.evening.guarantee (securities_of c.loop-kind.held)) ≡ true
   goes =
       let had = c.had_of-had.ensures in
       (c.in-Some-judged.ensures _ (length-securities c.loop-kind.held 32) had.units.0 had.units.1 had.rate c.loop-kind.invariant.1).0
 
-  valued : c.in-Some-judged.after.0 ≡ value_of (taken_out c.in-Some.kind.now c.in-Some.amount.now (vault_of c.loop-kind.evening.guarantee (securities_of c.loop-kind.held)))
+  valued : c.in-Some-judged.after.0 ≡ value_of (taken_out c.in-Some.field-0-0.now c.in-Some.field-0-1.now (vault_of c.loop-kind.evening.guarantee (securities_of c.loop-kind.held)))
   valued =
       let had = c.had_of-had.ensures in
       (c.in-Some-judged.ensures _ (length-securities c.loop-kind.held 32) had.units.0 had.units.1 had.rate c.loop-kind.invariant.1).1
@@ -112,20 +111,20 @@ module _ (c : In-Some-judged) where
 pub overflow_add-evening : goal.overflow_add-evening
 overflow_add-evening c = omega (arith, counted (goal.at.overflow_add-evening c).In-Some)
 
-pub overflow_sub-left : goal.overflow_sub-left
-overflow_sub-left c = omega (arith, c.had_of-had.ensures.units.0, unfrozen _ _ _ _ _ (goes (goal.at.overflow_sub-left c).In-Some-judged))
+pub overflow_sub-effective : goal.overflow_sub-effective
+overflow_sub-effective c = omega (arith, c.had_of-had.ensures.units.0, unfrozen _ _ _ _ _ (goes (goal.at.overflow_sub-effective c).In-Some-judged))
 
 pub loop-kind-preserved-then-kind-lt-CASH_KIND : goal.loop-kind-preserved-then-kind-lt-CASH_KIND
 loop-kind-preserved-then-kind-lt-CASH_KIND c =
     let h = (goal.at.loop-kind-preserved-then-kind-lt-CASH_KIND c).In-Some in
     let went-so = (goal.at.loop-kind-preserved-then-kind-lt-CASH_KIND c).In-Some-judged in
-    let kind = c.in-Some.kind.now in
+    let kind = c.in-Some.field-0-0.now in
     let evening = c.loop-kind.evening in
     let security : kind < 32 = c.if-kind-lt-CASH_KIND.true in
     let row : c.had_of-had.result ≡ security_at (before h).vault kind = c.had_of-had.ensures.security security ∙ sym (security-at-row c.loop-kind.held evening.guarantee kind security) in
-    let next : vault_of evening.guarantee (securities_of c.put_security.new.held) ≡ taken_out kind c.in-Some.amount.now (before h).vault =
-    ap (vault_of evening.guarantee) c.put_security.ensures.0 ∙ security-taken (before h).vault kind c.had_of-had.result c.in-Some.amount.now security row in
-    let own : evening.own.0 ≡ cond (is_cash kind) (evening.own.0 + c.in-Some.amount.now) evening.own.0 = rw (ne_eqb kind 32 (λ e. omega arith)) in (
+    let next : vault_of evening.guarantee (securities_of c.put_security.new.held) ≡ taken_out kind c.in-Some.field-0-1.now (before h).vault =
+    ap (vault_of evening.guarantee) c.put_security.ensures.0 ∙ security-taken (before h).vault kind c.had_of-had.result c.in-Some.field-0-1.now security row in
+    let own : evening.own.0 ≡ cond (is_cash kind) (evening.own.0 + c.in-Some.field-0-1.now) evening.own.0 = rw (ne_eqb kind 32 (λ e. omega arith)) in (
       one-more c.args.served (claims h) _ _ _ _ _ _ (before h) _ c.loop-kind.yielded _ (at-hand h) c.loop-kind.invariant.0 (went c.args.served (claims h) _ _ (before h) (goes went-so) own next),
       valued went-so ∙ sym (ap value_of next),
       c.put_security.ensures.1 ∙ c.loop-kind.invariant.2,
@@ -140,11 +139,11 @@ pub loop-kind-preserved-else-kind-lt-CASH_KIND : goal.loop-kind-preserved-else-k
 loop-kind-preserved-else-kind-lt-CASH_KIND c =
     let h = (goal.at.loop-kind-preserved-else-kind-lt-CASH_KIND c).In-Some in
     let went-so = (goal.at.loop-kind-preserved-else-kind-lt-CASH_KIND c).In-Some-judged in
-    let kind = c.in-Some.kind.now in
+    let kind = c.in-Some.field-0-0.now in
     let evening = c.loop-kind.evening in
     let cash : kind ≡ 32 = omega (arith, c.if-kind-lt-CASH_KIND.false, (fits h).known) in
-    let next = cash-taken (before h).vault kind c.in-Some.amount.now c.had_of-had.result.effective cash (rw (eq-eqb kind 32 cash) at c.had_of-had.ensures.units.0) in
-    let own : evening.own.0 + c.in-Some.amount.now ≡ cond (is_cash kind) (evening.own.0 + c.in-Some.amount.now) evening.own.0 = rw (eq-eqb kind 32 cash) in (
+    let next = cash-taken (before h).vault kind c.in-Some.field-0-1.now c.had_of-had.result.effective cash (rw (eq-eqb kind 32 cash) at c.had_of-had.ensures.units.0) in
+    let own : evening.own.0 + c.in-Some.field-0-1.now ≡ cond (is_cash kind) (evening.own.0 + c.in-Some.field-0-1.now) evening.own.0 = rw (eq-eqb kind 32 cash) in (
       one-more c.args.served (claims h) _ _ _ _ _ _ (before h) _ c.loop-kind.yielded _ (at-hand h) c.loop-kind.invariant.0 (went c.args.served (claims h) _ _ (before h) (goes went-so) own next),
       valued went-so ∙ sym (ap value_of next),
       c.loop-kind.invariant.2,

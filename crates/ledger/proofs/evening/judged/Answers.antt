@@ -1,33 +1,25 @@
-use Rattle.std.proofs.Common.{arith, ◌≡◌, ◌+◌, ◌-◌, ◌≤◌, sym, ap, ◌∙◌}
+use Rattle.std.proofs.Common.{arith, ◌-◌, ◌≤◌, ap}
 use Rattle.std.specs.Prelude.{not}
 use borrow.Author.Tests.{not-true, not-false}
 use Rattle.money.specs.declared.units.Sheets.{Sheets}
 use Rattle.money.specs.Collateral.{kind_value}
 use Rattle.money.proofs.Bounds.{value-bound}
-use Rattle.ledger.proofs.EveningLaws.{unserved, frozen-stay, uncovered, may-go, value_after}
+use Rattle.ledger.proofs.EveningLaws.{unserved, frozen-stay, judged-so, value_after}
 use Rattle.ledger.proofs.evening.judged.Goals as goal
+use Rattle.ledger.proofs.evening.judged.Goals.{then-not-served-via-then-not-served, then-not-served-via-else-not-served+then-had-units}
 
 pub returns-then-not-served : goal.returns-then-not-served
 returns-then-not-served c vault full e f r v =
-    unserved _ _ _ _ vault (not-true _ (ap not c.if-not-served.true))
-
-pub returns-then-had-units : goal.returns-then-had-units
-returns-then-had-units c vault full e f r v =
-    frozen-stay _ _ _ _ vault (not-false _ (ap not c.if-not-served.false)) (omega arith)
-
-pub returns-then-not-covers : goal.returns-then-not-covers
-returns-then-not-covers c vault full e f r v =
-    let after = value_after vault _ c.args.had c.args.units _ _ _ (record { effective = e; frozen = f; rate = r }) c.requires.0 full v c.requires.4 c.worth-with.ensures c.worth-without.ensures in
-    uncovered _ _ _ _ vault (not-false _ (ap not c.if-not-served.false)) (omega (arith, e, f, c.requires.1, c.if-had-units.false))
-    (rw after at (sym c.covers.ensures ∙ not-true _ (ap not c.if-not-covers.true)))
+    elim c.then-not-served.branch [
+      | then-not-served-via-then-not-served w ↦ unserved _ _ _ _ vault (not-true _ (ap not w.if-not-served.true))
+      | then-not-served-via-else-not-served+then-had-units w ↦ frozen-stay _ _ _ _ vault (not-false _ (ap not w.if-not-served.false)) (omega (arith, w.if-had-units.true, c.requires.1, e, f))
+    ]
 
 pub returns : goal.returns
 returns c vault full e f r v =
-    let after = value_after vault _ c.args.had c.args.units _ _ _ (record { effective = e; frozen = f; rate = r }) c.requires.0 full v c.requires.4 c.worth-with.ensures c.worth-without.ensures in (
-      may-go _ _ _ _ vault (not-false _ (ap not c.if-not-served.false)) (omega (arith, e, f, c.requires.1, c.if-had-units.false))
-          (rw after at (sym c.covers.ensures ∙ not-false _ (ap not c.if-not-covers.false))),
-      after,
-    )
+    let after = value_after vault _ c.args.had c.args.units _ _ _ (record { effective = e; frozen = f; rate = r }) c.requires.0 full v c.requires.4 c.worth-with.ensures c.worth-without.ensures in
+    rw c.then_some.ensures
+    (judged-so _ _ _ _ vault c.covers.result _ (not-false _ (ap not c.if-not-served.false)) (omega (arith, e, f, c.requires.1, c.if-had-units.false)) after c.covers.ensures)
 
 pub overflow_sub-after : goal.overflow_sub-after
 overflow_sub-after c =

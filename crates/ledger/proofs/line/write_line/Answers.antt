@@ -1,7 +1,8 @@
 use Rattle.std.proofs.Common.{ap, ◌∙◌, ◌≡◌, ℕ, ◌+◌, List, ◌∷◌, [], unsigned_abs}
 use Rattle.rules.specs.Vault.{headroom_of}
 use Rattle.rules.specs.Listing.{sign_of}
-use Rattle.ledger.proofs.LineLaws.{sign-told, size-told, row-put}
+use Rattle.ledger.proofs.LineLaws.{sign-told, size-told}
+use Rattle.ledger.proofs.RowLaws.{row-put}
 use Rattle.ledger.proofs.line.write_line.Goals as goal
 
 pub returns : goal.returns

@@ -1,9 +1,8 @@
 use Rattle.std.proofs.Common.{rules, arith, ◌≡◌, refl, ◌∙◌}
 use Rattle.rules.specs.Book.{no_security, no_posting}
-use Rattle.ledger.specs.Flat.{securities_of, postings_of}
 use Rattle.ledger.proofs.HeldLaws.{length-securities}
 use Rattle.ledger.proofs.PostingLaws.{length-postings}
-use Rattle.ledger.proofs.RowLaws.{Filled, none_filled, one-filled, all-filled}
+use Rattle.ledger.proofs.RowLaws.{none_filled, one-filled, all-filled}
 use Rattle.ledger.proofs.split.held_of.Goals as goal
 
 pub loop-kind-preserved : goal.loop-kind-preserved

@@ -1,7 +1,6 @@
 -- The iterator gives the units of the kind's applications, in order: what they sum to is what is applied for, which is bounded.
-use Rattle.std.proofs.Common.{rules, tests, arith, ◌≡◌, ◌≤◌, ◌∙◌, ℕ, List, eqb, map, filter, take, length}
-use Rattle.std.specs.List.{zip}
-use Rattle.std.proofs.lemmas.Iterator.{YieldsList, YieldsList-from_map, YieldsList-from_slice, YieldsList-from_zip}
+use Rattle.std.proofs.Common.{rules, tests, arith, ◌∙◌, ℕ, eqb, take}
+use Rattle.std.proofs.lemmas.Iterator.{YieldsList-from_map, YieldsList-from_slice, YieldsList-from_zip}
 use Rattle.std.proofs.lemmas.Iterator.Consumers.{YieldsList-at, YieldsList-from_filter, sum_from_yields_List, fits_from_yields_list}
 use lib.ListN.{length-take}
 use Rattle.rules.specs.Withdraw.{applied}

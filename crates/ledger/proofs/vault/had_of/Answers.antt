@@ -1,10 +1,9 @@
-use Rattle.std.proofs.Common.{arith, sym, ap, ◌≡◌, ◌∙◌}
-use borrow.Author.Tests.{eq-eqb, ne_eqb}
+use Rattle.std.proofs.Common.{arith, sym, ap}
+use borrow.Author.Tests.{ne_eqb}
 use lib.ListN.{get_or-eq_default}
 use Rattle.rules.specs.Book.{no_security}
-use Rattle.rules.specs.Vault.{security_at}
 use Rattle.ledger.specs.Types.{Security}
-use Rattle.ledger.specs.Flat.{vault_of, securities_of}
+use Rattle.ledger.specs.Flat.{securities_of}
 use Rattle.ledger.proofs.HeldLaws.{length-securities, security-at-row}
 use Rattle.ledger.proofs.vault.had_of.Goals as goal
 

@@ -9,7 +9,7 @@ use Rattle.rules.specs.Withdraw.{applied}
 use Rattle.rules.proofs.FoldLaws.{by-test}
 use Rattle.rules.proofs.FitParts.{cash-fits}
 use Rattle.ledger.specs.Flat.{securities_of, vault_of, rows_of, book_of}
-use Rattle.ledger.proofs.VaultLaws.{Sound, kind_fits, applied-bound}
+use Rattle.ledger.proofs.VaultLaws.{kind_fits, applied-bound}
 use Rattle.ledger.proofs.withdraw.lacks.Goals as goal
 use Rattle.ledger.proofs.withdraw.lacks.Goals.{Else-had-count}
 
