@@ -1,7 +1,8 @@
 -- What is posted, in the row behind the securities, two numbers a product: which posting stands where, what storing one changes, and
 -- whether all are fit. For the functions of postings.rt, and those above them. Assumes nothing.
-use Rattle.std.specs.Prelude.{◌≡◌, ℕ, zero, suc, ◌+◌, ◌-◌, ◌*◌, ◌<◌, ◌≤◌, List, length, get_or, set}
-use mathlib.Core.Path.{refl, sym, ap, ◌∙◌}
+use Rattle.std.specs.Prelude.{◌≡◌, ℕ, ◌+◌, ◌*◌, ◌<◌, ◌≤◌, List, length, get_or, set}
+use mathlib.Core.Path.{sym, ap, ◌∙◌}
+use native.Mathlib.Numerals.{add-one}
 use native.Mathlib.Omega.{arith}
 use native.Mathlib.Decide.{ℕ_discrete}
 use lib.ListN.{length-set, length-replicate, get_or-replicate}
@@ -27,9 +28,8 @@ pub posting-below : (held : List ℕ) (number : ℕ) → number < product_limit 
 posting-below held number h = up-to-below (posting_in held) no_posting product_limit number h
 
 -- what is posted for a record's product, the number plus 1
-pub posting-for : (held : List ℕ) (product : ℕ) → (product ≡ 0 → ⊥) → product ≤ product_limit → posted_for (postings_of held) product ≡ posting_in held (product - 1)
-posting-for held zero some h = absurd (some refl)
-posting-for held (suc number) some h = posting-below held number (omega arith) ∙ ap (posting_in held) (omega arith)
+pub posting-for : (held : List ℕ) (product number : ℕ) → product ≡ number + 1 → product ≤ product_limit → posted_for (postings_of held) product ≡ posting_in held number
+posting-for held product number e h = rw (e, add-one number) (posting-below held number (omega arith))
 
 -- the same two numbers are the same posting
 same-posting : (s t : List ℕ) (number : ℕ) → get_or s (posting_at number) 0 ≡ get_or t (posting_at number) 0 → get_or s (posting_at number + 1) 0 ≡ get_or t (posting_at number + 1) 0

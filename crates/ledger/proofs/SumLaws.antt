@@ -1,4 +1,4 @@
--- Laws of loops over sums, tests and steps in a row: one more, one that fails, one term that changes.
+-- Laws of sums, tests and steps in a row: one more, one that fails, one term that changes.
 -- Assumes nothing.
 use Rattle.std.specs.Prelude.{◌≡◌, ℕ, zero, suc, ◌+◌, ◌*◌, ◌<◌, ◌≤◌, Bool, true, false, List, [], ◌∷◌}
 use mathlib.Core.Path.{refl, sym, ap, ◌∙◌}
@@ -9,14 +9,6 @@ use Rattle.rules.specs.Folds.{sum_below, all_below, in_turn, every}
 use Rattle.rules.proofs.FoldLaws.{by-test, all-at}
 
 -- ---- a loop's first turn and one more
-
-pub sum-none : (f : ℕ → ℕ) → sum_below 0 f ≡ 0
-unfolding sum_below
-sum-none f = refl
-
-pub sum_more : (f : ℕ → ℕ) (n : ℕ) → sum_below (n + 1) f ≡ sum_below n f + f n
-unfolding sum_below
-sum_more f n = rw add-one
 
 module _ {A : Type 0} where
   pub turn-none : (f : ℕ → A → A) (a : A) → in_turn 0 f a ≡ a

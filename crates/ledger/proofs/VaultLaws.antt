@@ -87,15 +87,6 @@ Sound vault =
 abbrev pub value_at : Vault → ℕ → ℕ
 value_at vault kind = (kind_value kind (effective_of vault kind) (frozen_of vault kind) (security_at vault kind).rate).0
 
--- of a security by its own numbers, of cash at no matter what rate
-pub security-value : (vault : Vault) (kind : ℕ) → kind < 32 → value_at vault kind ≡ (kind_value kind (security_at vault kind).effective (security_at vault kind).frozen (security_at vault kind).rate).0
-unfolding kind_value
-security-value vault kind h = rw (ne_eqb kind 32 (λ q. omega arith))
-
-pub cash-value : (vault : Vault) → value_at vault 32 ≡ (kind_value 32 vault.guarantee.effective.0 vault.guarantee.frozen.0 0).0
-unfolding kind_value
-cash-value vault = refl
-
 -- a kind's units and rate are within the limits that its value asks for
 pub record KindFits (vault : Vault) (kind : ℕ) : Type 0 where
   pub free : frozen_of vault kind ≤ effective_of vault kind

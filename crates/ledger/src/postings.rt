@@ -34,14 +34,14 @@ pub fn posting_of(held: &[u64], product: usize) -> Posting
     requires { (product ≤ product_limit) × (length held.now ≡ held_length) }
     ensures { result ≡ posting_at (postings_of held.now) product }
 {
-    if product == 0 {
-        return Posting {
+    match product.checked_sub(1) {
+        Some(number) => posting_at(held, number),
+        None => Posting {
             term: 0,
             price: Ticks(0),
             fallback: Ticks(0),
-        };
+        },
     }
-    posting_at(held, product - 1)
 }
 
 // Whether any product is posted today.
