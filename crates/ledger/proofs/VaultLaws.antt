@@ -87,6 +87,11 @@ Sound vault =
 abbrev pub value_at : Vault → ℕ → ℕ
 value_at vault kind = (kind_value kind (effective_of vault kind) (frozen_of vault kind) (security_at vault kind).rate).0
 
+-- V is that of the securities and that of the cash
+pub value-parts : (vault : Vault) → value vault ≡ sum_below 32 (value_at vault) + value_at vault 32
+unfolding value sum_below
+value-parts vault = refl
+
 -- a kind's units and rate are within the limits that its value asks for
 pub record KindFits (vault : Vault) (kind : ℕ) : Type 0 where
   pub free : frozen_of vault kind ≤ effective_of vault kind

@@ -104,10 +104,12 @@ pub fn value_of(held: &[u64], guarantee: Guarantee) -> Sheets
         × (guarantee.effective.0 ≤ cash_limit) }
     ensures { result.0 ≡ value (vault_of guarantee (securities_of held.now)) }
 {
-    let sum = (0..CASH_KIND + 1)
+    // Cash stands apart: one chain over all 33 kinds asks in each turn whether the kind is cash, 15 instructions more.
+    let of_securities: u64 = (0..CASH_KIND)
         .map(|kind| value_at(held, guarantee, kind).0)
         .sum();
-    Sheets(sum)
+    let of_cash = value_at(held, guarantee, CASH_KIND);
+    Sheets(of_securities + of_cash.0)
 }
 
 // The units of a kind that stand applied for.
