@@ -6,7 +6,7 @@ ghost use Rattle.ledger.specs.Flat.{security_in, securities_of, postings_of, hel
 use crate::layout::SECURITY_WIDTH;
 use rules::book::Security;
 
-#[tactic(auto, unfolding(crate::specs::Flat::security_in, money::specs::Causes::first_of))]
+#[tactic(auto, unfolding(crate::specs::Flat::security_in))]
 pub fn security_at(held: &[u64], kind: usize) -> Security
     requires { (kind < cash_kind) × (length held.now ≡ held_length) }
     ensures { result ≡ security_in held.now kind }

@@ -15,17 +15,16 @@ use rules::limits::{AHEAD_LIMIT, PRODUCT_LIMIT};
 pub const LONGEST_TERM: u64 = AHEAD_LIMIT as u64;
 
 // Its prices share a number, so it is read and written otherwise than a security, whose numbers stand alone.
-#[tactic(auto, unfolding(crate::specs::Flat::posting_in, money::specs::Causes::first_of))]
+#[tactic(auto, unfolding(crate::specs::Flat::posting_in))]
 pub fn posting_at(held: &[u64], number: usize) -> Posting
     requires { (number < product_limit) × (length held.now ≡ held_length) }
     ensures { result ≡ posting_in held.now number }
 {
-    let term = held[POSTINGS_FROM + number * POSTING_WIDTH];
-    let prices = POSTINGS_FROM + number * POSTING_WIDTH + 1;
+    let at = POSTINGS_FROM + number * POSTING_WIDTH;
     Posting {
-        term,
-        price: Ticks(flat::lower_at(held, prices)),
-        fallback: Ticks(flat::upper_at(held, prices)),
+        term: held[at],
+        price: Ticks(flat::lower_at(held, at + 1)),
+        fallback: Ticks(flat::upper_at(held, at + 1)),
     }
 }
 
