@@ -28,7 +28,8 @@ module _ (served : Bool) (claims : ℕ) (w : Withdrawals) (first e : Evening) (i
 
 -- it is the evening after an application that goes, or stays
 module _ (served : Bool) (claims kind units : ℕ) (e : Evening) where
-  went : {own : ℕ} {vault : Vault} → may_go served claims kind units e.vault ≡ true → own ≡ cond (is_cash kind) (e.own.0 + units) e.own.0 → vault ≡ taken_out kind units e.vault
+  went : {own : ℕ} {vault : Vault} → may_go served claims kind units e.vault ≡ true → own ≡ cond (is_cash kind) (e.own.0 + units) e.own.0
+      → vault ≡ taken_out kind units e.vault
       → made own vault (e.done + 1) e.dropped ≡ settled served claims kind units e
   went goes o v = rw (goes, o, v)
 
@@ -36,7 +37,8 @@ module _ (served : Bool) (claims kind units : ℕ) (e : Evening) where
   stayed stays = rw stays
 
 -- a turn more, with the application that was come to
-one-more : {B : Type 0} (served : Bool) (claims count kind amount : ℕ) (kinds units : List ℕ) (first e next : Evening) (ys : List B) (y : B) → Come kinds units count (length ys) kind amount
+one-more : {B : Type 0} (served : Bool) (claims count kind amount : ℕ) (kinds units : List ℕ) (first e next : Evening) (ys : List B) (y : B)
+    → Come kinds units count (length ys) kind amount
     → e ≡ in_turn (length ys) (turn served claims (asked kinds units count)) first → next ≡ settled served claims kind amount e
     → next ≡ in_turn (length (ys ++ (y ∷ []))) (turn served claims (asked kinds units count)) first
 one-more served claims count kind amount kinds units first e next ys y at reached n =
@@ -66,7 +68,8 @@ module _ (c : In-Some) where
       let a = c.args in
       let few : a.count ≤ 128 = (withdrawals-fit _ c.requires.kinds_len.3).count in
       let at =
-      YieldsList-turn (YieldsList-from_zip {s = c.into_iter-kind-iterator.result} (YieldsList-from_slice (take a.count a.kinds.now) (cc)) (YieldsList-from_slice (take a.count a.units.now) (cc)))
+      YieldsList-turn
+      (YieldsList-from_zip {s = c.into_iter-kind-iterator.result} (YieldsList-from_slice (take a.count a.kinds.now) (cc)) (YieldsList-from_slice (take a.count a.units.now) (cc)))
       c.loop-kind.yielded c.loop-kind.kind-iterator c.loop-kind.yielded_by c.next.result c.next.new.self _ c.in-Some.is c.next.ensures.steps in
       come a.kinds.now a.units.now a.count _ _ _ (omega (arith, few, c.requires.kinds_len.0)) (omega (arith, few, c.requires.kinds_len.1)) at.0 at.1
 
@@ -94,7 +97,8 @@ pub judged-requires : goal.judged-requires
 judged-requires c =
     let h = (goal.at.judged-requires c).In-Some in
     let had = c.had_of-had.ensures in
-    held_fits (before h).vault _ c.had_of-had.result _ (sound-of (before h) (kept h)) (fits h).known (record { effective = had.units.0; frozen = had.units.1; rate = had.rate }) c.loop-kind.invariant.1
+    held_fits (before h).vault _ c.had_of-had.result _ (sound-of (before h) (kept h)) (fits h).known
+    (record { effective = had.units.0; frozen = had.units.1; rate = had.rate }) c.loop-kind.invariant.1
 
 -- what was judged of it, where it goes
 module _ (c : In-Some-judged) where
@@ -121,11 +125,13 @@ loop-kind-preserved-then-kind-lt-CASH_KIND c =
     let kind = c.in-Some.field-0-0.now in
     let evening = c.loop-kind.evening in
     let security : kind < 32 = c.if-kind-lt-CASH_KIND.true in
-    let row : c.had_of-had.result ≡ security_at (before h).vault kind = c.had_of-had.ensures.security security ∙ sym (security-at-row c.loop-kind.held evening.guarantee kind security) in
+    let row : c.had_of-had.result ≡ security_at (before h).vault kind =
+    c.had_of-had.ensures.security security ∙ sym (security-at-row c.loop-kind.held evening.guarantee kind security) in
     let next : vault_of evening.guarantee (securities_of c.put_security.new.held) ≡ taken_out kind c.in-Some.field-0-1.now (before h).vault =
     ap (vault_of evening.guarantee) c.put_security.ensures.0 ∙ security-taken (before h).vault kind c.had_of-had.result c.in-Some.field-0-1.now security row in
     let own : evening.own.0 ≡ cond (is_cash kind) (evening.own.0 + c.in-Some.field-0-1.now) evening.own.0 = rw (ne_eqb kind 32 (λ e. omega arith)) in (
-      one-more c.args.served (claims h) _ _ _ _ _ _ (before h) _ c.loop-kind.yielded _ (at-hand h) c.loop-kind.invariant.0 (went c.args.served (claims h) _ _ (before h) (goes went-so) own next),
+      one-more c.args.served (claims h) _ _ _ _ _ _ (before h) _ c.loop-kind.yielded _ (at-hand h) c.loop-kind.invariant.0
+          (went c.args.served (claims h) _ _ (before h) (goes went-so) own next),
       valued went-so ∙ sym (ap value_of next),
       c.put_security.ensures.1 ∙ c.loop-kind.invariant.2,
     )
@@ -142,9 +148,11 @@ loop-kind-preserved-else-kind-lt-CASH_KIND c =
     let kind = c.in-Some.field-0-0.now in
     let evening = c.loop-kind.evening in
     let cash : kind ≡ 32 = omega (arith, c.if-kind-lt-CASH_KIND.false, (fits h).known) in
-    let next = cash-taken (before h).vault kind c.in-Some.field-0-1.now c.had_of-had.result.effective cash (rw (eq-eqb kind 32 cash) at c.had_of-had.ensures.units.0) in
-    let own : evening.own.0 + c.in-Some.field-0-1.now ≡ cond (is_cash kind) (evening.own.0 + c.in-Some.field-0-1.now) evening.own.0 = rw (eq-eqb kind 32 cash) in (
-      one-more c.args.served (claims h) _ _ _ _ _ _ (before h) _ c.loop-kind.yielded _ (at-hand h) c.loop-kind.invariant.0 (went c.args.served (claims h) _ _ (before h) (goes went-so) own next),
+    let amount = c.in-Some.field-0-1.now in
+    let next = cash-taken (before h).vault kind amount c.had_of-had.result.effective cash (rw (eq-eqb kind 32 cash) at c.had_of-had.ensures.units.0) in
+    let own : evening.own.0 + amount ≡ cond (is_cash kind) (evening.own.0 + amount) evening.own.0 = rw (eq-eqb kind 32 cash) in (
+      one-more c.args.served (claims h) _ _ _ _ _ _ (before h) _ c.loop-kind.yielded _ (at-hand h) c.loop-kind.invariant.0
+          (went c.args.served (claims h) _ _ (before h) (goes went-so) own next),
       valued went-so ∙ sym (ap value_of next),
       c.loop-kind.invariant.2,
     )
@@ -157,7 +165,8 @@ loop-kind-preserved c =
     let h = (goal.at.loop-kind-preserved c).In-Some in
     let had = c.had_of-had.ensures in
     let stays = c.in-None-judged.ensures _ (length-securities c.loop-kind.held 32) had.units.0 had.units.1 had.rate c.loop-kind.invariant.1 in (
-      one-more c.args.served (claims h) _ _ _ _ _ _ (before h) _ c.loop-kind.yielded _ (at-hand h) c.loop-kind.invariant.0 (stayed c.args.served (claims h) _ _ (before h) stays),
+      one-more c.args.served (claims h) _ _ _ _ _ _ (before h) _ c.loop-kind.yielded _ (at-hand h) c.loop-kind.invariant.0
+          (stayed c.args.served (claims h) _ _ (before h) stays),
       c.loop-kind.invariant.1,
       c.loop-kind.invariant.2,
     )
