@@ -1,14 +1,21 @@
 -- The evening: securities that arrive one after another, an application's test by its parts, one kind looked at and written back, and what
 -- each application keeps.
 -- Assumes nothing.
-use Rattle.std.specs.Prelude.{◌≡◌, ℕ, zero, suc, ◌+◌, ◌-◌, ◌<◌, ◌≤◌, Bool, true, false, cond, List, [], ◌∷◌, map, length, get_or, set}
+use Rattle.std.specs.Prelude.{◌≡◌, ℕ, zero, suc, ◌+◌, ◌-◌, ◌<◌, ◌≤◌, Bool, true, false, cond, List, [], ◌∷◌, map, length, get_or, set, take}
+use Rattle.std.specs.List.{zip}
+use Rattle.std.specs.Bool.{then_some}
+use Rattle.std.specs.Option.{MatchOption}
+use Rattle.std.proofs.lemmas.List.{get_or-take}
+use Rattle.std.proofs.lemmas.Slice.Zip.{length-zip, get_or-zip}
+use Rattle.std.proofs.lemmas.Grind.{get_or_default_zero}
 use mathlib.Core.Path.{refl, sym, ap, ◌∙◌}
 use native.Mathlib.Decide.{ℕ_discrete}
 use native.Mathlib.Numerals.{add-one}
 use native.Mathlib.Omega.{arith}
 use borrow.Author.Tests.{le-leb, lt-leb, eq-eqb, ne_eqb}
-use lib.ListN.{get_or-eq_default}
+use lib.ListN.{length-take}
 use Rattle.money.specs.Units.{fen}
+use Rattle.money.specs.declared.units.Sheets.{Sheets}
 use Rattle.money.specs.Limits.{cash_limit}
 use Rattle.money.specs.Collateral.{rate_of, unit_limit_of, kind_value}
 use Rattle.rules.specs.Folds.{in_turn}
@@ -21,7 +28,7 @@ use Rattle.rules.proofs.FitParts.{SecurityFits, SecuritiesFit, fit-securities}
 use Rattle.ledger.specs.Types.{Security, Guarantee, Vault, Withdrawals}
 use Rattle.ledger.specs.Figures.{value_bound}
 use Rattle.ledger.specs.Flat.{vault_of, securities_of}
-use Rattle.ledger.proofs.VaultLaws.{Sound, kind_fits, value-at-part, value-bound-of, value-changed}
+use Rattle.ledger.proofs.VaultLaws.{Sound, value_at, kind_fits, value-at-part, value-bound-of, value-changed}
 
 -- ---- a list of which the first places are mapped
 
@@ -59,21 +66,27 @@ module _ {A : Type 0} (f : A → A) where
 -- ---- an application's test, by its parts in order
 
 module _ (served : Bool) (claims kind units : ℕ) (vault : Vault) where
-  pub unserved : served ≡ false → false ≡ may_go served claims kind units vault
+  pub unserved : served ≡ false → may_go served claims kind units vault ≡ false
   unfolding may_go
   unserved e = rw e
 
-  pub frozen-stay : served ≡ true → effective_of vault kind < frozen_of vault kind + units → false ≡ may_go served claims kind units vault
+  pub frozen-stay : served ≡ true → effective_of vault kind < frozen_of vault kind + units → may_go served claims kind units vault ≡ false
   unfolding may_go
   frozen-stay e h = rw (e, lt-leb (frozen_of vault kind + units) (effective_of vault kind) h)
 
-  pub uncovered : served ≡ true → frozen_of vault kind + units ≤ effective_of vault kind → covers (value (taken_out kind units vault)) claims ≡ false → false ≡ may_go served claims kind units vault
+  uncovered : served ≡ true → frozen_of vault kind + units ≤ effective_of vault kind → covers (value (taken_out kind units vault)) claims ≡ false → may_go served claims kind units vault ≡ false
   unfolding may_go
   uncovered e h k = rw (e, le-leb (frozen_of vault kind + units) (effective_of vault kind) h, k)
 
-  pub may-go : served ≡ true → frozen_of vault kind + units ≤ effective_of vault kind → covers (value (taken_out kind units vault)) claims ≡ true → true ≡ may_go served claims kind units vault
+  may-go : served ≡ true → frozen_of vault kind + units ≤ effective_of vault kind → covers (value (taken_out kind units vault)) claims ≡ true → may_go served claims kind units vault ≡ true
   unfolding may_go
   may-go e h k = rw (e, le-leb (frozen_of vault kind + units) (effective_of vault kind) h, k)
+
+  -- and by V afterwards, in whole
+  pub judged-so : (covered : Bool) (after : Sheets) → served ≡ true → frozen_of vault kind + units ≤ effective_of vault kind → after.0 ≡ value (taken_out kind units vault) → covered ≡ covers after.0 claims
+      → MatchOption (then_some covered after) (may_go served claims kind units vault ≡ false) (λ left. (may_go served claims kind units vault ≡ true) × (left.0 ≡ value (taken_out kind units vault)))
+  judged-so true after e h a k = (may-go e h (rw a at (sym k)), a)
+  judged-so false after e h a k = uncovered e h (rw a at (sym k))
 
   -- what goes was unfrozen
   pub unfrozen : may_go served claims kind units vault ≡ true → frozen_of vault kind + units ≤ effective_of vault kind
@@ -88,16 +101,6 @@ pub record Held (vault : Vault) (kind : ℕ) (had : Security) : Type 0 where
   pub rate : had.rate ≡ (security_at vault kind).rate
 
 module _ (vault : Vault) (kind : ℕ) (had : Security) where
-  pub held-security : kind < 32 → had ≡ security_at vault kind → Held vault kind had
-  held-security h e =
-      let security = ne_eqb kind 32 (λ q. omega arith) in
-      record { effective = rw (security, e); frozen = rw (security, e); rate = rw e }
-
-  pub held-cash : kind ≡ 32 → length vault.securities ≡ 32 → had.effective ≡ vault.guarantee.effective.0 → had.frozen ≡ vault.guarantee.frozen.0 → had.rate ≡ 0 → Held vault kind had
-  held-cash h full e f r =
-      let none = get_or-eq_default vault.securities no_security {n = kind} (omega arith) in
-      record { effective = rw (eq-eqb kind 32 h) e; frozen = rw (eq-eqb kind 32 h) f; rate = r ∙ sym (ap (λ (s : Security). s.rate) none) }
-
   -- what the code asks for before it judges by what is had
   pub held_fits : (v : ℕ) → Sound vault → kind ≤ 32 → Held vault kind had → v ≡ value vault
       → (kind ≤ 32) × (had.frozen ≤ had.effective) × (had.effective ≤ unit_limit_of kind) × (rate_of kind had.rate ≤ 20000)
@@ -107,30 +110,22 @@ module _ (vault : Vault) (kind : ℕ) (had : Security) where
       rw (held.effective, held.frozen, held.rate, e) (h, fits.free, fits.within, fits.rate, value-at-part vault sound kind h, value-bound-of vault sound)
 
   -- V afterwards, by the kind's value before and after
-  pub value_after : (units before left : ℕ) → Held vault kind had → kind ≤ 32 → length vault.securities ≡ 32
-      → before ≡ (kind_value kind had.effective had.frozen had.rate).0 → left ≡ (kind_value kind (had.effective - units) had.frozen had.rate).0 → before ≤ value vault
-      → value vault - before + left ≡ value (taken_out kind units vault)
-  value_after units before left held h full b l part =
-      let was = rw (held.effective, held.frozen, held.rate) at b in
-      let now = rw (held.effective, held.frozen, held.rate) at l in
-      omega (arith, was, now, value-changed vault kind units h full)
+  pub value_after : (units v : ℕ) (with without : Sheets) → Held vault kind had → kind ≤ 32 → length vault.securities ≡ 32 → v ≡ value vault
+      → (kind_value kind had.effective had.frozen had.rate).0 ≤ v → with ≡ kind_value kind had.effective had.frozen had.rate → without ≡ kind_value kind (had.effective - units) had.frozen had.rate
+      → v - with.0 + without.0 ≡ value (taken_out kind units vault)
+  value_after units v with without held h full e part w wo =
+      let was : with.0 ≡ value_at vault kind = rw (held.effective, held.frozen, held.rate) at (ap (λ (s : Sheets). s.0) w) in
+      let now = rw (held.effective, held.frozen, held.rate) at (ap (λ (s : Sheets). s.0) wo) in
+      omega (arith, was, now, e, part, ap (λ (s : Sheets). s.0) w, value-changed vault kind units h full)
 
   pub security-taken : (units : ℕ) → kind < 32 → had ≡ security_at vault kind → record { guarantee = vault.guarantee; securities = set vault.securities kind (fewer units had) } ≡ taken_out kind units vault
   unfolding taken_out
   security-taken units h e = rw (e, ne_eqb kind 32 (λ q. omega arith))
 
-same-guarantee : (a b : Guarantee) → a.effective.0 ≡ b.effective.0 → a.arriving.0 ≡ b.arriving.0 → a.frozen.0 ≡ b.frozen.0 → a ≡ b
-same-guarantee a b e r f =
-    ap (λ n. record { effective = fen n; arriving = a.arriving; frozen = a.frozen }) e
-    ∙ ap (λ n. record { effective = b.effective; arriving = fen n; frozen = a.frozen }) r
-    ∙ ap (λ n. record { effective = b.effective; arriving = b.arriving; frozen = fen n }) f
-
-pub cash-taken : (vault : Vault) (kind units : ℕ) (guarantee : Guarantee) → kind ≡ 32
-    → guarantee.effective.0 ≡ vault.guarantee.effective.0 - units → guarantee.arriving.0 ≡ vault.guarantee.arriving.0 → guarantee.frozen.0 ≡ vault.guarantee.frozen.0
-    → record { guarantee = guarantee; securities = vault.securities } ≡ taken_out kind units vault
+pub cash-taken : (vault : Vault) (kind units had : ℕ) → kind ≡ 32 → had ≡ vault.guarantee.effective.0
+    → record { guarantee = record { effective = fen (had - units); arriving = vault.guarantee.arriving; frozen = vault.guarantee.frozen }; securities = vault.securities } ≡ taken_out kind units vault
 unfolding taken_out
-cash-taken vault kind units guarantee h e r f =
-    rw (eq-eqb kind 32 h) (ap (λ g. record { guarantee = g; securities = vault.securities }) (same-guarantee guarantee (fewer_cash units vault.guarantee) e r f))
+cash-taken vault kind units had h e = rw (eq-eqb kind 32 h, e)
 
 -- ---- what each application keeps
 
@@ -215,3 +210,26 @@ asked kinds units count = record { kinds = kinds; units = units; count = count }
 
 abbrev pub made : ℕ → Vault → ℕ → ℕ → Evening
 made own vault done dropped = record { own = fen own; vault = vault; done = done; dropped = dropped }
+
+-- ---- the application that an iterator over both rows has come to
+
+pub record Come (kinds units : List ℕ) (count place kind amount : ℕ) : Type 0 where
+  pub below : place < count
+  pub kind-is : kind ≡ get_or kinds place 0
+  pub amount-is : amount ≡ get_or units place 0
+
+pub come : (kinds units : List ℕ) (count place kind amount : ℕ) → count ≤ length kinds → count ≤ length units
+    → place < length (zip (take count kinds) (take count units)) → (kind, amount) ≡ get_or (zip (take count kinds) (take count units)) place (kind, amount) → Come kinds units count place kind amount
+come kinds units count place kind amount k u h e =
+    let below : place < count = omega (arith, h, length-zip (take count kinds) (take count units), length-take count kinds, length-take count units) in
+    let in_kinds : place < length (take count kinds) = omega (arith, length-take count kinds) in
+    let in_units : place < length (take count units) = omega (arith, length-take count units) in
+    let kinds_long : place < length kinds = omega arith in
+    let units_long : place < length units = omega arith in
+    let at : (kind, amount) ≡ (get_or (take count kinds) place kind, get_or (take count units) place amount) =
+    e ∙ get_or-zip (take count kinds) (take count units) place (kind, amount) in_kinds in_units in
+    record {
+      below = below;
+      kind-is = ap (λ (p : ℕ × ℕ). p.0) at ∙ get_or-take count kinds place kind below ∙ get_or_default_zero kinds place kind kinds_long;
+      amount-is = ap (λ (p : ℕ × ℕ). p.1) at ∙ get_or-take count units place amount below ∙ get_or_default_zero units place amount units_long;
+    }

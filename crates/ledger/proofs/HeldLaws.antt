@@ -1,23 +1,26 @@
 -- The securities in their row, four numbers each: which security stands where, what storing one changes, and whether all are fit.
 -- For the functions over the row, and those above them. Assumes nothing.
-use Rattle.std.specs.Prelude.{◌≡◌, ℕ, suc, ◌+◌, ◌*◌, ◌<◌, ◌≤◌, true, false, ◌⊎◌, List, [], ◌∷◌, length, get_or, set}
+use Rattle.std.specs.Prelude.{◌≡◌, ℕ, ◌+◌, ◌-◌, ◌*◌, ◌<◌, ◌≤◌, ◌⊎◌, List, [], ◌∷◌, length, get_or, set, replicate, take}
 use mathlib.Core.Path.{sym, ap, ◌∙◌}
 use mathlib.Core.Logic.{inl, inr}
-use native.Mathlib.Numerals.{add-one}
 use native.Mathlib.Nat.{add-zero}
 use native.Mathlib.Omega.{arith}
 use native.Mathlib.Decide.{dec_lt, ℕ_discrete}
-use lib.ListN.{length-set}
+use lib.ListN.{length-set, length-take, length-replicate, get_or-append, get_or-replicate}
+use borrow.Author.Rules.{rules}
+use borrow.Rule.Slice.PartMut.{put_mid}
+use Rattle.std.proofs.lemmas.List.{places, get_or-append_right}
 use lib.Seq.{sets, get_or-set_same, get_or-set_other, ext_get_or}
-use Rattle.rules.specs.Book.{no_security}
+use Rattle.rules.specs.Book.{no_security, no_postings}
 use Rattle.rules.specs.Vault.{security_at}
 use Rattle.rules.specs.Fit.{security_fit, securities_fit}
-use Rattle.rules.proofs.FoldLaws.{all_of}
+use Rattle.rules.specs.Folds.{all_below}
 use Rattle.ledger.specs.Types.{Security, Guarantee}
 use Rattle.ledger.specs.Flat.{security_in, up_to, securities_of, vault_of, postings_from, postings_of}
-use Rattle.ledger.proofs.SumLaws.{one-fails}
+use Rattle.ledger.proofs.SumLaws.{all_same}
+use Rattle.ledger.proofs.RowLaws.{row-put}
 use Rattle.ledger.proofs.UpToLaws.{length-up-to, up-to-below, same-up-to}
-use Rattle.ledger.proofs.PostingLaws.{postings-kept}
+use Rattle.ledger.proofs.PostingLaws.{postings-kept, zeros-post-nothing}
 use Rattle.ledger.proofs.StoreLaws.{get_or-sets-inside, get_or-sets-outside}
 
 -- ---- which security stands where
@@ -74,23 +77,10 @@ numbers-put held kind security h e =
         same_numbers (sets held (kind * 4) (numbers security)) held i i (λ k m. get_or-sets-outside (numbers security) held (kind * 4) (i * 4 + k) (apart kind i k q m))
         ∙ sym (get_or-set_other (securities_of held) kind i security no_security q ∙ security-below held 32 i l)
 
--- the four stores as the code makes them
-abbrev stores : List ℕ → (kind : ℕ) → Security → List ℕ
-stores held kind security =
-    set
-    (set (set (set held (kind * 4) security.effective) (kind * 4 + 1) security.arriving) (kind * 4 + 2) security.frozen)
-    (kind * 4 + 3)
-    security.rate
-
-in_a_row : (held : List ℕ) (kind : ℕ) (security : Security) → stores held kind security ≡ sets held (kind * 4) (numbers security)
-in_a_row held kind security =
-    let by_2 : kind * 4 + 2 ≡ suc (suc (kind * 4)) = omega arith in
-    let by-3 : kind * 4 + 3 ≡ suc (suc (suc (kind * 4))) = omega arith in
-    rw (add-one (kind * 4), by_2, by-3)
-
 pub security-put : (held : List ℕ) (kind : ℕ) (security : Security) → kind < 32 → length held ≡ 160
-    → (securities_of (stores held kind security) ≡ set (securities_of held) kind security) × (postings_of (stores held kind security) ≡ postings_of held)
-security-put held kind security h e = rw (in_a_row held kind security) (
+    → (securities_of (put_mid (kind * 4) (kind * 4 + 4 - kind * 4) held (numbers security)) ≡ set (securities_of held) kind security)
+    × (postings_of (put_mid (kind * 4) (kind * 4 + 4 - kind * 4) held (numbers security)) ≡ postings_of held)
+security-put held kind security h e = rw (row-put held (kind * 4) (numbers security) (omega arith)) (
   numbers-put held kind security h e,
   postings-kept _ held (λ k l. get_or-sets-outside (numbers security) held (kind * 4) k (inr (omega arith))),
 )
@@ -99,13 +89,20 @@ security-put held kind security h e = rw (in_a_row held kind security) (
 pub securities-kept : (s t : List ℕ) → ((k : ℕ) → k < postings_from → get_or s k 0 ≡ get_or t k 0) → securities_of s ≡ securities_of t
 securities-kept s t h = same-up-to (security_in s) (security_in t) 32 (λ i l. same_numbers s t i i (λ k m. h (i * 4 + k) (omega arith)))
 
+-- zeros behind them post nothing, and leave them
+pub forgotten : (held zeros : List ℕ) → length held ≡ 160 → zeros ≡ replicate 32 0 → (postings_of (put_mid 128 32 held zeros) ≡ no_postings) × (securities_of (put_mid 128 32 held zeros) ≡ securities_of held)
+forgotten held zeros long e =
+    let front : length (take 128 held) ≡ 128 = omega (arith, length-take {A = ℕ}) in
+    let zero : (k : ℕ) → postings_from ≤ k → k < 160 → get_or (put_mid 128 32 held zeros) k 0 ≡ 0 =
+    λ k h g.
+    get_or-append_right (take 128 held) _ 128 k 0 front h
+    ∙ get_or-append zeros _ 0 (k - 128) (omega (arith, ap length e, length-replicate {A = ℕ} 32 0))
+    ∙ ap (λ (l : List ℕ). get_or l (k - 128) 0) e
+    ∙ get_or-replicate {A = ℕ} 32 (k - 128) 0 0 (omega arith) in
+    (zeros-post-nothing _ zero, securities-kept _ _ (λ k h. search (rules, places)))
+
 -- ---- whether all are fit
 
-module _ (held : List ℕ) where
-  pub one-unfit-security : (kind : ℕ) → kind < 32 → security_fit (security_in held kind) ≡ false → (guarantee : Guarantee) → false ≡ securities_fit (vault_of guarantee (securities_of held))
-  unfolding securities_fit
-  one-unfit-security kind h e guarantee = sym (one-fails 32 _ kind h (ap security_fit (security-at-row held guarantee kind h) ∙ e))
-
-  pub all-fit-securities : ((kind : ℕ) → kind < 32 → security_fit (security_in held kind) ≡ true) → (guarantee : Guarantee) → true ≡ securities_fit (vault_of guarantee (securities_of held))
-  unfolding securities_fit
-  all-fit-securities each guarantee = sym (all_of 32 _ (λ kind h. ap security_fit (security-at-row held guarantee kind h) ∙ each kind h))
+pub fit-each : (held : List ℕ) (guarantee : Guarantee) → all_below 32 (λ kind. security_fit (security_in held kind)) ≡ securities_fit (vault_of guarantee (securities_of held))
+unfolding securities_fit
+fit-each held guarantee = all_same 32 _ _ (λ kind h. sym (ap security_fit (security-at-row held guarantee kind h)))

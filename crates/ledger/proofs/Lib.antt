@@ -16,6 +16,7 @@ pub mod HeldFit
 pub mod RowLaws
 pub mod SplitLaws
 pub mod SumLaws
+pub mod RangeLaws
 pub mod VaultLaws
 pub mod EveningLaws
 -- laws for the code: nets, days and refusals

@@ -1,7 +1,8 @@
 -- What is posted, in the row behind the securities, two numbers a product: which posting stands where, what storing one changes, and
 -- whether all are fit. For the functions of postings.rt, and those above them. Assumes nothing.
-use Rattle.std.specs.Prelude.{◌≡◌, ℕ, zero, suc, ◌+◌, ◌-◌, ◌*◌, ◌<◌, ◌≤◌, true, false, List, length, get_or, set}
-use mathlib.Core.Path.{refl, sym, ap, ◌∙◌}
+use Rattle.std.specs.Prelude.{◌≡◌, ℕ, ◌+◌, ◌*◌, ◌<◌, ◌≤◌, List, length, get_or, set}
+use mathlib.Core.Path.{sym, ap, ◌∙◌}
+use native.Mathlib.Numerals.{add-one}
 use native.Mathlib.Omega.{arith}
 use native.Mathlib.Decide.{ℕ_discrete}
 use lib.ListN.{length-set, length-replicate, get_or-replicate}
@@ -9,10 +10,10 @@ use lib.Seq.{get_or-set_same, get_or-set_other, ext_get_or}
 use Rattle.rules.specs.Limits.{product_limit}
 use Rattle.rules.specs.Book.{no_posting, no_postings, posting_at as posted_for}
 use Rattle.rules.specs.Fit.{posting_fit, postings_fit}
-use Rattle.rules.proofs.FoldLaws.{all_of}
+use Rattle.rules.specs.Folds.{all_below}
 use Rattle.ledger.specs.Types.{Posting}
 use Rattle.ledger.specs.Flat.{posting_width, postings_from, posting_in, postings_of}
-use Rattle.ledger.proofs.SumLaws.{one-fails}
+use Rattle.ledger.proofs.SumLaws.{all_same}
 use Rattle.ledger.proofs.UpToLaws.{length-up-to, up-to-below, same-up-to}
 use Rattle.ledger.proofs.StoreLaws.{pair, lower-pair, upper-pair}
 
@@ -27,9 +28,8 @@ pub posting-below : (held : List ℕ) (number : ℕ) → number < product_limit 
 posting-below held number h = up-to-below (posting_in held) no_posting product_limit number h
 
 -- what is posted for a record's product, the number plus 1
-pub posting-for : (held : List ℕ) (product : ℕ) → (product ≡ 0 → ⊥) → product ≤ product_limit → posted_for (postings_of held) product ≡ posting_in held (product - 1)
-posting-for held zero some h = absurd (some refl)
-posting-for held (suc number) some h = posting-below held number (omega arith) ∙ ap (posting_in held) (omega arith)
+pub posting-for : (held : List ℕ) (product number : ℕ) → product ≡ number + 1 → product ≤ product_limit → posted_for (postings_of held) product ≡ posting_in held number
+posting-for held product number e h = rw (e, add-one number) (posting-below held number (omega arith))
 
 -- the same two numbers are the same posting
 same-posting : (s t : List ℕ) (number : ℕ) → get_or s (posting_at number) 0 ≡ get_or t (posting_at number) 0 → get_or s (posting_at number + 1) 0 ≡ get_or t (posting_at number + 1) 0
@@ -107,32 +107,8 @@ zeros-post-nothing held zeros =
     by : (i : ℕ) → i < product_limit → get_or (postings_of held) i no_posting ≡ get_or no_postings i no_posting
     by i h = posting-below held i h ∙ none i h ∙ sym (get_or-replicate product_limit i no_posting no_posting h)
 
--- ---- what was posted forgotten up to a place of the row
-
-pub record Forgotten (before held : List ℕ) (at : ℕ) : Type 0 where
-  pub kept : (k : ℕ) → k < postings_from → get_or held k 0 ≡ get_or before k 0
-  pub gone : (k : ℕ) → postings_from ≤ k → k < at → get_or held k 0 ≡ 0
-
-pub none-forgotten : (held : List ℕ) → Forgotten held held postings_from
-none-forgotten held = record { kept = λ k h. refl; gone = λ k l h. absurd (omega arith) }
-
-pub one-forgotten : (before held : List ℕ) (at : ℕ) → postings_from ≤ at → at < length held → Forgotten before held at → Forgotten before (set held at 0) (at + 1)
-one-forgotten before held at from l f = record {
-  kept = λ k h. get_or-set_other held at k 0 0 (λ e. omega arith) ∙ f.kept k h;
-  gone = λ k m h. by k m h (ℕ_discrete k at);
-}
-  where
-    by : (k : ℕ) → postings_from ≤ k → k < at + 1 → Dec (k ≡ at) → get_or (set held at 0) k 0 ≡ 0
-    by k m h (yes q) = rw q (get_or-set_same held at 0 0 l)
-    by k m h (no q) = get_or-set_other held at k 0 0 q ∙ f.gone k m (omega arith)
-
 -- ---- whether all are fit
 
-module _ (held : List ℕ) where
-  pub one-unfit-posting : (number : ℕ) → number < product_limit → posting_fit (posting_in held number) ≡ false → false ≡ postings_fit (postings_of held)
-  unfolding postings_fit
-  one-unfit-posting number h e = sym (one-fails product_limit _ number h (ap posting_fit (posting-below held number h) ∙ e))
-
-  pub all-fit-postings : ((number : ℕ) → number < product_limit → posting_fit (posting_in held number) ≡ true) → true ≡ postings_fit (postings_of held)
-  unfolding postings_fit
-  all-fit-postings each = sym (all_of product_limit _ (λ number h. ap posting_fit (posting-below held number h) ∙ each number h))
+pub fit-each : (held : List ℕ) → all_below product_limit (λ number. posting_fit (posting_in held number)) ≡ postings_fit (postings_of held)
+unfolding postings_fit
+fit-each held = all_same product_limit _ _ (λ number h. sym (ap posting_fit (posting-below held number h)))

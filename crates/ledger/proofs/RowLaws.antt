@@ -1,10 +1,13 @@
--- A row that a loop fills from the front: as far as it is filled it has the elements of another.
--- For the loops that fill rows. Assumes nothing.
-use Rattle.std.specs.Prelude.{◌≡◌, ℕ, ◌+◌, ◌<◌, List, length, get_or, set}
-use mathlib.Core.Path.{sym, ◌∙◌}
+-- A row that a loop fills from the front: as far as it is filled it has the elements of another. And numbers copied to their place in a row.
+-- For what fills and writes rows. Assumes nothing.
+use Rattle.std.specs.Prelude.{◌≡◌, ℕ, ◌+◌, ◌-◌, ◌<◌, ◌≤◌, List, ◌++◌, length, get_or, set, take, drop}
+use mathlib.Core.Path.{refl, sym, ap, ◌∙◌}
 use native.Mathlib.Omega.{arith}
 use native.Mathlib.Decide.{ℕ_discrete}
-use lib.Seq.{get_or-set_same, get_or-set_other, ext_get_or}
+use borrow.Rule.Slice.PartMut.{put_mid}
+use Rattle.std.proofs.lemmas.List.{take_all}
+use Rattle.std.proofs.lemmas.Slice.{put_mid-paste}
+use lib.Seq.{sets, sets-eq, get_or-set_same, get_or-set_other, ext_get_or}
 
 module _ {A : Type 0} (d : A) where
   pub record Filled (row from : List A) (n : ℕ) : Type 0 where
@@ -22,3 +25,11 @@ module _ {A : Type 0} (d : A) where
 
   pub all-filled : (row from : List A) (n : ℕ) → length row ≡ n → length from ≡ n → Filled row from n → row ≡ from
   all-filled row from n e f filled = ext_get_or d row from (e ∙ sym f) (λ k h. filled.same k (omega arith))
+
+-- ---- a row of numbers copied to its place
+
+pub row-put : (l : List ℕ) (at : ℕ) (row : List ℕ) → at + length row ≤ length l → put_mid at (at + length row - at) l row ≡ sets l at row
+row-put l at row h =
+    put_mid-paste at _ l row row (length row) refl (omega arith) refl
+    ∙ ap (λ (r : List ℕ). take at l ++ r ++ drop (at + length row) l) (take_all (length row) row (omega arith))
+    ∙ sym (sets-eq row l at h)

@@ -1,4 +1,4 @@
--- Laws of loops over sums, tests and steps in a row: one more, one that fails, one term that changes.
+-- Laws of sums, tests and steps in a row: one more, one that fails, one term that changes.
 -- Assumes nothing.
 use Rattle.std.specs.Prelude.{◌≡◌, ℕ, zero, suc, ◌+◌, ◌*◌, ◌<◌, ◌≤◌, Bool, true, false, List, [], ◌∷◌}
 use mathlib.Core.Path.{refl, sym, ap, ◌∙◌}
@@ -9,14 +9,6 @@ use Rattle.rules.specs.Folds.{sum_below, all_below, in_turn, every}
 use Rattle.rules.proofs.FoldLaws.{by-test, all-at}
 
 -- ---- a loop's first turn and one more
-
-pub sum-none : (f : ℕ → ℕ) → sum_below 0 f ≡ 0
-unfolding sum_below
-sum-none f = refl
-
-pub sum_more : (f : ℕ → ℕ) (n : ℕ) → sum_below (n + 1) f ≡ sum_below n f + f n
-unfolding sum_below
-sum_more f n = rw add-one
 
 module _ {A : Type 0} where
   pub turn-none : (f : ℕ → A → A) (a : A) → in_turn 0 f a ≡ a
@@ -30,6 +22,12 @@ module _ {A : Type 0} where
 -- one test that fails
 pub one-fails : (n : ℕ) (p : ℕ → Bool) (k : ℕ) → k < n → p k ≡ false → all_below n p ≡ false
 one-fails n p k h e = by-test (λ b. b ≡ false) (all_below n p) (λ all. sym (all-at n p all k h) ∙ e) (λ none. refl)
+
+-- tests that agree
+pub all_same : (n : ℕ) (p q : ℕ → Bool) → ((k : ℕ) → k < n → p k ≡ q k) → all_below n p ≡ all_below n q
+unfolding all_below
+all_same zero p q h = refl
+all_same (suc n) p q h = rw (all_same n p q (λ k l. h k (omega arith)), h n (omega arith)) refl
 
 -- ---- sums
 
@@ -53,6 +51,12 @@ unfolding sum_below
 sum_same zero f g h = refl
 sum_same (suc n) f g h = omega (arith, sum_same n f g (λ k l. h k (omega arith)), h n (omega arith))
 
+-- the first term apart
+pub sum-front : (n : ℕ) (f : ℕ → ℕ) → sum_below (suc n) f ≡ f 0 + sum_below n (λ k. f (suc k))
+unfolding sum_below
+sum-front zero f = omega arith
+sum-front (suc n) f = omega (arith, sum-front n f)
+
 -- two sums that differ in one term differ by that term
 pub sum-changed : (n k : ℕ) (f g : ℕ → ℕ) → k < n → ((j : ℕ) → j < n → (j ≡ k → ⊥) → f j ≡ g j) → sum_below n f + g k ≡ sum_below n g + f k
 unfolding sum_below
@@ -74,6 +78,7 @@ pub test-holds : (test : Bool) (tests : List Bool) (r : Bool) → test ≡ true 
 unfolding every
 test-holds test tests r e f = rw e f
 
-pub none_left : true ≡ every []
+pub only-test : (test : Bool) → test ≡ every (test ∷ [])
 unfolding every
-none_left = refl
+only-test true = refl
+only-test false = refl

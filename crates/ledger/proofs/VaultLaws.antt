@@ -1,6 +1,9 @@
--- Collateral: the tests of fit cash and applications by their parts, V of a sound vault, and V after units of one kind are taken out.
+-- Collateral: the test of applications by its parts, what they sum to, V of a sound vault, and V after units of one kind are taken out.
 -- Assumes nothing.
-use Rattle.std.specs.Prelude.{◌≡◌, ℕ, ◌+◌, ◌-◌, ◌<◌, ◌≤◌, Bool, true, false, cond, eqb, length, get_or}
+use Rattle.std.specs.Prelude.{◌≡◌, ℕ, zero, suc, ◌+◌, ◌-◌, ◌<◌, ◌≤◌, Bool, true, false, cond, eqb, List, [], ◌∷◌, map, filter, sum, length, get_or, take}
+use Rattle.std.specs.List.{zip}
+use Rattle.std.proofs.lemmas.List.Sums.{sum_by-cons}
+use native.Mathlib.Nat.{zero-add}
 use mathlib.Core.Path.{refl, sym, ap, ◌∙◌}
 use native.Mathlib.Decide.{ℕ_discrete}
 use native.Mathlib.Omega.{arith}
@@ -9,33 +12,17 @@ use lib.Seq.{get_or-set_same, get_or-set_other}
 use Rattle.money.specs.Limits.{cash_limit, rate_limit}
 use Rattle.money.specs.Collateral.{rate_of, unit_limit_of, kind_value}
 use Rattle.money.proofs.Bounds.{value-bound}
-use Rattle.rules.specs.Folds.{sum_below}
+use Rattle.rules.specs.Folds.{sum_below, all_below}
 use Rattle.rules.specs.Limits.{application_limit}
 use Rattle.rules.specs.Book.{no_security}
 use Rattle.rules.specs.Vault.{security_at, effective_of, frozen_of, value}
-use Rattle.rules.specs.Fit.{securities_fit, all_cash, cash_fit, application_fit, withdrawals_fit}
+use Rattle.rules.specs.Fit.{securities_fit, application_fit, withdrawals_fit}
 use Rattle.rules.specs.Withdraw.{applied}
 use Rattle.rules.specs.Close.{fewer, taken_out}
-use Rattle.rules.proofs.FoldLaws.{all_of}
 use Rattle.rules.proofs.FitParts.{securities-fit, withdrawals-fit}
-use Rattle.ledger.specs.Types.{Cash, Guarantee, Vault, Withdrawals}
+use Rattle.ledger.specs.Types.{Vault, Withdrawals}
 use Rattle.ledger.specs.Figures.{value_bound}
-use Rattle.ledger.proofs.SumLaws.{one-fails, sum_bound, sum-part, sum-changed}
-
--- ---- fit cash
-
-module _ (cash : Cash) (guarantee : Guarantee) where
-  pub cash-over : cash_limit < all_cash cash guarantee → false ≡ cash_fit cash guarantee
-  unfolding cash_fit
-  cash-over h = rw (lt-leb (all_cash cash guarantee) cash_limit h)
-
-  pub cash-frozen : all_cash cash guarantee ≤ cash_limit → guarantee.effective.0 < guarantee.frozen.0 → false ≡ cash_fit cash guarantee
-  unfolding cash_fit
-  cash-frozen h k = rw (le-leb (all_cash cash guarantee) cash_limit h, lt-leb guarantee.frozen.0 guarantee.effective.0 k)
-
-  pub cash-within : all_cash cash guarantee ≤ cash_limit → guarantee.frozen.0 ≤ guarantee.effective.0 → true ≡ cash_fit cash guarantee
-  unfolding cash_fit
-  cash-within h k = rw (le-leb (all_cash cash guarantee) cash_limit h, le-leb guarantee.frozen.0 guarantee.effective.0 k)
+use Rattle.ledger.proofs.SumLaws.{sum-front, sum_bound, sum-part, sum-changed}
 
 -- ---- fit applications, and the units that are applied for
 
@@ -51,13 +38,9 @@ module _ (withdrawals : Withdrawals) where
   unfolding withdrawals_fit
   too_many h = rw (lt-leb withdrawals.count application_limit h)
 
-  pub one-unfit : (i : ℕ) → withdrawals.count ≤ application_limit → i < withdrawals.count → application_at i ≡ false → false ≡ withdrawals_fit withdrawals
+  pub fit_each : withdrawals.count ≤ application_limit → all_below withdrawals.count application_at ≡ withdrawals_fit withdrawals
   unfolding withdrawals_fit
-  one-unfit i h l e = rw (le-leb withdrawals.count application_limit h) (sym (one-fails withdrawals.count application_at i l e))
-
-  pub all_fit : withdrawals.count ≤ application_limit → ((i : ℕ) → i < withdrawals.count → application_at i ≡ true) → true ≡ withdrawals_fit withdrawals
-  unfolding withdrawals_fit
-  all_fit h each = rw (le-leb withdrawals.count application_limit h) (sym (all_of withdrawals.count application_at each))
+  fit_each h = rw (le-leb withdrawals.count application_limit h)
 
   module _ (fits : withdrawals_fit withdrawals ≡ true) where
     pub applied-at-bound : (kind i : ℕ) → i < withdrawals.count → applied_at kind i ≤ cash_limit
@@ -72,6 +55,27 @@ module _ (withdrawals : Withdrawals) where
     applied-bound kind =
         omega (arith, sum_bound cash_limit withdrawals.count (applied_at kind) (applied-at-bound kind), (withdrawals-fit withdrawals fits).count)
 
+-- an iterator over both rows, that keeps the kind and sums its units, sums the same
+pub picked : (kind n : ℕ) (kinds units : List ℕ) → n ≤ length kinds → n ≤ length units
+    → sum (map (λ (a : ℕ × ℕ). a.1) (filter (λ (a : ℕ × ℕ). eqb a.0 kind) (zip (take n kinds) (take n units)))) ≡ sum_below n (λ i. cond (eqb (get_or kinds i 0) kind) (get_or units i 0) 0)
+unfolding sum_below
+picked kind zero kinds units h l = refl
+picked kind (suc n) [] units h l = absurd (omega arith)
+picked kind (suc n) (k ∷ kinds) [] h l = absurd (omega arith)
+picked kind (suc n) (k ∷ kinds) (u ∷ units) h l =
+    by (eqb k kind) (picked kind n kinds units (omega arith) (omega arith))
+    ∙ sym (sum-front n (λ i. cond (eqb (get_or (k ∷ kinds) i 0) kind) (get_or (u ∷ units) i 0) 0))
+  where
+    rest : List (ℕ × ℕ)
+    rest = filter (λ (a : ℕ × ℕ). eqb a.0 kind) (zip (take n kinds) (take n units))
+
+    later : ℕ
+    later = sum_below n (λ i. cond (eqb (get_or kinds i 0) kind) (get_or units i 0) 0)
+
+    by : (same : Bool) → sum (map (λ (a : ℕ × ℕ). a.1) rest) ≡ later → sum (map (λ (a : ℕ × ℕ). a.1) (cond same ((k, u) ∷ rest) rest)) ≡ cond same u 0 + later
+    by true e = sum_by-cons (λ x. x) u (map (λ (a : ℕ × ℕ). a.1) rest) ∙ ap (λ s. u + s) e
+    by false e = e ∙ sym (zero-add later)
+
 -- ---- a vault whose value is defined
 
 -- as the code asks for it
@@ -83,14 +87,10 @@ Sound vault =
 abbrev pub value_at : Vault → ℕ → ℕ
 value_at vault kind = (kind_value kind (effective_of vault kind) (frozen_of vault kind) (security_at vault kind).rate).0
 
--- of a security by its own numbers, of cash at no matter what rate
-pub security-value : (vault : Vault) (kind : ℕ) → kind < 32 → value_at vault kind ≡ (kind_value kind (security_at vault kind).effective (security_at vault kind).frozen (security_at vault kind).rate).0
-unfolding kind_value
-security-value vault kind h = rw (ne_eqb kind 32 (λ q. omega arith))
-
-pub cash-value : (vault : Vault) → value_at vault 32 ≡ (kind_value 32 vault.guarantee.effective.0 vault.guarantee.frozen.0 0).0
-unfolding kind_value
-cash-value vault = refl
+-- V is that of the securities and that of the cash
+pub value-parts : (vault : Vault) → value vault ≡ sum_below 32 (value_at vault) + value_at vault 32
+unfolding value sum_below
+value-parts vault = refl
 
 -- a kind's units and rate are within the limits that its value asks for
 pub record KindFits (vault : Vault) (kind : ℕ) : Type 0 where

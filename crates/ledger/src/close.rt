@@ -22,7 +22,6 @@ use crate::{evening, nets, next_term, packing, vault};
 use money::refusal::Refusal;
 use money::units::{Fen, Sheets};
 use rules::book::{Cash, Nets, Phase, ShortRun, Standing, Unpaid};
-use rules::limits::APPLICATION_LIMIT;
 use scalars::done::Done;
 use scalars::state::Scalars;
 use scalars::{done, headroom, state, unpaid};
@@ -70,17 +69,12 @@ fn closed_standing(short: ShortRun, standing: Standing) -> Standing
 }
 
 // The list of applications empties to zeros.
-#[tactic(auto, using(crate::proofs::RowLaws::none_filled))]
 fn clear(kinds: &mut [u8], units: &mut [u64])
     requires { (length kinds.old ≡ application_limit) × (length units.old ≡ application_limit) }
     ensures { (kinds.new ≡ no_applications.kinds) × (units.new ≡ no_applications.units) }
 {
-    let mut i = 0;
-    while i < APPLICATION_LIMIT {
-        kinds[i] = 0;
-        units[i] = 0;
-        i += 1;
-    }
+    kinds.fill(0);
+    units.fill(0);
 }
 
 // The evening's end, with O as part (b) begins and U as it is then.

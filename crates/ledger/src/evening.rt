@@ -1,5 +1,5 @@
 // The evening: what arrives becomes effective, then the applications in order.
-ghost use Rattle.std.specs.Prelude.{◌≡◌, ◌+◌, ◌≤◌, true, map, length, if◌then◌else◌};
+ghost use Rattle.std.specs.Prelude.{◌≡◌, ◌+◌, ◌≤◌, true, false, map, length, MatchOption};
 ghost use Rattle.money.specs.Limits.{cash_limit, rate_limit, unit_limit};
 ghost use Rattle.money.specs.Collateral.{cash_kind, rate_of, unit_limit_of, kind_value};
 ghost use Rattle.rules.specs.Limits.{application_limit};
@@ -23,8 +23,7 @@ fn security_arrived(security: Security) -> Security
     Security {
         effective: security.effective + security.arriving,
         arriving: 0,
-        frozen: security.frozen,
-        rate: security.rate,
+        ..security
     }
 }
 
@@ -32,63 +31,27 @@ pub fn guarantee_arrived(guarantee: Guarantee) -> Guarantee
     requires { guarantee.effective.0 + guarantee.arriving.0 ≤ cash_limit }
     ensures { result ≡ guarantee_arrived guarantee }
 {
-    let frozen = guarantee.frozen;
     Guarantee {
         effective: Fen(guarantee.effective.0 + guarantee.arriving.0),
         arriving: Fen(0),
-        frozen,
+        ..guarantee
     }
 }
 
 // What arrives becomes effective, of every security.
-#[tactic(auto, using(crate::proofs::EveningLaws::map_below, crate::proofs::EveningLaws::map_more))]
 pub fn all_arrived(held: &mut [u64], guarantee: Guarantee)
     requires { (length held.old ≡ held_length) × (securities_fit (vault_of guarantee (securities_of held.old)) ≡ true) }
     ensures { (securities_of held.new ≡ map security_arrived (securities_of held.old))
         × (postings_of held.new ≡ postings_of held.old) }
 {
-    let mut kind = 0;
-    while kind < SECURITIES {
+    for kind in 0..SECURITIES {
         let security = held::security_at(&*held, kind);
         held::put_security(held, kind, security_arrived(security));
-        kind += 1;
     }
 }
 
-// Guarantee cash as a security, and back; a security's rate is not looked at in cash.
-fn as_security(guarantee: Guarantee) -> Security
-    ensures { (result.effective ≡ guarantee.effective.0)
-        × (result.arriving ≡ guarantee.arriving.0)
-        × (result.frozen ≡ guarantee.frozen.0)
-        × (result.rate ≡ 0) }
-{
-    Security {
-        effective: guarantee.effective.0,
-        arriving: guarantee.arriving.0,
-        frozen: guarantee.frozen.0,
-        rate: 0,
-    }
-}
-
-fn as_guarantee(security: Security) -> Guarantee
-    ensures { (result.effective.0 ≡ security.effective) × (result.arriving.0 ≡ security.arriving) × (result.frozen.0 ≡ security.frozen) }
-{
-    Guarantee {
-        effective: Fen(security.effective),
-        arriving: Fen(security.arriving),
-        frozen: Fen(security.frozen),
-    }
-}
-
-// Whether an application is done, and V afterwards.
-#[derive(Clone, Copy)]
-struct Verdict {
-    pub goes: bool,
-    pub value: Sheets,
-}
-
-// By what is had of the kind alone: V changes by that kind's value, so the other kinds are not looked at.
-#[tactic(auto, using(crate::proofs::EveningLaws::value_after, crate::proofs::EveningLaws::unserved, crate::proofs::EveningLaws::uncovered))]
+// V after an application that is done, and none where it is dropped. By what is had of the kind alone: V changes by that kind's value, so
+// the other kinds are not looked at.
 fn judged(
     served: bool,
     outstanding: Sheets,
@@ -97,7 +60,7 @@ fn judged(
     units: u64,
     had: Security,
     value: Sheets,
-) -> Verdict
+) -> Option<Sheets>
     requires { (kind ≤ cash_kind)
         × (had.frozen ≤ had.effective)
         × (had.effective ≤ unit_limit_of kind)
@@ -110,25 +73,17 @@ fn judged(
         → had.frozen ≡ frozen_of vault kind
         → had.rate ≡ (security_at vault kind).rate
         → value.0 ≡ value_of vault
-        → (result.goes ≡ may_go served (claims_of outstanding.0 unpaid.0) kind units vault)
-        × (result.value.0 ≡ (if result.goes then value_of (taken_out kind units vault) else value.0)) }
+        → let goes = may_go served (claims_of outstanding.0 unpaid.0) kind units vault in
+        MatchOption result (goes ≡ false) (λ after. (goes ≡ true) × (after.0 ≡ value_of (taken_out kind units vault))) }
 {
-    if !served {
-        return Verdict { goes: false, value };
+    if !served || had.effective - had.frozen < units {
+        return None;
     }
-    if had.effective - had.frozen < units {
-        return Verdict { goes: false, value };
-    }
-    let with = vault::worth(kind, had.effective, had.frozen, had.rate);
-    let without = vault::worth(kind, had.effective - units, had.frozen, had.rate);
-    let after = value.0 - with.0 + without.0;
-    if !headroom::covers(Sheets(after), outstanding, unpaid) {
-        return Verdict { goes: false, value };
-    }
-    Verdict {
-        goes: true,
-        value: Sheets(after),
-    }
+    let effective = had.effective - units;
+    let with = vault::worth(kind, had);
+    let without = vault::worth(kind, Security { effective, ..had });
+    let after = Sheets(value.0 - with.0 + without.0);
+    headroom::covers(after, outstanding, unpaid).then_some(after)
 }
 
 // Own and guarantee cash and V as the evening goes on, and the applications done and dropped so far. The securities stand in their row.
@@ -142,7 +97,6 @@ pub struct EveningScalars {
 }
 
 // The applications in order: of each one's kind a copy is looked at, and written back if it goes.
-#[tactic(auto, using(crate::proofs::SumLaws::turn_more, crate::proofs::EveningLaws::held_fits, crate::proofs::EveningLaws::turn, crate::proofs::EveningLaws::unfrozen), unfolding(rules::specs::Close::applications, money::specs::Causes::first_of))]
 pub fn applications(
     served: bool,
     outstanding: Sheets,
@@ -170,48 +124,24 @@ pub fn applications(
         × (result.value.0 ≡ value_of (vault_of result.guarantee (securities_of held.new)))
         × (postings_of held.new ≡ postings_of held.old) }
 {
-    let mut guarantee = begun.guarantee;
-    let mut own = begun.own.0;
-    let mut value = begun.value.0;
-    let mut done = begun.done;
-    let mut dropped = begun.dropped;
-    let mut i = 0;
-    while i < count {
-        let kind = kinds[i];
-        let amount = units[i];
-        let mut had = as_security(guarantee);
-        if kind < CASH_KIND {
-            had = held::security_at(&*held, kind as usize);
-        }
-        let verdict = judged(
-            served,
-            outstanding,
-            unpaid,
-            kind,
-            amount,
-            had,
-            Sheets(value),
-        );
-        value = verdict.value.0;
-        if verdict.goes {
-            done += 1;
-            had.effective = had.effective - amount;
-            if kind < CASH_KIND {
-                held::put_security(held, kind as usize, had);
-            } else {
-                guarantee = as_guarantee(had);
-                own += amount;
+    let mut evening = begun;
+    for (&kind, &amount) in kinds[..count].iter().zip(&units[..count]) {
+        let had = vault::had_of(&*held, evening.guarantee, kind);
+        let value = evening.value;
+        match judged(served, outstanding, unpaid, kind, amount, had, value) {
+            Some(after) => {
+                evening.done += 1;
+                evening.value = after;
+                let effective = had.effective - amount;
+                if kind < CASH_KIND {
+                    held::put_security(held, kind as usize, Security { effective, ..had });
+                } else {
+                    evening.guarantee.effective = Fen(effective);
+                    evening.own = Fen(evening.own.0 + amount);
+                }
             }
-        } else {
-            dropped += 1;
+            None => evening.dropped += 1,
         }
-        i += 1;
     }
-    EveningScalars {
-        own: Fen(own),
-        guarantee,
-        value: Sheets(value),
-        done,
-        dropped,
-    }
+    evening
 }

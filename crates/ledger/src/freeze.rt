@@ -24,7 +24,7 @@ fn freeze_refusal(scalars: Scalars, held: &[u64], kind: u8, units: u64) -> Resul
     if kind > CASH_KIND {
         return Err(Refusal::UnknownKind);
     }
-    if vault::effective_of(held, scalars.guarantee, kind) < units {
+    if vault::had_of(held, scalars.guarantee, kind).effective < units {
         return Err(Refusal::NotEnough);
     }
     Ok(())

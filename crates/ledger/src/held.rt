@@ -6,16 +6,17 @@ ghost use Rattle.ledger.specs.Flat.{security_in, securities_of, postings_of, hel
 use crate::layout::SECURITY_WIDTH;
 use rules::book::Security;
 
-#[tactic(auto, unfolding(crate::specs::Flat::security_in, money::specs::Causes::first_of))]
+#[tactic(auto, unfolding(crate::specs::Flat::security_in))]
 pub fn security_at(held: &[u64], kind: usize) -> Security
     requires { (kind < cash_kind) × (length held.now ≡ held_length) }
     ensures { result ≡ security_in held.now kind }
 {
+    let at = kind * SECURITY_WIDTH;
     Security {
-        effective: held[kind * SECURITY_WIDTH],
-        arriving: held[kind * SECURITY_WIDTH + 1],
-        frozen: held[kind * SECURITY_WIDTH + 2],
-        rate: held[kind * SECURITY_WIDTH + 3],
+        effective: held[at],
+        arriving: held[at + 1],
+        frozen: held[at + 2],
+        rate: held[at + 3],
     }
 }
 
@@ -24,8 +25,11 @@ pub fn put_security(held: &mut [u64], kind: usize, security: Security)
     ensures { (securities_of held.new ≡ slice_set (securities_of held.old) kind security)
         × (postings_of held.new ≡ postings_of held.old) }
 {
-    held[kind * SECURITY_WIDTH] = security.effective;
-    held[kind * SECURITY_WIDTH + 1] = security.arriving;
-    held[kind * SECURITY_WIDTH + 2] = security.frozen;
-    held[kind * SECURITY_WIDTH + 3] = security.rate;
+    let at = kind * SECURITY_WIDTH;
+    held[at..at + SECURITY_WIDTH].copy_from_slice(&[
+        security.effective,
+        security.arriving,
+        security.frozen,
+        security.rate,
+    ]);
 }

@@ -9,29 +9,10 @@ ghost use Rattle.rules.specs.Listing.{line_numbers, sign_of};
 use crate::figures::Figures;
 use money::units::Sheets;
 use rules::book::{Cash, Guarantee};
+use rules::limits::LINE_NUMBERS;
 use scalars::headroom;
 
-// Headroom is what is covered less O: 1 where it is negative, and below it its size.
-fn sign_of(covered: Sheets, outstanding: Sheets) -> u64
-    ensures { result ≡ sign_of (sub_ℕ covered.0 outstanding.0) }
-{
-    if covered.0 < outstanding.0 {
-        return 1;
-    }
-    0
-}
-
-fn size_of(covered: Sheets, outstanding: Sheets) -> Sheets
-    ensures { result.0 ≡ unsigned_abs (sub_ℕ covered.0 outstanding.0) }
-{
-    if covered.0 < outstanding.0 {
-        let lacking = outstanding.0 - covered.0;
-        return Sheets(lacking);
-    }
-    let left = covered.0 - outstanding.0;
-    Sheets(left)
-}
-
+// Headroom is what is covered less O: told by 1 where that is negative, else 0, and by its size.
 pub fn write_line(
     lines: &mut [u64],
     at: usize,
@@ -54,16 +35,16 @@ pub fn write_line(
         ∷ (guarantee.effective.0 + guarantee.arriving.0)
         ∷ []) }
 {
-    let value = figures.value;
+    let covered = headroom::smaller(size, figures.value);
     let outstanding = figures.outstanding;
-    let covered = headroom::smaller(size, value);
-    let negative = sign_of(covered, outstanding);
-    let distance = size_of(covered, outstanding);
-    lines[at] = number as u64;
-    lines[at + 1] = negative;
-    lines[at + 2] = distance.0;
-    lines[at + 3] = outstanding.0;
-    lines[at + 4] = cash.own.0;
-    lines[at + 5] = cash.client.0;
-    lines[at + 6] = guarantee.effective.0 + guarantee.arriving.0;
+    let line = [
+        number as u64,
+        u64::from(covered.0 < outstanding.0),
+        covered.0.abs_diff(outstanding.0),
+        outstanding.0,
+        cash.own.0,
+        cash.client.0,
+        guarantee.effective.0 + guarantee.arriving.0,
+    ];
+    lines[at..at + LINE_NUMBERS].copy_from_slice(&line);
 }

@@ -14,17 +14,17 @@ use rules::limits::{AHEAD_LIMIT, PRODUCT_LIMIT};
 
 pub const LONGEST_TERM: u64 = AHEAD_LIMIT as u64;
 
-#[tactic(auto, unfolding(crate::specs::Flat::posting_in, money::specs::Causes::first_of))]
+// Its prices share a number, so it is read and written otherwise than a security, whose numbers stand alone.
+#[tactic(auto, unfolding(crate::specs::Flat::posting_in))]
 pub fn posting_at(held: &[u64], number: usize) -> Posting
     requires { (number < product_limit) × (length held.now ≡ held_length) }
     ensures { result ≡ posting_in held.now number }
 {
-    let term = held[POSTINGS_FROM + number * POSTING_WIDTH];
-    let prices = POSTINGS_FROM + number * POSTING_WIDTH + 1;
+    let at = POSTINGS_FROM + number * POSTING_WIDTH;
     Posting {
-        term,
-        price: Ticks(flat::lower_at(held, prices)),
-        fallback: Ticks(flat::upper_at(held, prices)),
+        term: held[at],
+        price: Ticks(flat::lower_at(held, at + 1)),
+        fallback: Ticks(flat::upper_at(held, at + 1)),
     }
 }
 
@@ -33,14 +33,14 @@ pub fn posting_of(held: &[u64], product: usize) -> Posting
     requires { (product ≤ product_limit) × (length held.now ≡ held_length) }
     ensures { result ≡ posting_at (postings_of held.now) product }
 {
-    if product == 0 {
-        return Posting {
+    match product.checked_sub(1) {
+        Some(number) => posting_at(held, number),
+        None => Posting {
             term: 0,
             price: Ticks(0),
             fallback: Ticks(0),
-        };
+        },
     }
-    posting_at(held, product - 1)
 }
 
 // Whether any product is posted today.
@@ -48,15 +48,7 @@ pub fn any_posted(held: &[u64]) -> bool
     requires { length held.now ≡ held_length }
     ensures { result ≡ false → (number : ℕ) → number < product_limit → is_posted (posting_in held.now number) ≡ false }
 {
-    let mut number = 0;
-    while number < PRODUCT_LIMIT {
-        let posting = posting_at(held, number);
-        if posting.term != 0 {
-            return true;
-        }
-        number += 1;
-    }
-    false
+    (0..PRODUCT_LIMIT).any(|number| posting_at(held, number).term != 0)
 }
 
 pub fn put_posting(held: &mut [u64], number: usize, posting: Posting)
@@ -75,39 +67,20 @@ pub fn forget(held: &mut [u64])
     requires { length held.old ≡ held_length }
     ensures { (postings_of held.new ≡ no_postings) × (securities_of held.new ≡ securities_of held.old) }
 {
-    let mut at = POSTINGS_FROM;
-    while at < HELD_LENGTH {
-        held[at] = 0;
-        at += 1;
-    }
+    held[POSTINGS_FROM..HELD_LENGTH].fill(0);
 }
 
-#[tactic(auto, using(crate::proofs::SumLaws::none_left))]
 fn posting_fit(posting: Posting) -> bool
     ensures { result ≡ posting_fit posting }
 {
-    if posting.term > LONGEST_TERM {
-        return false;
-    }
-    if posting.price.0 > PRICE_LIMIT {
-        return false;
-    }
-    if posting.fallback.0 > PRICE_LIMIT {
-        return false;
-    }
-    true
+    posting.term <= LONGEST_TERM
+        && posting.price.0 <= PRICE_LIMIT
+        && posting.fallback.0 <= PRICE_LIMIT
 }
 
 pub fn postings_fit(held: &[u64]) -> bool
     requires { length held.now ≡ held_length }
     ensures { result ≡ postings_fit (postings_of held.now) }
 {
-    let mut number = 0;
-    while number < PRODUCT_LIMIT {
-        if !posting_fit(posting_at(held, number)) {
-            return false;
-        }
-        number += 1;
-    }
-    true
+    (0..PRODUCT_LIMIT).all(|number| posting_fit(posting_at(held, number)))
 }

@@ -24,12 +24,11 @@ fn lacks(scalars: Scalars, held: &[u64], kinds: &[u8], units: &[u64], kind: u8, 
         result ≡ nat_lt (effective_of book.vault kind) (count + frozen_of book.vault kind + applied book.withdrawals kind) }
 {
     let guarantee = scalars.guarantee;
-    let effective = vault::effective_of(held, guarantee, kind);
-    if effective < count {
+    let had = vault::had_of(held, guarantee, kind);
+    if had.effective < count {
         return true;
     }
-    let frozen = vault::frozen_of(held, guarantee, kind);
-    effective < count + frozen + vault::applied_of(kinds, units, scalars.applications, kind)
+    had.effective < count + had.frozen + vault::applied_of(kinds, units, scalars.applications, kind)
 }
 
 #[tactic(auto, unfolding(rules::specs::Withdraw::withdraw_causes, money::specs::Causes::first_of))]

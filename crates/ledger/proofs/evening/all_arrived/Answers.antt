@@ -1,39 +1,38 @@
-use Rattle.std.specs.Prelude.{◌≡◌, length, get_or}
-use mathlib.Core.Path.{refl, sym, ap, ◌∙◌}
-use native.Mathlib.Omega.{arith}
-use borrow.Author.Rules.{rules}
+use Rattle.std.proofs.Common.{arith, ◌≡◌, ℕ, ◌<◌, List, refl, sym, ap, ◌∙◌, length}
+use Rattle.std.specs.Prelude.{get_or}
 use Rattle.rules.specs.Book.{no_security}
 use Rattle.rules.specs.Close.{security_arrived}
 use Rattle.rules.proofs.FitParts.{securities-fit}
-use Rattle.ledger.specs.Flat.{securities_of}
+use Rattle.ledger.specs.Types.{Security}
+use Rattle.ledger.specs.Flat.{security_in, securities_of}
 use Rattle.ledger.proofs.HeldLaws.{length-securities, security-below}
 use Rattle.ledger.proofs.EveningLaws.{map_below, map-none, map_more, map-all, still-there}
 use Rattle.ledger.proofs.evening.all_arrived.Goals as goal
 
+-- the security at hand is as it was before
+as-before : (held before : List ℕ) (kind : ℕ) (security : Security) → kind < 32 → securities_of held ≡ map_below security_arrived kind (securities_of before)
+    → security ≡ security_in held kind → security ≡ get_or (securities_of before) kind no_security
+as-before held before kind security h reached e = e ∙ sym (security-below held 32 kind h) ∙ rw reached (still-there security_arrived kind _ no_security)
+
 pub loop-kind-init : goal.loop-kind-init
-loop-kind-init c =
-    (omega arith, refl, sym (map-none security_arrived _), refl)
+loop-kind-init c = (sym (map-none security_arrived _), refl)
 
 pub security_arrived-requires : goal.security_arrived-requires
 security_arrived-requires c =
-    let at-hand : c.security_at-security.result ≡ get_or (securities_of c.args.held.now) c.loop-kind.kind no_security = let loop = c.loop-kind in
-    c.security_at-security.ensures ∙ sym (security-below loop.held 32 loop.kind (omega arith)) ∙ rw loop.invariant.2 (still-there security_arrived loop.kind _ no_security) in
-    rw at-hand (securities-fit _ c.requires.1 c.loop-kind.kind (omega arith)).units
+    let loop = c.loop-kind in
+    rw (as-before loop.held _ loop.kind _ c.loop-kind-test.true loop.invariant.0 c.security_at-security.ensures) (securities-fit _ c.requires.1 loop.kind c.loop-kind-test.true).units
 
 pub loop-kind-preserved : goal.loop-kind-preserved
 loop-kind-preserved c =
-    let at-hand : c.security_at-security.result ≡ get_or (securities_of c.args.held.now) c.loop-kind.kind no_security = let loop = c.loop-kind in
-    c.security_at-security.ensures ∙ sym (security-below loop.held 32 loop.kind (omega arith)) ∙ rw loop.invariant.2 (still-there security_arrived loop.kind _ no_security) in
     let loop = c.loop-kind in
-    let l = securities_of c.args.held.now in (
-      search rules,
-      c.put_security.auto.held ∙ loop.invariant.1,
-      c.put_security.ensures.0 ∙ rw (c.security_arrived.ensures, at-hand, loop.invariant.2) (map_more security_arrived loop.kind l no_security (omega (arith, length-securities c.args.held.now 32))),
-      c.put_security.ensures.1 ∙ loop.invariant.3,
+    let before = securities_of c.args.held.now in
+    let at-hand = as-before loop.held _ loop.kind _ c.loop-kind-test.true loop.invariant.0 c.security_at-security.ensures in (
+      c.put_security.ensures.0 ∙ rw (c.security_arrived.ensures, at-hand, loop.invariant.0) (map_more security_arrived loop.kind before no_security (omega (arith, length-securities c.args.held.now 32))),
+      c.put_security.ensures.1 ∙ loop.invariant.1,
     )
 
 pub returns : goal.returns
 returns c =
-    let l = securities_of c.args.held.now in
-    let e : c.loop-kind.kind ≡ length l = omega (arith, length-securities c.args.held.now 32) in
-    (c.loop-kind.invariant.2 ∙ ap (λ n. map_below security_arrived n l) e ∙ map-all security_arrived l, c.loop-kind.invariant.3)
+    let before = securities_of c.args.held.now in
+    let e : c.loop-kind.kind ≡ length before = omega (arith, length-securities c.args.held.now 32) in
+    (c.loop-kind.invariant.0 ∙ ap (λ n. map_below security_arrived n before) e ∙ map-all security_arrived before, c.loop-kind.invariant.1)

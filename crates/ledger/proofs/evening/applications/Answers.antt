@@ -1,36 +1,22 @@
 -- Each application goes, or stays: what is had of its kind, what is judged of it, and the evening after its turn.
-use Rattle.std.proofs.Common.{arith, sym, ap, ◌∙◌, refl, ◌≡◌, ℕ, ◌+◌, ◌-◌, ◌<◌, ◌≤◌, List, Bool, true, false, cond}
-use Rattle.std.specs.Prelude.{◌⊎◌, get_or}
-use mathlib.Core.Logic.{inl, inr, ⊎_elim}
+use Rattle.std.proofs.Common.{arith, sym, ap, ◌∙◌, refl, ◌≡◌, ℕ, ◌+◌, ◌<◌, ◌≤◌, List, ◌∷◌, [], ◌++◌, Bool, true, false, length, length-append, take}
+use Rattle.std.specs.Prelude.{cond}
+use Rattle.std.proofs.lemmas.Iterator.{YieldsList-from_slice, YieldsList-from_zip}
+use Rattle.std.proofs.lemmas.Iterator.Consumers.{YieldsList-turn, YieldsList-end}
+use Rattle.std.proofs.lemmas.Slice.Zip.{length-zip}
 use borrow.Author.Tests.{eq-eqb, ne_eqb}
-use native.Mathlib.Decide.{ℕ_discrete}
+use lib.ListN.{length-take}
 use Rattle.rules.specs.Folds.{in_turn}
 use Rattle.rules.specs.Vault.{security_at, is_cash, value as value_of}
 use Rattle.rules.specs.Close.{Evening, taken_out, claims_of, may_go, settled, applications}
-use Rattle.rules.specs.Fit.{withdrawals_fit}
 use Rattle.rules.proofs.FitParts.{ApplicationFits, securities-fit, withdrawals-fit}
-use Rattle.ledger.specs.Types.{Security, Guarantee, Vault, Withdrawals}
-use Rattle.ledger.specs.Flat.{securities_of, postings_of, vault_of, evening_at}
+use Rattle.ledger.specs.Types.{Vault, Withdrawals}
+use Rattle.ledger.specs.Flat.{securities_of, vault_of, evening_at}
 use Rattle.ledger.proofs.SumLaws.{turn-none, turn_more}
 use Rattle.ledger.proofs.HeldLaws.{length-securities, security-at-row}
-use Rattle.ledger.proofs.EveningLaws.{vault_from, asked, made, Kept, Held, held-security, held-cash, held_fits, security-taken, cash-taken, sound-of, turn, turns-keep, turns-count, unfrozen}
+use Rattle.ledger.proofs.EveningLaws.{asked, made, Kept, Come, come, held_fits, security-taken, cash-taken, sound-of, turn, turns-keep, turns-count, unfrozen}
 use Rattle.ledger.proofs.evening.applications.Goals as goal
-use Rattle.ledger.proofs.evening.applications.Goals.{then-kind-lt-CASH_KIND, else-kind-lt-CASH_KIND, then-verdict+then-kind-lt-CASH_KIND-2, then-verdict+else-kind-lt-CASH_KIND-2, else-verdict}
-
-same-vault : {g h : Guarantee} {l m : List Security} → g ≡ h → l ≡ m → vault_of g l ≡ vault_of h m
-same-vault {g} {h} {l} {m} p q = rw (p, q)
-
--- what is had of a kind: a security's row, or cash
-module _ (held : List ℕ) (guarantee : Guarantee) (kind : ℕ) (had cash : Security) where
-  had-of : kind ≤ 32 → (kind < 32 → had ≡ security_at (vault_from held guarantee) kind) → (kind ≡ 32 → had ≡ cash)
-      → cash.effective ≡ guarantee.effective.0 → cash.frozen ≡ guarantee.frozen.0 → cash.rate ≡ 0 → Held (vault_from held guarantee) kind had
-  had-of known security money e f r = by (ℕ_discrete kind 32)
-    where
-      by : Dec (kind ≡ 32) → Held (vault_from held guarantee) kind had
-      by (yes k) =
-          held-cash (vault_from held guarantee) kind had k (length-securities held 32) (ap (λ (s : Security). s.effective) (money k) ∙ e) (ap (λ (s : Security). s.frozen) (money k) ∙ f)
-          (ap (λ (s : Security). s.rate) (money k) ∙ r)
-      by (no other) = let h : kind < 32 = omega arith in held-security (vault_from held guarantee) kind had h (security h)
+use Rattle.ledger.proofs.evening.applications.Goals.{In-Some, After-had_of-had, In-Some-judged}
 
 -- the evening before a turn
 module _ (served : Bool) (claims : ℕ) (w : Withdrawals) (first e : Evening) (i : ℕ) (reached : e ≡ in_turn i (turn served claims w) first) where
@@ -41,231 +27,160 @@ module _ (served : Bool) (claims : ℕ) (w : Withdrawals) (first e : Evening) (i
   seen-of d r = omega (arith, ap (λ (e : Evening). e.done + e.dropped) reached, turns-count served claims w first i, d, r)
 
 -- it is the evening after an application that goes, or stays
-module _ (served : Bool) (claims kind units : ℕ) (e : Evening) {own done dropped : ℕ} {vault : Vault} where
-  went : may_go served claims kind units e.vault ≡ true → own ≡ cond (is_cash kind) (e.own.0 + units) e.own.0 → vault ≡ taken_out kind units e.vault → done ≡ e.done + 1 → dropped ≡ e.dropped
-      → made own vault done dropped ≡ settled served claims kind units e
-  went goes o v d r = rw (goes, o, v, d, r)
+module _ (served : Bool) (claims kind units : ℕ) (e : Evening) where
+  went : {own : ℕ} {vault : Vault} → may_go served claims kind units e.vault ≡ true → own ≡ cond (is_cash kind) (e.own.0 + units) e.own.0
+      → vault ≡ taken_out kind units e.vault
+      → made own vault (e.done + 1) e.dropped ≡ settled served claims kind units e
+  went goes o v = rw (goes, o, v)
 
-  stayed : may_go served claims kind units e.vault ≡ false → own ≡ e.own.0 → vault ≡ e.vault → done ≡ e.done → dropped ≡ e.dropped + 1
-      → made own vault done dropped ≡ settled served claims kind units e
-  stayed stays o v d r = rw (stays, o, v, d, r)
+  stayed : may_go served claims kind units e.vault ≡ false → made e.own.0 e.vault e.done (e.dropped + 1) ≡ settled served claims kind units e
+  stayed stays = rw stays
 
-pub loop-i-init : goal.loop-i-init
-loop-i-init c = (omega arith, refl, sym (turn-none _ _), c.requires.held_value.4, refl)
+-- a turn more, with the application that was come to
+one-more : {B : Type 0} (served : Bool) (claims count kind amount : ℕ) (kinds units : List ℕ) (first e next : Evening) (ys : List B) (y : B)
+    → Come kinds units count (length ys) kind amount
+    → e ≡ in_turn (length ys) (turn served claims (asked kinds units count)) first → next ≡ settled served claims kind amount e
+    → next ≡ in_turn (length (ys ++ (y ∷ []))) (turn served claims (asked kinds units count)) first
+one-more served claims count kind amount kinds units first e next ys y at reached n =
+    let turns = turn served claims (asked kinds units count) in
+    let more : length (ys ++ (y ∷ [])) ≡ length ys + 1 = length-append ys (y ∷ []) in
+    rw (more, turn_more turns first (length ys), ← reached, ← at.kind-is, ← at.amount-is) n
 
-pub bounds-kinds-i : goal.bounds-kinds-i
-bounds-kinds-i c = omega (arith, (withdrawals-fit _ c.requires.kinds_len.3).count, c.requires.kinds_len.0)
+pub slice_bounds-iter-end : goal.slice_bounds-iter-end
+slice_bounds-iter-end c = omega (arith, length-take {A = ℕ}, (withdrawals-fit _ c.requires.kinds_len.3).count, c.requires.kinds_len.0)
 
-pub offset_bounds-units-i : goal.offset_bounds-units-i
-offset_bounds-units-i c = omega (arith, (withdrawals-fit _ c.requires.kinds_len.3).count)
+pub slice_bounds-zip-end : goal.slice_bounds-zip-end
+slice_bounds-zip-end c = omega (arith, length-take {A = ℕ}, (withdrawals-fit _ c.requires.kinds_len.3).count, c.requires.kinds_len.1)
 
-pub bounds-units-i : goal.bounds-units-i
-bounds-units-i c = omega (arith, (withdrawals-fit _ c.requires.kinds_len.3).count, c.requires.kinds_len.1)
+pub loop-kind-init : goal.loop-kind-init
+loop-kind-init c = (sym (turn-none _ _), c.requires.held_value.4, refl)
 
--- the application at hand
-application-at : (kinds units : List ℕ) (count i : ℕ) → withdrawals_fit (asked kinds units count) ≡ true → i < count → ApplicationFits (get_or kinds i 0) (get_or units i 0)
-application-at kinds units count i fits below = (withdrawals-fit (asked kinds units count) fits).each i below
-
-pub judged-verdict-requires : goal.judged-verdict-requires
-judged-verdict-requires c =
-    let kind = get_or c.args.kinds.now c.loop-i.i 0 in
-    let vault = vault_from c.loop-i.held c.loop-i.guarantee in
-    let before = made c.loop-i.own vault c.loop-i.done c.loop-i.dropped in
-    let application = application-at c.args.kinds.now c.args.units.now c.args.count c.loop-i.i c.requires.kinds_len.3 (omega arith) in
-    let security : kind < 32 → c.if-kind-lt-CASH_KIND.had ≡ security_at vault kind =
-    λ h.
-    elim c.if-kind-lt-CASH_KIND.branch [
-      | then-kind-lt-CASH_KIND w ↦ w.had-is ∙ w.security_at-had.ensures ∙ sym (security-at-row c.loop-i.held c.loop-i.guarantee kind h)
-      | else-kind-lt-CASH_KIND w ↦ absurd (omega (arith, w.if-kind-lt-CASH_KIND.false))
-    ] in
-    let money : kind ≡ 32 → c.if-kind-lt-CASH_KIND.had ≡ c.as_security-had.result =
-    λ h.
-    elim c.if-kind-lt-CASH_KIND.branch [
-      | then-kind-lt-CASH_KIND w ↦ absurd (omega (arith, w.if-kind-lt-CASH_KIND.true))
-      | else-kind-lt-CASH_KIND w ↦ w.had-is
-    ] in
-    let cash = c.as_security-had.ensures in
-    let held = had-of c.loop-i.held c.loop-i.guarantee kind c.if-kind-lt-CASH_KIND.had c.as_security-had.result application.known security money cash.0 cash.2 cash.3 in
-    let kept =
-    kept-of c.args.served (claims_of c.args.outstanding.0 c.args.unpaid.0) (asked c.args.kinds.now c.args.units.now c.args.count) _ before c.loop-i.i c.loop-i.invariant.2
-    (record { securities = securities-fit _ c.requires.held_value.0; free = c.requires.held_value.1; cash = c.requires.held_value.3 }) in
-    held_fits vault kind c.if-kind-lt-CASH_KIND.had c.loop-i.value (sound-of before kept) application.known held c.loop-i.invariant.3
-
-pub overflow_add-done : goal.overflow_add-done
-overflow_add-done c =
-    let before = made c.loop-i.own (vault_from c.loop-i.held c.loop-i.guarantee) c.loop-i.done c.loop-i.dropped in
-    let seen =
-    seen-of c.args.served (claims_of c.args.outstanding.0 c.args.unpaid.0) (asked c.args.kinds.now c.args.units.now c.args.count) _ before c.loop-i.i c.loop-i.invariant.2
-    c.requires.held_value.5 c.requires.held_value.6 in
-    omega (arith, seen, (withdrawals-fit _ c.requires.kinds_len.3).count)
-
-pub overflow_sub-had : goal.overflow_sub-had
-overflow_sub-had c =
-    let kind = get_or c.args.kinds.now c.loop-i.i 0 in
-    let vault = vault_from c.loop-i.held c.loop-i.guarantee in
-    let application = application-at c.args.kinds.now c.args.units.now c.args.count c.loop-i.i c.requires.kinds_len.3 (omega arith) in
-    let security : kind < 32 → c.if-kind-lt-CASH_KIND.had ≡ security_at vault kind =
-    λ h.
-    elim c.if-kind-lt-CASH_KIND.branch [
-      | then-kind-lt-CASH_KIND w ↦ w.had-is ∙ w.security_at-had.ensures ∙ sym (security-at-row c.loop-i.held c.loop-i.guarantee kind h)
-      | else-kind-lt-CASH_KIND w ↦ absurd (omega (arith, w.if-kind-lt-CASH_KIND.false))
-    ] in
-    let money : kind ≡ 32 → c.if-kind-lt-CASH_KIND.had ≡ c.as_security-had.result =
-    λ h.
-    elim c.if-kind-lt-CASH_KIND.branch [
-      | then-kind-lt-CASH_KIND w ↦ absurd (omega (arith, w.if-kind-lt-CASH_KIND.true))
-      | else-kind-lt-CASH_KIND w ↦ w.had-is
-    ] in
-    let cash = c.as_security-had.ensures in
-    let held = had-of c.loop-i.held c.loop-i.guarantee kind c.if-kind-lt-CASH_KIND.had c.as_security-had.result application.known security money cash.0 cash.2 cash.3 in
-    let judgement = c.judged-verdict.ensures vault (length-securities c.loop-i.held 32) held.effective held.frozen held.rate c.loop-i.invariant.3 in
-    omega (arith, unfrozen c.args.served (claims_of c.args.outstanding.0 c.args.unpaid.0) kind (get_or c.args.units.now c.loop-i.i 0) vault (sym judgement.0 ∙ c.if-verdict.true), held.effective)
-
-pub overflow_add-own : goal.overflow_add-own
-overflow_add-own c =
-    let before = made c.loop-i.own (vault_from c.loop-i.held c.loop-i.guarantee) c.loop-i.done c.loop-i.dropped in
-    let kept =
-    kept-of c.args.served (claims_of c.args.outstanding.0 c.args.unpaid.0) (asked c.args.kinds.now c.args.units.now c.args.count) _ before c.loop-i.i c.loop-i.invariant.2
-    (record { securities = securities-fit _ c.requires.held_value.0; free = c.requires.held_value.1; cash = c.requires.held_value.3 }) in
-    let application = application-at c.args.kinds.now c.args.units.now c.args.count c.loop-i.i c.requires.kinds_len.3 (omega arith) in
-    omega (arith, kept.cash, application.within)
-
-pub overflow_add-dropped : goal.overflow_add-dropped
-overflow_add-dropped c =
-    let before = made c.loop-i.own (vault_from c.loop-i.held c.loop-i.guarantee) c.loop-i.done c.loop-i.dropped in
-    let seen =
-    seen-of c.args.served (claims_of c.args.outstanding.0 c.args.unpaid.0) (asked c.args.kinds.now c.args.units.now c.args.count) _ before c.loop-i.i c.loop-i.invariant.2
-    c.requires.held_value.5 c.requires.held_value.6 in
-    omega (arith, seen, (withdrawals-fit _ c.requires.kinds_len.3).count)
-
--- after the turn: the application went, or stayed
-module _ (c : goal.Joined-verdict) where
-  abbrev kind : ℕ
-  kind = get_or c.args.kinds.now c.loop-i.i 0
-
-  abbrev vault : Vault
-  vault = vault_from c.loop-i.held c.loop-i.guarantee
-
-  abbrev next : Vault
-  next = vault_from c.if-verdict.held c.if-verdict.guarantee
-
-  abbrev units : ℕ
-  units = get_or c.args.units.now c.loop-i.i 0
-
-  abbrev claimed : ℕ
-  claimed = claims_of c.args.outstanding.0 c.args.unpaid.0
+-- the application at hand, and the evening before its turn
+module _ (c : In-Some) where
+  abbrev claims : ℕ
+  claims = claims_of c.args.outstanding.0 c.args.unpaid.0
 
   abbrev before : Evening
-  before = made c.loop-i.own vault c.loop-i.done c.loop-i.dropped
+  before = evening_at c.loop-kind.evening (securities_of c.loop-kind.held)
 
-  application : ApplicationFits kind units
-  application = application-at c.args.kinds.now c.args.units.now c.args.count c.loop-i.i c.requires.kinds_len.3 (omega arith)
+  at-hand : Come c.args.kinds.now c.args.units.now c.args.count (length c.loop-kind.yielded) c.in-Some.field-0-0.now c.in-Some.field-0-1.now
+  at-hand =
+      let a = c.args in
+      let few : a.count ≤ 128 = (withdrawals-fit _ c.requires.kinds_len.3).count in
+      let at =
+      YieldsList-turn
+      (YieldsList-from_zip {s = c.into_iter-kind-iterator.result} (YieldsList-from_slice (take a.count a.kinds.now) (cc)) (YieldsList-from_slice (take a.count a.units.now) (cc)))
+      c.loop-kind.yielded c.loop-kind.kind-iterator c.loop-kind.yielded_by c.next.result c.next.new.self _ c.in-Some.is c.next.ensures.steps in
+      come a.kinds.now a.units.now a.count _ _ _ (omega (arith, few, c.requires.kinds_len.0)) (omega (arith, few, c.requires.kinds_len.1)) at.0 at.1
 
-  had-security : kind < 32 → c.if-kind-lt-CASH_KIND.had ≡ security_at vault kind
-  had-security h =
-      elim c.if-kind-lt-CASH_KIND.branch [
-        | then-kind-lt-CASH_KIND w ↦ w.had-is ∙ w.security_at-had.ensures ∙ sym (security-at-row c.loop-i.held c.loop-i.guarantee kind h)
-        | else-kind-lt-CASH_KIND w ↦ absurd (omega (arith, w.if-kind-lt-CASH_KIND.false))
-      ]
+  fits : ApplicationFits c.in-Some.field-0-0.now c.in-Some.field-0-1.now
+  fits = rw (at-hand.kind-is, at-hand.amount-is) ((withdrawals-fit _ c.requires.kinds_len.3).each _ at-hand.below)
 
-  had-cash : kind ≡ 32 → c.if-kind-lt-CASH_KIND.had ≡ c.as_security-had.result
-  had-cash h =
-      elim c.if-kind-lt-CASH_KIND.branch [
-        | then-kind-lt-CASH_KIND w ↦ absurd (omega (arith, w.if-kind-lt-CASH_KIND.true))
-        | else-kind-lt-CASH_KIND w ↦ w.had-is
-      ]
+  kept : Kept before
+  kept =
+      kept-of c.args.served claims (asked c.args.kinds.now c.args.units.now c.args.count) _ before _ c.loop-kind.invariant.0
+      (record { securities = securities-fit _ c.requires.held_value.0; free = c.requires.held_value.1; cash = c.requires.held_value.3 })
 
-  held : Held vault kind c.if-kind-lt-CASH_KIND.had
-  held =
-      let cash = c.as_security-had.ensures in
-      had-of c.loop-i.held c.loop-i.guarantee kind c.if-kind-lt-CASH_KIND.had c.as_security-had.result application.known had-security had-cash cash.0 cash.2 cash.3
+  counted : before.done + before.dropped < 128
+  counted =
+      omega (
+        arith,
+        seen-of c.args.served claims (asked c.args.kinds.now c.args.units.now c.args.count) _ before _ c.loop-kind.invariant.0 c.requires.held_value.5 c.requires.held_value.6,
+        at-hand.below,
+        (withdrawals-fit _ c.requires.kinds_len.3).count,
+      )
 
-  judgement : (c.judged-verdict.result.goes ≡ may_go c.args.served claimed kind units vault)
-      × (c.judged-verdict.result.value.0 ≡ cond c.judged-verdict.result.goes (value_of (taken_out kind units vault)) c.loop-i.value)
-  judgement = c.judged-verdict.ensures vault (length-securities c.loop-i.held 32) held.effective held.frozen held.rate c.loop-i.invariant.3
+pub had_of-had-requires : goal.had_of-had-requires
+had_of-had-requires c = ((fits (goal.at.had_of-had-requires c).In-Some).known, c.loop-kind.auto.held ∙ c.requires.kinds_len.2)
 
-  abbrev Went : Type 0
-  Went =
-      (c.judged-verdict.result.goes ≡ true)
-      × (c.if-verdict.own ≡ cond (is_cash kind) (c.loop-i.own + units) c.loop-i.own)
-      × (next ≡ taken_out kind units vault)
-      × (c.if-verdict.done ≡ c.loop-i.done + 1)
-      × (c.if-verdict.dropped ≡ c.loop-i.dropped)
+pub judged-requires : goal.judged-requires
+judged-requires c =
+    let h = (goal.at.judged-requires c).In-Some in
+    let had = c.had_of-had.ensures in
+    held_fits (before h).vault _ c.had_of-had.result _ (sound-of (before h) (kept h)) (fits h).known
+    (record { effective = had.units.0; frozen = had.units.1; rate = had.rate }) c.loop-kind.invariant.1
 
-  abbrev Stayed : Type 0
-  Stayed =
-      (c.judged-verdict.result.goes ≡ false)
-      × (c.if-verdict.own ≡ c.loop-i.own)
-      × (next ≡ vault)
-      × (c.if-verdict.done ≡ c.loop-i.done)
-      × (c.if-verdict.dropped ≡ c.loop-i.dropped + 1)
+-- what was judged of it, where it goes
+module _ (c : In-Some-judged) where
+  goes : may_go c.args.served (claims_of c.args.outstanding.0 c.args.unpaid.0) c.in-Some.field-0-0.now c.in-Some.field-0-1.now (vault_of c.loop-kind.evening.guarantee (securities_of c.loop-kind.held)) ≡ true
+  goes =
+      let had = c.had_of-had.ensures in
+      (c.in-Some-judged.ensures _ (length-securities c.loop-kind.held 32) had.units.0 had.units.1 had.rate c.loop-kind.invariant.1).0
 
-  way : Went ⊎ Stayed
-  way =
-      elim c.if-verdict.branch [
-        | then-verdict+then-kind-lt-CASH_KIND-2 w ↦
-            let h = w.if-kind-lt-CASH_KIND-2.true in
-            inl (
-              w.if-verdict.true,
-              rw (ne_eqb kind 32 (λ q. omega arith)) w.own-is,
-              same-vault w.guarantee-is (ap securities_of w.held-is ∙ w.put_security.ensures.0) ∙ security-taken vault kind c.if-kind-lt-CASH_KIND.had units h (had-security h),
-              w.done-is,
-              w.dropped-is,
-            )
-        | then-verdict+else-kind-lt-CASH_KIND-2 w ↦
-            let e : kind ≡ 32 = omega (arith, w.if-kind-lt-CASH_KIND-2.false, application.known) in
-            let had = had-cash e in
-            let cash = c.as_security-had.ensures in
-            let back = w.as_guarantee-guarantee.ensures in
-            inl (
-              w.if-verdict.true,
-              rw (eq-eqb kind 32 e) w.own-is,
-              same-vault w.guarantee-is (ap securities_of w.held-is)
-                  ∙ cash-taken vault kind units w.as_guarantee-guarantee.result e (back.0 ∙ ap (λ (s : Security). s.effective - units) had ∙ ap (λ n. n - units) cash.0)
-                  (back.1 ∙ ap (λ (s : Security). s.arriving) had ∙ cash.1) (back.2 ∙ ap (λ (s : Security). s.frozen) had ∙ cash.2),
-              w.done-is,
-              w.dropped-is,
-            )
-        | else-verdict w ↦ inr (w.if-verdict.false, w.own-is, same-vault w.guarantee-is (ap securities_of w.held-is), w.done-is, w.dropped-is)
-      ]
+  valued : c.in-Some-judged.after.0 ≡ value_of (taken_out c.in-Some.field-0-0.now c.in-Some.field-0-1.now (vault_of c.loop-kind.evening.guarantee (securities_of c.loop-kind.held)))
+  valued =
+      let had = c.had_of-had.ensures in
+      (c.in-Some-judged.ensures _ (length-securities c.loop-kind.held 32) had.units.0 had.units.1 had.rate c.loop-kind.invariant.1).1
 
-  as-posted : postings_of c.if-verdict.held ≡ postings_of c.loop-i.held
-  as-posted =
-      elim c.if-verdict.branch [
-        | then-verdict+then-kind-lt-CASH_KIND-2 w ↦ ap postings_of w.held-is ∙ w.put_security.ensures.1
-        | then-verdict+else-kind-lt-CASH_KIND-2 w ↦ ap postings_of w.held-is
-        | else-verdict w ↦ ap postings_of w.held-is
-      ]
+pub overflow_add-evening : goal.overflow_add-evening
+overflow_add-evening c = omega (arith, counted (goal.at.overflow_add-evening c).In-Some)
 
-  settled-so : made c.if-verdict.own next c.if-verdict.done c.if-verdict.dropped ≡ turn c.args.served claimed (asked c.args.kinds.now c.args.units.now c.args.count) c.loop-i.i before
-  settled-so =
-      let so = sym judgement.0 in
-      ⊎_elim (λ a. went _ _ _ _ before (so ∙ a.0) a.1 a.2 a.3 a.4) (λ a. stayed _ _ _ _ before (so ∙ a.0) a.1 a.2 a.3 a.4) way
+pub overflow_sub-effective : goal.overflow_sub-effective
+overflow_sub-effective c = omega (arith, c.had_of-had.ensures.units.0, unfrozen _ _ _ _ _ (goes (goal.at.overflow_sub-effective c).In-Some-judged))
 
-  valued-so : c.judged-verdict.result.value.0 ≡ value_of next
-  valued-so =
-      let valued : Bool → ℕ = λ goes. cond goes (value_of (taken_out kind units vault)) c.loop-i.value in
-      ⊎_elim (λ a. judgement.1 ∙ ap valued a.0 ∙ sym (ap value_of a.2))
-      (λ a. judgement.1 ∙ ap valued a.0 ∙ c.loop-i.invariant.3 ∙ sym (ap value_of a.2)) way
+pub loop-kind-preserved-then-kind-lt-CASH_KIND : goal.loop-kind-preserved-then-kind-lt-CASH_KIND
+loop-kind-preserved-then-kind-lt-CASH_KIND c =
+    let h = (goal.at.loop-kind-preserved-then-kind-lt-CASH_KIND c).In-Some in
+    let went-so = (goal.at.loop-kind-preserved-then-kind-lt-CASH_KIND c).In-Some-judged in
+    let kind = c.in-Some.field-0-0.now in
+    let evening = c.loop-kind.evening in
+    let security : kind < 32 = c.if-kind-lt-CASH_KIND.true in
+    let row : c.had_of-had.result ≡ security_at (before h).vault kind =
+    c.had_of-had.ensures.security security ∙ sym (security-at-row c.loop-kind.held evening.guarantee kind security) in
+    let next : vault_of evening.guarantee (securities_of c.put_security.new.held) ≡ taken_out kind c.in-Some.field-0-1.now (before h).vault =
+    ap (vault_of evening.guarantee) c.put_security.ensures.0 ∙ security-taken (before h).vault kind c.had_of-had.result c.in-Some.field-0-1.now security row in
+    let own : evening.own.0 ≡ cond (is_cash kind) (evening.own.0 + c.in-Some.field-0-1.now) evening.own.0 = rw (ne_eqb kind 32 (λ e. omega arith)) in (
+      one-more c.args.served (claims h) _ _ _ _ _ _ (before h) _ c.loop-kind.yielded _ (at-hand h) c.loop-kind.invariant.0
+          (went c.args.served (claims h) _ _ (before h) (goes went-so) own next),
+      valued went-so ∙ sym (ap value_of next),
+      c.put_security.ensures.1 ∙ c.loop-kind.invariant.2,
+    )
 
-pub loop-i-preserved : goal.loop-i-preserved
-loop-i-preserved c =
-    let inv = c.loop-i.invariant in
-    let turns = turn c.args.served (claims_of c.args.outstanding.0 c.args.unpaid.0) (asked c.args.kinds.now c.args.units.now c.args.count) in (
-      omega (arith, c.loop-i-test.true),
-      c.if-verdict.auto.held ∙ inv.1,
-      settled-so c ∙ ap (turns c.loop-i.i) inv.2 ∙ sym (turn_more turns _ c.loop-i.i),
-      valued-so c,
-      as-posted c ∙ inv.4,
+pub overflow_add-evening-else-kind-lt-CASH_KIND : goal.overflow_add-evening-else-kind-lt-CASH_KIND
+overflow_add-evening-else-kind-lt-CASH_KIND c =
+    let h = (goal.at.overflow_add-evening-else-kind-lt-CASH_KIND c).In-Some in
+    omega (arith, (kept h).cash, (fits h).within)
+
+pub loop-kind-preserved-else-kind-lt-CASH_KIND : goal.loop-kind-preserved-else-kind-lt-CASH_KIND
+loop-kind-preserved-else-kind-lt-CASH_KIND c =
+    let h = (goal.at.loop-kind-preserved-else-kind-lt-CASH_KIND c).In-Some in
+    let went-so = (goal.at.loop-kind-preserved-else-kind-lt-CASH_KIND c).In-Some-judged in
+    let kind = c.in-Some.field-0-0.now in
+    let evening = c.loop-kind.evening in
+    let cash : kind ≡ 32 = omega (arith, c.if-kind-lt-CASH_KIND.false, (fits h).known) in
+    let amount = c.in-Some.field-0-1.now in
+    let next = cash-taken (before h).vault kind amount c.had_of-had.result.effective cash (rw (eq-eqb kind 32 cash) at c.had_of-had.ensures.units.0) in
+    let own : evening.own.0 + amount ≡ cond (is_cash kind) (evening.own.0 + amount) evening.own.0 = rw (eq-eqb kind 32 cash) in (
+      one-more c.args.served (claims h) _ _ _ _ _ _ (before h) _ c.loop-kind.yielded _ (at-hand h) c.loop-kind.invariant.0
+          (went c.args.served (claims h) _ _ (before h) (goes went-so) own next),
+      valued went-so ∙ sym (ap value_of next),
+      c.loop-kind.invariant.2,
+    )
+
+pub overflow_add-evening-in-None-judged : goal.overflow_add-evening-in-None-judged
+overflow_add-evening-in-None-judged c = omega (arith, counted (goal.at.overflow_add-evening-in-None-judged c).In-Some)
+
+pub loop-kind-preserved : goal.loop-kind-preserved
+loop-kind-preserved c =
+    let h = (goal.at.loop-kind-preserved c).In-Some in
+    let had = c.had_of-had.ensures in
+    let stays = c.in-None-judged.ensures _ (length-securities c.loop-kind.held 32) had.units.0 had.units.1 had.rate c.loop-kind.invariant.1 in (
+      one-more c.args.served (claims h) _ _ _ _ _ _ (before h) _ c.loop-kind.yielded _ (at-hand h) c.loop-kind.invariant.0
+          (stayed c.args.served (claims h) _ _ (before h) stays),
+      c.loop-kind.invariant.1,
+      c.loop-kind.invariant.2,
     )
 
 pub returns : goal.returns
 unfolding applications
 returns c =
-    let e : c.loop-i.i ≡ c.args.count = omega arith in
-    let first = evening_at c.args.begun (securities_of c.args.held.now) in (
-      c.loop-i.invariant.2
-          ∙ ap (λ n. in_turn n (turn c.args.served (claims_of c.args.outstanding.0 c.args.unpaid.0) (asked c.args.kinds.now c.args.units.now c.args.count)) first) e,
-      c.loop-i.invariant.3,
-      c.loop-i.invariant.4,
+    let a = c.args in
+    let few : a.count ≤ 128 = (withdrawals-fit _ c.requires.kinds_len.3).count in
+    let end =
+    YieldsList-end (YieldsList-from_zip {s = c.into_iter-kind-iterator.result} (YieldsList-from_slice (take a.count a.kinds.now) (cc)) (YieldsList-from_slice (take a.count a.units.now) (cc)))
+    c.loop-kind.yielded c.loop-kind.kind-iterator c.loop-kind.yielded_by c.next.result c.next.new.self c.in-None.is c.next.ensures.steps in
+    let e : length c.loop-kind.yielded ≡ a.count = omega (arith, end.1, few, c.requires.kinds_len.0, c.requires.kinds_len.1, length-zip (take a.count a.kinds.now) (take a.count a.units.now), length-take {A = ℕ}) in (
+      c.loop-kind.invariant.0 ∙ ap (λ n. in_turn n (turn a.served (claims_of a.outstanding.0 a.unpaid.0) (asked a.kinds.now a.units.now a.count)) (evening_at a.begun (securities_of a.held.now))) e,
+      c.loop-kind.invariant.1,
+      c.loop-kind.invariant.2,
     )

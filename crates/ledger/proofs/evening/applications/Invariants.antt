@@ -1,19 +1,14 @@
-use Rattle.std.proofs.Common.{◌-◌, ◌≡◌, ◌≤◌, length}
+use Rattle.std.proofs.Common.{◌≡◌, length}
 use Rattle.rules.specs.Vault.{value as value_of}
 use Rattle.rules.specs.Close.{claims_of}
-use Rattle.ledger.specs.Flat.{postings_of}
 use Rattle.rules.specs.Folds.{in_turn}
-use Rattle.ledger.proofs.EveningLaws.{vault_from, asked, made, turn}
+use Rattle.ledger.specs.Flat.{securities_of, postings_of, vault_of, evening_at}
+use Rattle.ledger.proofs.EveningLaws.{asked, turn}
 use Rattle.ledger.proofs.evening.applications.Given as goal
 
-abbrev pub invariant-loop-i : goal.invariant-loop-i
-invariant-loop-i l =
-    (l.i ≤ l.count)
-    × (length l.held ≡ length l.initial.held)
-    × (made l.own (vault_from l.held l.guarantee) l.done l.dropped ≡ in_turn l.i (turn l.served (claims_of l.outstanding.0 l.unpaid.0) (asked l.kinds l.units l.count)) (made l.initial.own (vault_from l.initial.held l.initial.guarantee) l.initial.done l.initial.dropped))
-    × (l.value ≡ value_of (vault_from l.held l.guarantee))
+abbrev pub invariant-loop-kind : goal.invariant-loop-kind
+invariant-loop-kind l =
+    (evening_at l.evening (securities_of l.held)
+    ≡ in_turn (length l.yielded) (turn l.served (claims_of l.outstanding.0 l.unpaid.0) (asked l.kinds l.units l.count)) (evening_at l.initial.evening (securities_of l.initial.held)))
+    × (l.evening.value.0 ≡ value_of (vault_of l.evening.guarantee (securities_of l.held)))
     × (postings_of l.held ≡ postings_of l.initial.held)
-
-abbrev pub decreases-loop-i : goal.decreases-loop-i
-decreases-loop-i l =
-    l.count - l.i

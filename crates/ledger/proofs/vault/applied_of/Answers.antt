@@ -1,37 +1,44 @@
-use Rattle.std.specs.Prelude.{◌≡◌, ◌+◌, ◌≤◌, get_or}
-use mathlib.Core.Path.{sym, ap, ◌∙◌}
-use native.Mathlib.Omega.{arith}
-use borrow.Author.Rules.{rules}
-use borrow.Author.Tests.{eq-eqb, ne_eqb}
-use Rattle.rules.specs.Folds.{sum_below}
+-- The iterator gives the units of the kind's applications, in order: what they sum to is what is applied for, which is bounded.
+use Rattle.std.proofs.Common.{rules, tests, arith, ◌∙◌, ℕ, eqb, take}
+use Rattle.std.proofs.lemmas.Iterator.{YieldsList-from_map, YieldsList-from_slice, YieldsList-from_zip}
+use Rattle.std.proofs.lemmas.Iterator.Consumers.{YieldsList-at, YieldsList-from_filter, sum_from_yields_List, fits_from_yields_list}
+use lib.ListN.{length-take}
 use Rattle.rules.specs.Withdraw.{applied}
 use Rattle.rules.proofs.FitParts.{withdrawals-fit}
-use Rattle.ledger.proofs.SumLaws.{sum-none, sum_more}
-use Rattle.ledger.proofs.VaultLaws.{applied_at, applied-at-bound}
+use Rattle.ledger.specs.Types.{Withdrawals}
+use Rattle.ledger.proofs.VaultLaws.{picked, applied-bound}
 use Rattle.ledger.proofs.vault.applied_of.Goals as goal
-use Rattle.ledger.proofs.vault.applied_of.Goals.{then-kinds-i, else-kinds-i}
 
-pub loop-i-init : goal.loop-i-init
-loop-i-init c =
-    (search rules, (withdrawals-fit (record { kinds = c.args.kinds.now; units = c.args.units.now; count = c.args.count }) c.requires.2).count, sym (sum-none _), search rules)
+pub slice_bounds-iter-end : goal.slice_bounds-iter-end
+slice_bounds-iter-end c = omega (arith, length-take {A = ℕ}, (withdrawals-fit _ c.requires.2).count, c.requires.0)
 
-pub loop-i-preserved : goal.loop-i-preserved
-loop-i-preserved c =
-    let added : c.if-kinds-i.sum ≡ c.loop-i.sum + applied_at (record { kinds = c.args.kinds.now; units = c.args.units.now; count = c.args.count }) c.args.kind c.loop-i.i =
-    elim c.if-kinds-i.branch [
-      | then-kinds-i w ↦ rw (eq-eqb _ _ w.if-kinds-i.true) w.sum-is
-      | else-kinds-i w ↦ rw (ne_eqb _ _ w.if-kinds-i.false) (omega (arith, w.sum-is))
-    ] in
-    let bound = applied-at-bound (record { kinds = c.args.kinds.now; units = c.args.units.now; count = c.args.count }) c.requires.2 c.args.kind c.loop-i.i c.loop-i-test.true in
-    (search rules, c.loop-i.invariant.1, rw (sum_more (applied_at (record { kinds = c.args.kinds.now; units = c.args.units.now; count = c.args.count }) c.args.kind) c.loop-i.i) (rw c.loop-i.invariant.2 at added), omega (arith, added, bound))
+pub slice_bounds-zip-end : goal.slice_bounds-zip-end
+slice_bounds-zip-end c = omega (arith, length-take {A = ℕ}, (withdrawals-fit _ c.requires.2).count, c.requires.1)
+
+pub sum-requires-clause-fits : goal.sum-requires-clause-fits
+unfolding applied
+sum-requires-clause-fits c =
+    let few = (withdrawals-fit _ c.requires.2).count in
+    let a = c.args in
+    let asked : Withdrawals = record { kinds = a.kinds.now; units = a.units.now; count = a.count } in
+    fits_from_yields_list c.map.result _
+    (YieldsList-from_map _ (λ (a : ℕ × ℕ). a.1)
+    (YieldsList-at c.map.ensures.source
+    (YieldsList-from_filter _ (λ (a : ℕ × ℕ). eqb a.0 c.args.kind)
+    (YieldsList-at c.filter.ensures.source (YieldsList-from_zip (YieldsList-from_slice (take c.args.count c.args.kinds.now) (cc)) (YieldsList-from_slice (take c.args.count c.args.units.now) (cc))))
+    c.filter.ensures.closure (λ x r q k. search (rules, tests))))
+    c.map.ensures.closure (λ x r q k. search rules))
+    (omega (arith, picked a.kind a.count a.kinds.now a.units.now (omega (arith, few, c.requires.0)) (omega (arith, few, c.requires.1)), applied-bound asked c.requires.2 a.kind))
 
 pub returns : goal.returns
 unfolding applied
 returns c =
-    let e : c.loop-i.i ≡ c.args.count = omega arith in
-    c.loop-i.invariant.2 ∙ ap (λ n. sum_below n (applied_at (record { kinds = c.args.kinds.now; units = c.args.units.now; count = c.args.count }) c.args.kind)) e
-
-pub overflow_add-sum : goal.overflow_add-sum
-overflow_add-sum c =
-    let small : get_or c.args.units.now c.loop-i.i 0 ≤ 10000000000000000 = ((withdrawals-fit (record { kinds = c.args.kinds.now; units = c.args.units.now; count = c.args.count }) c.requires.2).each c.loop-i.i c.loop-i-test.true).within in
-    omega (arith, small)
+    let few = (withdrawals-fit _ c.requires.2).count in
+    sum_from_yields_List c.map.result _ c.sum.ensures.ran
+    (YieldsList-from_map _ (λ (a : ℕ × ℕ). a.1)
+    (YieldsList-at c.map.ensures.source
+    (YieldsList-from_filter _ (λ (a : ℕ × ℕ). eqb a.0 c.args.kind)
+    (YieldsList-at c.filter.ensures.source (YieldsList-from_zip (YieldsList-from_slice (take c.args.count c.args.kinds.now) (cc)) (YieldsList-from_slice (take c.args.count c.args.units.now) (cc))))
+    c.filter.ensures.closure (λ x r q k. search (rules, tests))))
+    c.map.ensures.closure (λ x r q k. search rules))
+    ∙ picked c.args.kind c.args.count c.args.kinds.now c.args.units.now (omega (arith, few, c.requires.0)) (omega (arith, few, c.requires.1))

@@ -1,31 +1,19 @@
-use native.Mathlib.Omega.{arith}
-use Rattle.ledger.proofs.VaultLaws.{cash-over, cash-frozen, cash-within}
+use Rattle.std.proofs.Common.{arith}
+use borrow.Author.Tests.{le-leb, lt-leb}
+use Rattle.money.specs.Limits.{cash_limit}
+use Rattle.rules.specs.Fit.{all_cash, cash_fit}
 use Rattle.ledger.proofs.vault.cash_fit.Goals as goal
 
-pub returns-then-cash-gt-CASH_LIMIT : goal.returns-then-cash-gt-CASH_LIMIT
-returns-then-cash-gt-CASH_LIMIT c =
-    cash-over _ _ (omega arith)
+pub returns-then-saturating_add-le-CASH_LIMIT : goal.returns-then-saturating_add-le-CASH_LIMIT
+unfolding cash_fit
+returns-then-saturating_add-le-CASH_LIMIT c =
+    rw (le-leb (all_cash c.args.cash c.args.guarantee) cash_limit (omega (arith, c.saturating_add-own.ensures, c.saturating_add-held.ensures, c.saturating_add.ensures)))
 
-pub returns-then-cash-gt-CASH_LIMIT-2 : goal.returns-then-cash-gt-CASH_LIMIT-2
-returns-then-cash-gt-CASH_LIMIT-2 c =
-    cash-over _ _ (omega arith)
-
-pub returns-then-guarantee-gt-CASH_LIMIT : goal.returns-then-guarantee-gt-CASH_LIMIT
-returns-then-guarantee-gt-CASH_LIMIT c =
-    cash-over _ _ (omega arith)
-
-pub returns-then-guarantee-gt-CASH_LIMIT-2 : goal.returns-then-guarantee-gt-CASH_LIMIT-2
-returns-then-guarantee-gt-CASH_LIMIT-2 c =
-    cash-over _ _ (omega arith)
-
-pub returns-then-cash-guarantee-gt-CASH_LIMIT : goal.returns-then-cash-guarantee-gt-CASH_LIMIT
-returns-then-cash-guarantee-gt-CASH_LIMIT c =
-    cash-over _ _ c.if-cash-guarantee-gt-CASH_LIMIT.true
-
-pub returns-then-guarantee : goal.returns-then-guarantee
-returns-then-guarantee c =
-    cash-frozen _ _ c.if-cash-guarantee-gt-CASH_LIMIT.false c.if-guarantee.true
-
-pub returns : goal.returns
-returns c =
-    cash-within _ _ c.if-cash-guarantee-gt-CASH_LIMIT.false c.if-guarantee.false
+pub returns-else-saturating_add-le-CASH_LIMIT : goal.returns-else-saturating_add-le-CASH_LIMIT
+unfolding cash_fit
+returns-else-saturating_add-le-CASH_LIMIT c =
+    let over = c.if-saturating_add-le-CASH_LIMIT.false in
+    rw (
+      lt-leb c.saturating_add.result cash_limit over,
+      lt-leb (all_cash c.args.cash c.args.guarantee) cash_limit (omega (arith, over, c.saturating_add-own.ensures, c.saturating_add-held.ensures, c.saturating_add.ensures)),
+    )

@@ -1,65 +1,43 @@
-use Rattle.std.specs.Prelude.{◌≡◌, ◌≤◌}
-use mathlib.Core.Path.{sym, ap, ◌∙◌}
-use native.Mathlib.Omega.{arith}
-use borrow.Author.Rules.{rules}
-use borrow.Author.Tests.{ne_eqb}
+use Rattle.std.proofs.Common.{rules, arith, ap, refl, ◌∙◌, ◌≡◌, ◌+◌, ◌≤◌}
+use Rattle.std.proofs.lemmas.Iterator.{YieldsList-from_map, YieldsList-from_range}
+use Rattle.std.proofs.lemmas.Iterator.Consumers.{sum_from_yields_List, fits_from_yields_list}
 use Rattle.money.specs.declared.units.Sheets.{Sheets}
-use Rattle.rules.specs.Vault.{security_at, value}
-use Rattle.rules.proofs.FitParts.{securities-fit}
-use Rattle.ledger.specs.Flat.{vault_of, securities_of}
-use Rattle.ledger.proofs.HeldLaws.{security-at-row}
-use Rattle.ledger.proofs.SumLaws.{sum-none, sum_more}
-use Rattle.ledger.proofs.VaultLaws.{Sound, value_at, security-value, cash-value, value-at-bound}
+use Rattle.rules.specs.Folds.{sum_below}
 use Rattle.ledger.specs.Types.{Vault}
+use Rattle.ledger.specs.Flat.{vault_of, securities_of}
+use Rattle.ledger.specs.Figures.{value_bound}
+use Rattle.ledger.proofs.RangeLaws.{sum-over}
+use Rattle.ledger.proofs.VaultLaws.{value_at, value-parts, value-bound-of}
 use Rattle.ledger.proofs.vault.value_of.Goals as goal
+use Rattle.ledger.proofs.vault.value_of.Goals.{Start, After-sum-of_securities}
 
-pub loop-kind-init : goal.loop-kind-init
-loop-kind-init c =
-    (omega arith, sym (sum-none _), omega arith)
-
-pub worth-of_kind-requires : goal.worth-of_kind-requires
-worth-of_kind-requires c =
+-- V, of which the securities' value is a part, is bounded
+bounded : (c : Start) → sum_below 32 (value_at (vault_of c.args.guarantee (securities_of c.args.held.now))) + value_at (vault_of c.args.guarantee (securities_of c.args.held.now)) 32 ≤ value_bound
+bounded c =
     let vault : Vault = vault_of c.args.guarantee (securities_of c.args.held.now) in
-    let sound : Sound vault = (c.requires.1, c.requires.2, c.requires.3) in
-    let security : c.security_at-security.result ≡ security_at vault c.loop-kind.kind = c.security_at-security.ensures ∙ sym (security-at-row _ c.args.guarantee _ c.loop-kind-test.true) in
-    let kind = c.loop-kind.kind in
-    let fits = securities-fit vault sound.0 kind c.loop-kind-test.true in
-    rw (security, ne_eqb kind 32 (λ q. omega arith)) (omega arith, fits.free, omega (arith, fits.units), fits.rate)
+    let p = c.requires in
+    omega (arith, value-parts vault, value-bound-of vault (p.1, p.2, p.3))
 
-pub loop-kind-preserved : goal.loop-kind-preserved
-loop-kind-preserved c =
+pub sum-of_securities-requires-clause-fits : goal.sum-of_securities-requires-clause-fits
+sum-of_securities-requires-clause-fits c =
     let vault : Vault = vault_of c.args.guarantee (securities_of c.args.held.now) in
-    let security : c.security_at-security.result ≡ security_at vault c.loop-kind.kind = c.security_at-security.ensures ∙ sym (security-at-row _ c.args.guarantee _ c.loop-kind-test.true) in
-    let part : c.worth-of_kind.result.0 ≡ value_at vault c.loop-kind.kind = ap (λ (c : Sheets). c.0) (rw security at c.worth-of_kind.ensures) ∙ sym (security-value vault _ c.loop-kind-test.true) in
-    let sound : Sound vault = (c.requires.1, c.requires.2, c.requires.3) in
-    let small : c.worth-of_kind.result.0 ≤ 2000000000000 = rw part (value-at-bound vault sound c.loop-kind.kind (omega arith)) in
-    let loop = c.loop-kind in
-    (search rules, rw (loop.invariant.1, part) (sym (sum_more (value_at vault) loop.kind)), omega (arith, small))
+    fits_from_yields_list c.map.result _
+    (YieldsList-from_map _ (value_at vault) (YieldsList-from_range 0 32 32 c.map.ensures.source refl) c.map.ensures.closure (λ x r q k. search rules))
+    (omega (arith, sum-over (value_at vault) 32, bounded (goal.at.sum-of_securities-requires-clause-fits c).Start))
 
-pub worth-of_cash-requires : goal.worth-of_cash-requires
-worth-of_cash-requires c =
-    (omega arith, c.requires.2, c.requires.3, omega arith)
+summed : (c : After-sum-of_securities) → c.sum-of_securities.result ≡ sum_below 32 (value_at (vault_of c.args.guarantee (securities_of c.args.held.now)))
+summed c =
+    let vault : Vault = vault_of c.args.guarantee (securities_of c.args.held.now) in
+    sum_from_yields_List c.map.result _ c.sum-of_securities.ensures.ran
+    (YieldsList-from_map _ (value_at vault) (YieldsList-from_range 0 32 32 c.map.ensures.source refl) c.map.ensures.closure (λ x r q k. search rules))
+    ∙ sum-over (value_at vault) 32
+
+pub overflow_add-result : goal.overflow_add-result
+overflow_add-result c =
+    let at = goal.at.overflow_add-result c in
+    omega (arith, summed at.After-sum-of_securities, ap (λ (s : Sheets). s.0) c.value_at-of_cash.ensures, bounded at.Start)
 
 pub returns : goal.returns
-unfolding value
 returns c =
-    let vault : Vault = vault_of c.args.guarantee (securities_of c.args.held.now) in
-    let cash : c.worth-of_cash.result.0 ≡ value_at vault 32 = ap (λ (c : Sheets). c.0) c.worth-of_cash.ensures ∙ sym (cash-value vault) in
-    let e : c.loop-kind.kind ≡ 32 = omega arith in
-    rw (c.loop-kind.invariant.1, cash, e) (sym (sum_more (value_at vault) 32))
-
-pub overflow_add-sum : goal.overflow_add-sum
-overflow_add-sum c =
-    let vault : Vault = vault_of c.args.guarantee (securities_of c.args.held.now) in
-    let sound : Sound vault = (c.requires.1, c.requires.2, c.requires.3) in
-    let security : c.security_at-security.result ≡ security_at vault c.loop-kind.kind = c.security_at-security.ensures ∙ sym (security-at-row _ c.args.guarantee _ c.loop-kind-test.true) in
-    let part : c.worth-of_kind.result.0 ≡ value_at vault c.loop-kind.kind = ap (λ (c : Sheets). c.0) (rw security at c.worth-of_kind.ensures) ∙ sym (security-value vault _ c.loop-kind-test.true) in
-    let small : c.worth-of_kind.result.0 ≤ 2000000000000 = rw part (value-at-bound vault sound c.loop-kind.kind (omega arith)) in
-    omega (arith, small)
-
-pub overflow_add-of_all : goal.overflow_add-of_all
-overflow_add-of_all c =
-    let vault : Vault = vault_of c.args.guarantee (securities_of c.args.held.now) in
-    let sound : Sound vault = (c.requires.1, c.requires.2, c.requires.3) in
-    let cash : c.worth-of_cash.result.0 ≡ value_at vault 32 = ap (λ (c : Sheets). c.0) c.worth-of_cash.ensures ∙ sym (cash-value vault) in
-    omega (arith, cash, value-at-bound vault sound 32 (omega arith))
+    omega
+    (arith, summed (goal.at.returns c).After-sum-of_securities, ap (λ (s : Sheets). s.0) c.value_at-of_cash.ensures, value-parts (vault_of c.args.guarantee (securities_of c.args.held.now)))

@@ -12,5 +12,5 @@ pub returns : goal.returns
 returns c =
     let p = c.requires in
     let a = c.args in
-    let told : c.kind_worth.result ≡ Ok (kind_value a.kind a.effective a.frozen a.rate) = worth_within _ _ _ _ _ p.0 p.1 p.2 p.3 c.kind_worth.ensures in
+    let told : c.kind_worth.result ≡ Ok (kind_value a.kind a.had.effective a.had.frozen a.had.rate) = worth_within _ _ _ _ _ p.0 p.1 p.2 p.3 c.kind_worth.ensures in
     cc

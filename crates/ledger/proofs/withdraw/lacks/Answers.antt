@@ -9,37 +9,41 @@ use Rattle.rules.specs.Withdraw.{applied}
 use Rattle.rules.proofs.FoldLaws.{by-test}
 use Rattle.rules.proofs.FitParts.{cash-fits}
 use Rattle.ledger.specs.Flat.{securities_of, vault_of, rows_of, book_of}
-use Rattle.ledger.proofs.VaultLaws.{Sound, kind_fits, applied-bound}
+use Rattle.ledger.proofs.VaultLaws.{kind_fits, applied-bound}
 use Rattle.ledger.proofs.withdraw.lacks.Goals as goal
+use Rattle.ledger.proofs.withdraw.lacks.Goals.{Else-had-count}
 
 limit-within : (kind : ℕ) → unit_limit_of kind ≤ cash_limit
 limit-within kind = by-test (λ cash. cond cash cash_limit unit_limit ≤ cash_limit) (is_cash kind) (λ _. omega arith) (λ _. omega arith)
 
-pub returns-then-effective-count : goal.returns-then-effective-count
-returns-then-effective-count c =
+-- what is asked for and what is frozen, where the effective units are enough for the first
+few : (c : Else-had-count) → c.args.count + c.had_of-had.result.frozen ≤ 20000000000000000
+few c =
+    let a = c.args in
+    let cash = cash-fits _ _ c.requires.0.cash in
+    let kind = kind_fits (vault_of a.scalars.guarantee (securities_of a.held.now)) (c.requires.0.securities, cash.free, omega (arith, cash.sum)) a.kind c.requires.1 in
+    omega (arith, kind.free, kind.within, limit-within a.kind, c.had_of-had.ensures.units, c.if-had-count.false)
+
+pub returns-then-had-count : goal.returns-then-had-count
+returns-then-had-count c =
     let a = c.args in
     let book = book_of a.scalars (rows_of a.held.now a.kinds.now a.units.now) in
-    sym (lt-ltb (effective_of book.vault a.kind) (a.count + frozen_of book.vault a.kind + applied book.withdrawals a.kind) (omega (arith, c.effective_of-effective.ensures, c.if-effective-count.true)))
+    sym (lt-ltb (effective_of book.vault a.kind) (a.count + frozen_of book.vault a.kind + applied book.withdrawals a.kind) (omega (arith, c.had_of-had.ensures.units, c.if-had-count.true)))
 
 pub returns : goal.returns
 returns c =
-    rw (c.applied_of.ensures, c.frozen_of-frozen.ensures, c.effective_of-effective.ensures)
+    rw (c.applied_of.ensures, c.had_of-had.ensures.units.1, c.had_of-had.ensures.units.0)
 
 pub overflow_add-result : goal.overflow_add-result
 overflow_add-result c =
-    let sound : Sound (vault_of c.args.scalars.guarantee (securities_of c.args.held.now)) = let cash = cash-fits _ _ c.requires.0.cash in
-    (c.requires.0.securities, cash.free, omega (arith, cash.sum)) in
-    let few : c.args.count + c.frozen_of-frozen.result ≤ 20000000000000000 = let a = c.args in
-    let kind = kind_fits (vault_of a.scalars.guarantee (securities_of a.held.now)) sound a.kind c.requires.1 in
-    omega (arith, kind.free, kind.within, limit-within a.kind, c.frozen_of-frozen.ensures, c.effective_of-effective.ensures, c.if-effective-count.false) in
-    omega (arith, few)
+    omega (arith, few (goal.at.overflow_add-result c).Else-had-count)
 
 pub overflow_add-result-2 : goal.overflow_add-result-2
 overflow_add-result-2 c =
-    let sound : Sound (vault_of c.args.scalars.guarantee (securities_of c.args.held.now)) = let cash = cash-fits _ _ c.requires.0.cash in
-    (c.requires.0.securities, cash.free, omega (arith, cash.sum)) in
-    let few : c.args.count + c.frozen_of-frozen.result ≤ 20000000000000000 = let a = c.args in
-    let kind = kind_fits (vault_of a.scalars.guarantee (securities_of a.held.now)) sound a.kind c.requires.1 in
-    omega (arith, kind.free, kind.within, limit-within a.kind, c.frozen_of-frozen.ensures, c.effective_of-effective.ensures, c.if-effective-count.false) in
     let a = c.args in
-    omega (arith, few, c.applied_of.ensures, applied-bound (book_of a.scalars (rows_of a.held.now a.kinds.now a.units.now)).withdrawals c.requires.0.withdrawals a.kind)
+    omega (
+      arith,
+      few (goal.at.overflow_add-result-2 c).Else-had-count,
+      c.applied_of.ensures,
+      applied-bound (book_of a.scalars (rows_of a.held.now a.kinds.now a.units.now)).withdrawals c.requires.0.withdrawals a.kind,
+    )
