@@ -4,6 +4,3 @@ use Rattle.ledger.proofs.packing.move_up.Given as goal
 
 abbrev pub invariant-loop-i : goal.invariant-loop-i
 invariant-loop-i l = Summary l.initial.table l.count l.table l.kept l.i
-
-abbrev pub decreases-loop-i : goal.decreases-loop-i
-decreases-loop-i l = l.count - l.i
