@@ -1,25 +1,23 @@
 use Rattle.std.specs.Prelude.{◌≡◌}
-use mathlib.Core.Path.{ap, ◌∙◌}
+use mathlib.Core.Path.{sym, ap, ◌∙◌}
 use native.Mathlib.Omega.{arith}
 use Rattle.money.specs.declared.units.Sheets.{Sheets}
 use Rattle.rules.specs.Trades.{maturing}
 use Rattle.rules.proofs.TradeLaws.{maturing-le}
 use Rattle.ledger.specs.Flat.{trade_at}
-use Rattle.ledger.proofs.Fitting.{refuted, upheld}
 use Rattle.ledger.proofs.RedemptionLaws.{within_of}
-use Rattle.std.specs.Prelude.{not}
 use Rattle.ledger.proofs.next_term.with_started.Goals as goal
 
-pub returns-then-not-starts : goal.returns-then-not-starts
-returns-then-not-starts c book met =
-    rw (refuted (c.starts.ensures book met) (ap not c.if-not-starts.true))
+pub returns-then-starts : goal.returns-then-starts
+returns-then-starts c book met =
+    let matures = ap (λ (q : Sheets). q.0) c.maturing_at.ensures in
+    rw (sym (c.starts.ensures book met) ∙ c.if-starts.true) (omega (arith, matures ∙ ap (λ d. maturing d (trade_at c.args.table.now c.args.place)) met.today))
 
-pub returns : goal.returns
-returns c book met =
-    let matures : c.maturing_at-due.result.0 ≡ maturing c.args.closing.today (trade_at c.args.table.now c.args.place) = ap (λ (q : Sheets). q.0) c.maturing_at-due.ensures in
-    rw (upheld (c.starts.ensures book met) (ap not c.if-not-starts.false)) (omega (arith, matures ∙ ap (λ d. maturing d (trade_at c.args.table.now c.args.place)) met.today))
+pub returns-else-starts : goal.returns-else-starts
+returns-else-starts c book met =
+    rw (sym (c.starts.ensures book met) ∙ c.if-starts.false)
 
-pub overflow_add-sum : goal.overflow_add-sum
-overflow_add-sum c =
-    let matures : c.maturing_at-due.result.0 ≡ maturing c.args.closing.today (trade_at c.args.table.now c.args.place) = ap (λ (q : Sheets). q.0) c.maturing_at-due.ensures in
-    omega (arith, matures, maturing-le c.args.closing.today (trade_at c.args.table.now c.args.place), (within_of (trade_at c.args.table.now c.args.place) c.requires.1.fits).sheets, c.requires.2)
+pub overflow_add-result : goal.overflow_add-result
+overflow_add-result c =
+    let trade = trade_at c.args.table.now c.args.place in
+    omega (arith, ap (λ (q : Sheets). q.0) c.maturing_at.ensures, maturing-le c.args.closing.today trade, (within_of trade c.requires.1.fits).sheets, c.requires.2)
