@@ -107,12 +107,9 @@ pub fn run_events(
         × (trades_of table.new ≡ ended.table)
         × (lines.new ≡ ended.lines) }
 {
-    let count = events.len() / EVENT_BYTES;
     let figures = figures::figures_of(calendar, scalars, &*held, &*table);
     let mut turn = Turn { scalars, figures };
-    let mut k = 0;
-    while k < count {
-        let bytes = &events[k * EVENT_BYTES..k * EVENT_BYTES + EVENT_BYTES];
+    for (k, bytes) in events.chunks_exact(EVENT_BYTES).enumerate() {
         turn = run_event(
             calendar,
             bytes,
@@ -125,7 +122,6 @@ pub fn run_events(
             lines,
             k * LINE_NUMBERS,
         );
-        k += 1;
     }
     turn.scalars
 }
