@@ -1,10 +1,10 @@
 -- Chains of iterators over the places of the flat table: what they give is told by the trades that stand there.
 -- For the functions that sum, search or test the trades. Assumes nothing.
-use Rattle.std.specs.Prelude.{◌≡◌, ◌≢◌, ℕ, zero, suc, ◌+◌, ◌^◌, ◌<◌, ◌≤◌, Bool, true, false, List, [], ◌∷◌, ◌++◌, map, length, get_or, Option}
+use Rattle.std.specs.Prelude.{◌≡◌, ◌≢◌, ℕ, zero, suc, ◌+◌, ◌<◌, ◌≤◌, Bool, true, false, List, [], ◌∷◌, ◌++◌, map, length, get_or, Option}
 use Rattle.std.specs.Option.{unwrap_or, MatchOption}
 use Rattle.std.specs.Bool.{MatchBool}
-use Rattle.std.specs.List.{AllWithin, HoldsAt, fold, sum_by, range_with_len}
-use Rattle.std.specs.Iterator.{AlwaysYields, Drains}
+use Rattle.std.specs.List.{AllWithin, HoldsAt, sum_by, range_with_len}
+use Rattle.std.specs.Iterator.{AlwaysYields}
 use Rattle.std.specs.declared.ops.Range.{Range}
 use Rattle.std.proofs.iter.Yields.{nat_range_steps}
 use Rattle.std.proofs.lemmas.Iterator.{YieldsList, YieldsList-from_range, index_from_first}

@@ -46,8 +46,6 @@ fn run_event(
         × (result.figures ≡ figures_at result.scalars held.new (trades_of table.new)) }
 {
     let entry = decoder::entry::decode(bytes);
-    let outstanding = figures.outstanding;
-    let value = figures.value;
     let done = dispatch::entry_on(
         calendar,
         scalars,
@@ -56,8 +54,8 @@ fn run_event(
         units,
         table,
         KnownFigures {
-            outstanding,
-            value: KnownValue::Counted(value),
+            outstanding: figures.outstanding,
+            value: KnownValue::Counted(figures.value),
         },
         entry,
     );

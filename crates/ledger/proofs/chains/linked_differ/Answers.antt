@@ -1,11 +1,10 @@
-use Rattle.std.specs.Prelude.{◌≡◌, ℕ, ◌<◌, length}
+use Rattle.std.specs.Prelude.{◌≡◌, ℕ}
 use mathlib.Core.Path.{◌∙◌}
-use native.Mathlib.Omega.{arith}
 use borrow.Author.Rules.{rules}
 use lib.ListN.{length-set}
 use Rattle.ledger.specs.Flat.{trade_at}
 use Rattle.ledger.specs.Chains.{bucket_of}
-use Rattle.ledger.proofs.ChainLaws.{none-linked, inside, looked-up, told-of-all, next-linked}
+use Rattle.ledger.proofs.ChainLaws.{none-linked, looked-up, told-of-all, next-linked}
 use Rattle.ledger.proofs.chains.linked_differ.Goals as goal
 
 pub loop-i-init : goal.loop-i-init

@@ -1,4 +1,4 @@
-use Rattle.std.proofs.Common.{◌-◌, ◌≡◌, length}
+use Rattle.std.proofs.Common.{◌≡◌, length}
 use Rattle.ledger.proofs.ChainLaws.{Linked}
 use Rattle.ledger.proofs.chains.linked_differ.Given as goal
 

@@ -1,4 +1,4 @@
-use Rattle.std.proofs.Common.{◌≤◌, ◌-◌}
+use Rattle.std.proofs.Common.{◌≤◌}
 use Rattle.ledger.proofs.ChainLaws.{Ahead}
 use Rattle.ledger.proofs.chains.look_along.Given as goal
 

@@ -1,14 +1,11 @@
 use Rattle.std.specs.Prelude.{◌≡◌, true}
-use mathlib.Core.Path.{ap}
 use native.Mathlib.Omega.{arith}
 use borrow.Author.Rules.{rules}
-use borrow.Author.Tests.{not-true, not-false}
 use Rattle.rules.specs.NextTerm.{starts}
 use Rattle.ledger.specs.Flat.{trade_at}
 use Rattle.ledger.proofs.RedemptionLaws.{kept-within}
 use Rattle.ledger.proofs.FlatLaws.{all-below}
-use Rattle.ledger.proofs.StartLaws.{no_more, with-at-most, none-started, started-more}
-use Rattle.std.specs.Prelude.{not}
+use Rattle.ledger.proofs.StartLaws.{with-at-most, none-started, started-more}
 use Rattle.ledger.proofs.next_term.outstanding_after.Goals as goal
 
 pub loop-place-init : goal.loop-place-init

@@ -1,4 +1,4 @@
-use Rattle.std.proofs.Common.{◌-◌, ◌≡◌, ◌+◌, ◌≤◌, ◌*◌}
+use Rattle.std.proofs.Common.{◌≡◌, ◌+◌, ◌≤◌, ◌*◌}
 use Rattle.rules.specs.NextTerm.{started_from}
 use Rattle.ledger.specs.Types.{Book}
 use Rattle.ledger.specs.Flat.{trades_to}

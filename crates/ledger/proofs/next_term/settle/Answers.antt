@@ -2,7 +2,7 @@ use Rattle.std.specs.Prelude.{◌≡◌, ℕ, true, List, map}
 use mathlib.Core.Path.{refl, sym, ap, subst, ◌∙◌}
 use native.Mathlib.Omega.{arith}
 use borrow.Author.Rules.{rules}
-use borrow.Author.Tests.{not-true, not-false}
+use borrow.Author.Tests.{not-true}
 use Rattle.rules.specs.Trades.{matured, over}
 use Rattle.rules.specs.Fit.{trade_fit}
 use Rattle.rules.specs.NextTerm.{starts, with_started}
@@ -11,7 +11,6 @@ use Rattle.ledger.specs.Flat.{trade_at, trades_to, trades_of}
 use Rattle.ledger.proofs.RedemptionLaws.{kept-within}
 use Rattle.ledger.proofs.FlatLaws.{all-below}
 use Rattle.ledger.proofs.StartLaws.{all-matured, with-at-most, none-started, started-more, none-settled, trade-to-come, slot-more}
-use Rattle.std.specs.Prelude.{not}
 use Rattle.ledger.proofs.next_term.settle.Goals as goal
 
 pub returns-then-not-closing : goal.returns-then-not-closing

@@ -1,4 +1,4 @@
-use Rattle.std.proofs.Common.{◌-◌, ◌≡◌, ◌+◌, ◌≤◌, length, ◌*◌}
+use Rattle.std.proofs.Common.{◌≡◌, ◌+◌, ◌≤◌, length, ◌*◌}
 use Rattle.rules.specs.Trades.{over}
 use Rattle.rules.specs.NextTerm.{left_from, started_from}
 use Rattle.ledger.specs.Types.{Book}

@@ -1,4 +1,4 @@
-use Rattle.std.proofs.Common.{◌-◌, ◌≡◌, ◌≤◌, length}
+use Rattle.std.proofs.Common.{◌≡◌, length}
 use Rattle.ledger.specs.Flat.{trades_of}
 use Rattle.ledger.proofs.PackingLaws.{freed}
 use Rattle.ledger.proofs.packing.free_from.Given as goal

@@ -1,4 +1,3 @@
-use Rattle.std.proofs.Common.{◌-◌}
 use Rattle.ledger.proofs.PackingLaws.{Summary}
 use Rattle.ledger.proofs.packing.move_up.Given as goal
 

@@ -5,7 +5,6 @@ use borrow.Author.Rules.{rules}
 use Rattle.money.specs.declared.units.Fen.{Fen}
 use Rattle.money.specs.declared.units.Sheets.{Sheets}
 use Rattle.rules.specs.Trades.{redeemed}
-use Rattle.ledger.specs.Flat.{trade_at}
 use Rattle.ledger.proofs.FlatLaws.{total-none, total-more}
 use Rattle.ledger.proofs.RedemptionLaws.{begun-before, part-within}
 use Rattle.ledger.proofs.redemption.plan.Goals as goal

@@ -1,7 +1,6 @@
 use Rattle.std.specs.Prelude.{◌≡◌}
 use mathlib.Core.Path.{refl, ◌∙◌}
 use native.Mathlib.Omega.{arith}
-use borrow.Author.Rules.{rules}
 use Rattle.rules.specs.Trades.{matured}
 use Rattle.ledger.proofs.RedemptionLaws.{none-changed, map-one-more}
 use Rattle.ledger.proofs.redemption.redeem_due.Goals as goal

@@ -1,4 +1,4 @@
-use Rattle.std.proofs.Common.{◌-◌, ◌≡◌, ◌≤◌, map, length}
+use Rattle.std.proofs.Common.{◌≡◌, map, length}
 use Rattle.rules.specs.Trades.{matured, over}
 use Rattle.ledger.specs.Flat.{trades_to, trades_of}
 use Rattle.ledger.proofs.redemption.redeem_due.Given as goal

@@ -1,4 +1,4 @@
-use Rattle.std.specs.Prelude.{◌≡◌, ◌+◌, ◌*◌, ◌<◌, ◌++◌, length, drop}
+use Rattle.std.specs.Prelude.{◌≡◌, ◌*◌, ◌++◌, length, drop}
 use mathlib.Core.Path.{refl, sym, ap, ◌∙◌}
 use native.Mathlib.Omega.{arith}
 use Rattle.std.specs.Slice.Iter.{chunks_exact_rest}

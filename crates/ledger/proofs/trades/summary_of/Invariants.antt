@@ -1,4 +1,4 @@
-use Rattle.std.proofs.Common.{◌-◌, ◌≡◌, ◌≤◌, ◌*◌}
+use Rattle.std.proofs.Common.{◌≡◌, ◌≤◌, ◌*◌}
 use Rattle.rules.specs.Fit.{trade_fit}
 use Rattle.ledger.specs.Flat.{trades_to}
 use Rattle.std.specs.Prelude.{true}
