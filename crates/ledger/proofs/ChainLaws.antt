@@ -101,9 +101,6 @@ abbrev pub Ahead : (table next : List ℕ) → (from : ℕ) → Contract → (li
 Ahead table next from contract link = (steps place : ℕ) → Reaches next steps from place → (same (trade_at table place).contract contract ≡ false) ⊎ ((further : ℕ) × Reaches next further link place)
 
 module _ (table next : List ℕ) (from : ℕ) (contract : Contract) where
-  pub ahead-first : Ahead table next from contract from
-  ahead-first steps place r = inr (steps, r)
-
   pub ahead-next : (link at : ℕ) → link ≡ suc at → Ahead table next from contract link → same (trade_at table at).contract contract ≡ false → Ahead table next from contract (get_or next at 0)
   ahead-next link at e ahead other steps place r = by (ahead steps place r)
     where

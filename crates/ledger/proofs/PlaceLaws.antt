@@ -3,7 +3,7 @@
 use Rattle.std.specs.Prelude.{◌≡◌, ℕ, suc, ◌+◌, ◌-◌, ◌<◌, ◌≤◌, Bool, true, false, cond, ltb, List, [], ◌∷◌, ◌++◌, length, get_or, take, drop, set}
 use mathlib.Core.Path.{refl, sym, ap, ◌∙◌}
 use mathlib.Core.Bool.{false≢true}
-use mathlib.Core.List.{append-nil, map-append}
+use mathlib.Core.List.{map-append}
 use native.Mathlib.Numerals.{add-one}
 use native.Mathlib.Omega.{arith}
 use borrow.Author.Tests.{lt-ltb, le-ltb, eq-eqb, eqb-true}
@@ -72,10 +72,6 @@ pub place_here : (c : Contract) (a : List Trade) (t : Trade) (b : List Trade) �
 unfolding place_of
 place_here c a t b h k = place-later c a (t ∷ b) h ∙ rw k (omega arith)
 
-pub place-nowhere : (c : Contract) (l : List Trade) → on_table c l ≡ false → place_of c l ≡ length l
-unfolding place_of
-place-nowhere c l h = ap (place_of c) (sym (append-nil l)) ∙ place-later c l [] h ∙ omega arith
-
 pub on-table-append : (c : Contract) (a b : List Trade) → on_table c (a ++ b) ≡ cond (on_table c a) true (on_table c b)
 unfolding on_table
 on-table-append c [] b = refl
@@ -98,9 +94,6 @@ off-one-more c table i h k = rw (one_more table i, on-table-append c (trades_to 
 pub place_found : (c : Contract) (table : List ℕ) (n i : ℕ) → i < n → on_table c (trades_to table i) ≡ false → same (trade_at table i).contract c ≡ true → place_of c (trades_to table n) ≡ i
 place_found c table n i l h k =
     ap (place_of c) (split-trades table n i l) ∙ place_here c (trades_to table i) (trade_at table i) (drop (suc i) (trades_to table n)) h k ∙ length-trades table i
-
-pub place-past : (c : Contract) (table : List ℕ) (n : ℕ) → on_table c (trades_to table n) ≡ false → place_of c (trades_to table n) ≡ n
-place-past c table n h = place-nowhere c (trades_to table n) h ∙ length-trades table n
 
 -- ---- contracts that differ
 

@@ -101,20 +101,6 @@ pub record RunTo (calendar : Calendar) (book₀ : Book) (bytes table₀ lines₀
   pub tabled : last_table (trades_of table₀) (run calendar book₀ (trades_of table₀) (entries_of count bytes)) ≡ last_table (trades_of table) (run calendar book (trades_of table) (entries_of (count - k) (drop (k * 40) bytes)))
 
 module _ (calendar : Calendar) (book₀ : Book) (bytes table₀ lines₀ : List ℕ) (count : ℕ) where
-  pub none-run : fit calendar book₀ (trades_of table₀) ≡ true → RunTo calendar book₀ bytes table₀ lines₀ count table₀ lines₀ book₀ 0
-  none-run fits =
-      let all : count - 0 ≡ count = omega arith in
-      record {
-        high = omega arith;
-        fits = fits;
-        long = refl;
-        wide = refl;
-        told = rw all refl;
-        rest = refl;
-        booked = rw all refl;
-        tabled = rw all refl;
-      }
-
   -- the next event, by what it leaves
   one-run : (table lines : List ℕ) (book : Book) (k : ℕ) → RunTo calendar book₀ bytes table₀ lines₀ count table lines book k → k < count → count * 7 ≤ length lines₀
       → (left : Outcome) → step calendar book (trades_of table) (decoded (take 40 (drop (k * 40) bytes))) ≡ left

@@ -50,7 +50,7 @@ pub first-place : (contract : Contract) (l : List Trade) (r : Option ℕ)
 unfolding place_of
 first-place contract =
     index_from_first (place_of contract) (λ t. same t.contract contract ≡ true) (λ t. same t.contract contract ≡ false)
-        refl (λ t l h. rw h) (λ t l h. rw h (omega arith))
+    refl (λ t l h. rw h) (λ t l h. rw h (omega arith))
 
 -- ---- each contract looked for among those before it
 

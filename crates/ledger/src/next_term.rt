@@ -92,7 +92,11 @@ fn closing_of(
         payment,
         may_start,
         size: scalars.size,
-        value: if may_start { value_at_start(scalars, held, value) } else { Sheets(0) },
+        value: if may_start {
+            value_at_start(scalars, held, value)
+        } else {
+            Sheets(0)
+        },
     }
 }
 
@@ -197,7 +201,8 @@ pub fn outstanding_after(
     sum
 }
 
-// A slot as part (b) begins: the next term if it starts, else the trade matured. The answer is O with it.
+// A slot as part (b) begins: the next term if it starts, else the trade matured. The answer is O with it, as of `with_started`, which only reads
+// the table: one function for both would lend it to the plan for writing.
 #[tactic(auto, using(crate::proofs::RedemptionLaws::within_of))]
 fn settle_slot(
     calendar: &[u32],

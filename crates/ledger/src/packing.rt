@@ -6,7 +6,6 @@ ghost use Rattle.ledger.specs.Flat.{HasSlots, HasSlot, trades_to, trades_of};
 use crate::flat;
 
 // The trades with something left go to the front, in order.
-#[tactic(auto, using(crate::proofs::PackingLaws::none_passed, crate::proofs::PackingLaws::moved_up))]
 fn move_up(table: &mut [u64], count: usize) -> usize
     requires { HasSlots table.old count }
     ensures few { result ≤ count }
@@ -30,7 +29,6 @@ fn free(table: &mut [u64], place: usize)
     flat::put_trade(table, place, flat::no_trade());
 }
 
-#[tactic(auto, using(crate::proofs::PackingLaws::freed))]
 fn free_from(table: &mut [u64], from: usize, to: usize)
     requires { (from ≤ to) × (HasSlots table.old to) }
     ensures { let trades = trades_of table.old in

@@ -43,7 +43,12 @@ pub fn maturing_at(table: &[u64], place: usize, today: u32) -> Sheets
 }
 
 // Of each trade so many sheets at a price, as `part` tells both of a place.
-fn plan<F: Fn(usize) -> (Sheets, Ticks)>(table: &[u64], count: usize, payment: u32, part: F) -> Redeemed
+fn plan<F: Fn(usize) -> (Sheets, Ticks)>(
+    table: &[u64],
+    count: usize,
+    payment: u32,
+    part: F,
+) -> Redeemed
     requires redeemable { Redeemable table.now count payment }
     requires can { (place : ℕ) → place < count → F.pre part place }
     requires within { (place : ℕ) (told : _) → place < count → F.post part place told → IsWithin (trade_at table.now place) told }
@@ -70,16 +75,31 @@ pub fn maturity_plan(table: &[u64], count: usize, today: u32, payment: u32) -> R
     requires { Redeemable table.now count payment }
     ensures { result ≡ maturity_of today payment (trades_to table.now count) }
 {
-    plan(table, count, payment, |place| (maturing_at(table, place, today), flat::price_at(table, place)))
+    plan(
+        table,
+        count,
+        payment,
+        |place| (
+            maturing_at(table, place, today),
+            flat::price_at(table, place),
+        ),
+    )
 }
 
 // "Every trade is redeemed whole at its fallback price."
-#[tactic(auto, using(rules::proofs::TradeLaws::sheets_of), unfolding(rules::specs::Trades::outstanding, money::specs::Causes::first_of))]
 pub fn termination_plan(table: &[u64], count: usize, payment: u32) -> Redeemed
     requires { Redeemable table.now count payment }
     ensures { result ≡ termination_of payment (trades_to table.now count) }
 {
-    plan(table, count, payment, |place| (flat::sheets_at(table, place), flat::fallback_at(table, place)))
+    plan(
+        table,
+        count,
+        payment,
+        |place| (
+            flat::sheets_at(table, place),
+            flat::fallback_at(table, place),
+        ),
+    )
 }
 
 pub fn redeem_one(table: &mut [u64], place: usize, by: u32)

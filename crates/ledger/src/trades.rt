@@ -29,21 +29,25 @@ const MANY_BUCKETS: usize = 32_749;
 const PRODUCTS: u64 = PRODUCT_LIMIT as u64;
 
 // O, the sheets left on the table.
-#[tactic(auto, using(rules::proofs::TradeLaws::sheets_of), unfolding(rules::specs::Trades::outstanding, money::specs::Causes::first_of))]
 pub fn outstanding_of(table: &[u64], count: usize) -> Sheets
     requires { Kept table.now count }
     ensures { result.0 ≡ outstanding (trades_to table.now count) }
 {
-    Sheets((0..count).map(|place| flat::sheets_at(table, place).0).sum())
+    Sheets(
+        (0..count)
+            .map(|place| flat::sheets_at(table, place).0)
+            .sum(),
+    )
 }
 
 // Where a contract's trade stands, or the count where it is not on the table.
-#[tactic(auto, using(crate::proofs::PlaceLaws::place_found))]
 pub fn place_of(table: &[u64], count: usize, contract: Contract) -> usize
     requires { HasSlots table.now count }
     ensures { result ≡ place_of contract (trades_to table.now count) }
 {
-    (0..count).position(|place| flat::same_contract(flat::contract_at(table, place), contract)).unwrap_or(count)
+    (0..count)
+        .position(|place| flat::same_contract(flat::contract_at(table, place), contract))
+        .unwrap_or(count)
 }
 
 // No contract stands before its own place: each is searched, which for few trades is as fast as to sort.
@@ -102,15 +106,15 @@ pub fn contracts_differ(table: &[u64], count: usize) -> bool
     ensures { result ≡ differ (trades_to table.now count) }
 {
     if count <= FEW {
-        return few_differ(table, count);
+        few_differ(table, count)
+    } else if count <= SOME {
+        chains_differ::<SOME_BUCKETS>(table, count)
+    } else {
+        chains_differ::<MANY_BUCKETS>(table, count)
     }
-    if count <= SOME {
-        return chains_differ::<SOME_BUCKETS>(table, count);
-    }
-    chains_differ::<MANY_BUCKETS>(table, count)
 }
 
-#[tactic(auto, unfolding(rules::specs::Folds::every, money::specs::Causes::first_of))]
+#[tactic(auto, unfolding(rules::specs::Folds::every))]
 fn trade_fits(table: &[u64], place: usize) -> bool
     requires { HasSlot table.now place }
     ensures { result ≡ trade_fit (trade_at table.now place) }
@@ -129,11 +133,12 @@ pub struct Summary {
     pub latest: u32,
 }
 
-#[tactic(auto, using(rules::proofs::TradeLaws::sheets_of, crate::proofs::FlatLaws::all_none, crate::proofs::FlatLaws::all_more, crate::proofs::RedemptionLaws::within_of), unfolding(rules::specs::Trades::outstanding, money::specs::Causes::first_of))]
+#[tactic(auto, using(rules::proofs::TradeLaws::sheets_of, crate::proofs::FlatLaws::all_none, crate::proofs::FlatLaws::all_more, crate::proofs::RedemptionLaws::within_of), unfolding(rules::specs::Trades::outstanding))]
 pub fn summary_of(table: &[u64], count: usize) -> Summary
     requires { (HasSlots table.now count) × (count ≤ capacity_limit) }
     ensures { result ≡ summary_of (trades_to table.now count) }
 {
+    // One walk: a chain for each figure would go over the table three times.
     let mut outstanding = 0;
     let mut latest = 0;
     for i in 0..count {

@@ -30,8 +30,3 @@ loop-place-preserved c =
       omega (arith, c.loop-place.invariant.0, c.with_started-sum.ensures some.book some.met, with-at-most (starts c.args.calendar.now some.book c.loop-place.sum.0 trade) some.book trade c.loop-place.sum.0, within.sheets),
       λ book met. started-more _ book _ _ _ _ _ (c.loop-place.invariant.1 book met) (c.with_started-sum.ensures book met),
     )
-
-pub returns : goal.returns
-returns c book met =
-    let e : c.loop-place.place ≡ c.args.count = omega arith in
-    rw e at (c.loop-place.invariant.1 book met)

@@ -57,8 +57,3 @@ loop-place-preserved c =
             slot-more c.args.calendar.now book _ c.args.table.now c.loop-place.table c.loop-place.place inv.0 before.1 _ c.loop-place.sum.0 (omega (arith, c.requires.1.room)) before.0 done.1,
           ),
     )
-
-pub returns : goal.returns
-returns c book met =
-    let e : c.loop-place.place ≡ c.args.count = omega arith in
-    rw e at (c.loop-place.invariant.2 book met).1

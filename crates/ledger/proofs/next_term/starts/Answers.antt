@@ -5,7 +5,6 @@ use lib.Signed.{lt_z}
 use Rattle.money.specs.declared.units.Sheets.{Sheets}
 use Rattle.rules.specs.Vault.{headroom_of}
 use Rattle.ledger.specs.Flat.{trade_at}
-use Rattle.ledger.proofs.RedemptionLaws.{within_of}
 use Rattle.ledger.proofs.StartLaws.{term-read, term-short, none-due, not-posted, no-maturity, by-headroom}
 use Rattle.ledger.proofs.next_term.starts.Goals as goal
 
@@ -13,10 +12,6 @@ pub returns-then-due-eq0 : goal.returns-then-due-eq0
 returns-then-due-eq0 c book met =
     let matures = ap (λ (q : Sheets). q.0) c.maturing_at-due.ensures in
     none-due _ book _ _ met _ _ (sym matures ∙ c.if-due-eq0.true)
-
-pub posting_of-posting-requires : goal.posting_of-posting-requires
-posting_of-posting-requires c =
-    (rw c.product_at-product.ensures (within_of (trade_at c.args.table.now c.args.place) c.requires.1.fits).product, c.requires.0.held-long)
 
 pub returns-then-posting-eq0 : goal.returns-then-posting-eq0
 returns-then-posting-eq0 c book met =

@@ -6,11 +6,3 @@ pub value_of-requires : goal.value_of-requires
 value_of-requires c =
     let cash = cash-fits _ _ c.requires.2 in
     (c.requires.0, c.requires.1, cash.free, omega (arith, cash.sum))
-
-pub returns-in-Counted : goal.returns-in-Counted
-returns-in-Counted c =
-    rw c.in-Counted.is at c.requires.3
-
-pub returns-in-NotCounted : goal.returns-in-NotCounted
-returns-in-NotCounted c =
-    c.value_of.ensures

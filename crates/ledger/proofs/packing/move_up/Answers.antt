@@ -1,6 +1,4 @@
-use Rattle.std.specs.Prelude.{◌≡◌}
 use mathlib.Core.Path.{sym, ◌∙◌}
-use native.Mathlib.Omega.{arith}
 use Rattle.ledger.proofs.PackingLaws.{none_passed, passed-by, moved_up}
 use Rattle.ledger.proofs.packing.move_up.Goals as goal
 use Rattle.ledger.proofs.packing.move_up.Goals.{then-sheets_at-ne0, else-sheets_at-ne0}
@@ -12,12 +10,6 @@ loop-i-init c =
 pub loop-i-preserved : goal.loop-i-preserved
 loop-i-preserved c =
     elim c.if-sheets_at-ne0.branch [
-      then-sheets_at-ne0 w ↦ rw (w.table-is, w.kept-is) (moved_up _ _ _ _ _ c.loop-i.invariant c.loop-i-test.true _ w.move_trade.auto.table w.move_trade.ensures (λ z. w.if-sheets_at-ne0.true (c.sheets_at.ensures ∙ z)))
-    | else-sheets_at-ne0 w ↦ rw (w.table-is, w.kept-is) (passed-by _ _ _ _ _ c.loop-i.invariant c.loop-i-test.true (sym c.sheets_at.ensures ∙ w.if-sheets_at-ne0.false))
+      | then-sheets_at-ne0 w ↦ rw (w.table-is, w.kept-is) (moved_up _ _ _ _ _ c.loop-i.invariant c.loop-i-test.true _ w.move_trade.auto.table w.move_trade.ensures (λ z. w.if-sheets_at-ne0.true (c.sheets_at.ensures ∙ z)))
+      | else-sheets_at-ne0 w ↦ rw (w.table-is, w.kept-is) (passed-by _ _ _ _ _ c.loop-i.invariant c.loop-i-test.true (sym c.sheets_at.ensures ∙ w.if-sheets_at-ne0.false))
     ]
-
-pub returns : goal.returns
-returns c =
-    let g = c.loop-i.invariant in
-    let e : c.loop-i.i ≡ c.args.count = omega (arith, g.high) in
-    record { few = omega (arith, g.low); front = rw e at g.front; rest = rw e at g.rest }

@@ -47,8 +47,12 @@ loop-place-preserved g c =
           let this = told _ _ below c.part.ensures in
           let sums = here.invariant.2 count_of price_of told in (
             omega (arith, sums.0, ap (λ (q : Sheets). q.0) this.0, total-more count_of c.args.table.now here.place),
-            omega (arith, sums.1, ap (λ (amount : Fen). amount.0) (rw (this.0, this.1) at paid),
-                total-more (λ trade. redeemed c.args.payment (count_of trade) (price_of trade) trade) c.args.table.now here.place),
+            omega (
+              arith,
+              sums.1,
+              ap (λ (amount : Fen). amount.0) (rw (this.0, this.1) at paid),
+              total-more (λ trade. redeemed c.args.payment (count_of trade) (price_of trade) trade) c.args.table.now here.place,
+            ),
           ),
     )
 

@@ -1,4 +1,3 @@
-use Rattle.std.specs.Prelude.{◌≡◌}
 use mathlib.Core.Path.{refl, ◌∙◌}
 use native.Mathlib.Omega.{arith}
 use Rattle.rules.specs.Trades.{matured}
@@ -13,7 +12,3 @@ pub loop-i-preserved : goal.loop-i-preserved
 loop-i-preserved c =
     let loop = c.loop-i in
     (c.redeem_one.auto.table ∙ loop.invariant.0, map-one-more (matured c.args.by) _ _ _ _ (omega (arith, c.requires)) loop.invariant.0 loop.invariant.1 c.redeem_one.ensures)
-
-pub returns : goal.returns
-returns c =
-    let e : c.loop-i.i ≡ c.args.count = omega arith in rw e at c.loop-i.invariant.1

@@ -14,7 +14,3 @@ pub returns : goal.returns
 returns c =
     let within = redemption-within c.args.count c.args.price (c.args.payment - c.first_at.result) c.requires.has_slot.1 c.requires.has_slot.2 (omega (arith, c.requires.place_bound.1)) in
     rw (c.redemption-answer.ensures, within, c.first_at.ensures)
-
-pub overflow_sub-days : goal.overflow_sub-days
-overflow_sub-days c =
-    omega (arith, c.first_at.ensures, c.requires.place_bound.0)

@@ -11,5 +11,5 @@ pub returns : goal.returns
 returns c =
     let table = c.args.table.now in
     none-before table c.args.count c.all.result
-        (cases_from_all _ _ _ (λ i. place_before table i ≡ i) (λ i. place_before table i ≢ i) c.all.ensures.ran
-            (YieldsList-from_range 0 c.args.count c.args.count (cc) (omega arith)) (λ x q k. search (rules, tests)) (λ x q k. search (rules, tests)))
+    (cases_from_all _ _ _ (λ i. place_before table i ≡ i) (λ i. place_before table i ≢ i) c.all.ensures.ran
+    (YieldsList-from_range 0 c.args.count c.args.count (cc) (omega arith)) (λ x q k. search (rules, tests)) (λ x q k. search (rules, tests)))

@@ -18,13 +18,13 @@ sum-requires-clause-fits c =
     let kept = c.requires in
     let bound = total_at_most sheets_of table trade_limit _ (λ i l. (kept-within _ _ kept i l).sheets) in
     fits_by_from_yields_list sheets_of (trades_to table c.args.count) _ _
-        (YieldsList-from_map _ _ (places-give table _ c.map.ensures.source) c.map.ensures.closure (λ x r q k. search rules))
-        (omega (arith, bound, kept.few, total-is-sum sheets_of (trades_to table c.args.count)))
+    (YieldsList-from_map _ _ (places-give table _ c.map.ensures.source) c.map.ensures.closure (λ x r q k. search rules))
+    (omega (arith, bound, kept.few, total-is-sum sheets_of (trades_to table c.args.count)))
 
 pub returns : goal.returns
 unfolding outstanding
 returns c =
     let table = c.args.table.now in
     sum_by_from_yields_List sheets_of (trades_to table c.args.count) _ _ c.sum.ensures.ran
-        (YieldsList-from_map _ _ (places-give table _ c.map.ensures.source) c.map.ensures.closure (λ x r q k. search rules))
+    (YieldsList-from_map _ _ (places-give table _ c.map.ensures.source) c.map.ensures.closure (λ x r q k. search rules))
     ∙ total-is-sum sheets_of _

@@ -14,5 +14,5 @@ returns c =
     let contract = c.args.contract in
     let table = c.args.table.now in
     let first = first-place contract (trades_to table c.args.count) c.position.result
-        (IsFirst-from_position _ _ _ (λ t. same t.contract contract ≡ true) (λ t. same t.contract contract ≡ false) c.position.ensures.ran (places-give table _ (cc)) (λ x q k. search (rules, tests)) (λ x q k. search (rules, tests))) in
+    (IsFirst-from_position _ _ _ (λ t. same t.contract contract ≡ true) (λ t. same t.contract contract ≡ false) c.position.ensures.ran (places-give table _ (cc)) (λ x q k. search (rules, tests)) (λ x q k. search (rules, tests))) in
     c.unwrap_or.ensures ∙ sym (rw (length-trades table c.args.count) at first)

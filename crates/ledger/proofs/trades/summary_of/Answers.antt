@@ -5,13 +5,12 @@ use native.Mathlib.Omega.{arith}
 use borrow.Author.Rules.{rules}
 use borrow.Author.Tests.{not-true, not-false}
 use Rattle.money.specs.Limits.{trade_limit}
-use Rattle.rules.specs.Trades.{outstanding}
 use Rattle.rules.specs.Fit.{trade_fit}
 use Rattle.rules.proofs.TradeLaws.{sheets_of}
 use Rattle.ledger.specs.Flat.{trade_at}
 use Rattle.ledger.proofs.FlatLaws.{all_none, all_more, all-fails, total-none, total-more}
 use Rattle.ledger.proofs.RedemptionLaws.{within_of}
-use Rattle.ledger.proofs.SummaryLaws.{latest-none, latest-more, summary-fit, summary-unfit}
+use Rattle.ledger.proofs.SummaryLaws.{latest-none, latest-more, summary-unfit}
 use mathlib.Core.Path.{ap}
 use Rattle.std.specs.Prelude.{not}
 use Rattle.ledger.proofs.trades.summary_of.Goals as goal
@@ -35,16 +34,3 @@ loop-i-preserved c =
       rw sheets (omega (arith, few, inv.2)),
       grind (arith, common_steps, latest-more c.args.table.now c.loop-i.i),
     )
-
-pub returns : goal.returns
-unfolding outstanding
-returns c =
-    let inv = c.loop-i.invariant in
-    let e : c.loop-i.i ≡ c.args.count = omega arith in
-    rw (inv.1, inv.3) (rw e (sym (summary-fit _ (rw e at inv.0))))
-
-pub overflow_add-outstanding : goal.overflow_add-outstanding
-overflow_add-outstanding c =
-    let within : trade_fit (trade_at c.args.table.now c.loop-i.i) ≡ true = sym c.trade_fits.ensures ∙ not-false _ (ap not c.if-not-trade_fits.false) in
-    let few : (trade_at c.args.table.now c.loop-i.i).sheets.0 ≤ trade_limit = (within_of (trade_at c.args.table.now c.loop-i.i) within).sheets in
-    rw c.sheets_at-left.ensures (omega (arith, few, c.loop-i.invariant.2, c.loop-i-test.true, c.requires.1))
