@@ -1,7 +1,7 @@
 -- Chains of trades by buckets: what is reached stays reached when a link is added, and what is on no chain is not among the trades.
 -- For the proofs of chains.rt. Assumes nothing.
 use Rattle.std.specs.Prelude.{◌≡◌, ℕ, zero, suc, ◌+◌, ◌<◌, ◌≤◌, Bool, true, false, cond, ◌⊎◌, List, [], ◌∷◌, length, get_or, drop, set, replicate}
-use mathlib.Core.Path.{refl, sym, ap, ◌∙◌}
+use mathlib.Core.Path.{refl, sym, ap, subst, ◌∙◌}
 use mathlib.Core.Logic.{inl, inr}
 use native.Mathlib.Numerals.{add-one}
 use native.Mathlib.Nat.{mod-lt}
@@ -15,7 +15,7 @@ use Rattle.rules.proofs.FoldLaws.{by-test}
 use Rattle.rules.proofs.TableFit.{differ-append}
 use Rattle.ledger.specs.Types.{Contract}
 use Rattle.ledger.specs.Flat.{trade_at, trades_to}
-use Rattle.ledger.specs.Chains.{Differs, Repeats, bucket_of, Reaches, Falls, Shows}
+use Rattle.ledger.specs.Chains.{ChainResult, Differs, Repeats, TooLong, bucket_of, Reaches, Falls, Shows, ShowsAll}
 use Rattle.ledger.proofs.FlatLaws.{one_more, split-trades}
 use Rattle.ledger.proofs.PlaceLaws.{on-table-append, off-none, off-one-more, differ-none, differ-not}
 
@@ -101,9 +101,6 @@ abbrev pub Ahead : (table next : List ℕ) → (from : ℕ) → Contract → (li
 Ahead table next from contract link = (steps place : ℕ) → Reaches next steps from place → (same (trade_at table place).contract contract ≡ false) ⊎ ((further : ℕ) × Reaches next further link place)
 
 module _ (table next : List ℕ) (from : ℕ) (contract : Contract) where
-  pub ahead-first : Ahead table next from contract from
-  ahead-first steps place r = inr (steps, r)
-
   pub ahead-next : (link at : ℕ) → link ≡ suc at → Ahead table next from contract link → same (trade_at table at).contract contract ≡ false → Ahead table next from contract (get_or next at 0)
   ahead-next link at e ahead other steps place r = by (ahead steps place r)
     where
@@ -155,10 +152,21 @@ module _ (table : List ℕ) (count buckets : ℕ) (heads next : List ℕ) (i : �
   pub inside : bucket < length heads
   inside = rw linked.wide (mod-lt this.0 linked.some)
 
-  pub repeated : Shows table next first this Repeats → differ (trades_to table count) ≡ false
+  repeated : Shows table next first this Repeats → differ (trades_to table count) ≡ false
   repeated told =
       ap differ (split-trades table count i more)
       ∙ differ-not (trades_to table i) (trade_at table i) (drop (suc i) (trades_to table count)) (on_below this table i told.0 (omega (arith, told.1, linked.low bucket)) told.2)
+
+  -- what is told of this trade's contract, by the contract and the bucket that the code read
+  pub looked-up : {contract : Contract} {at : ℕ} (told : ChainResult) → contract ≡ this → at ≡ bucket_of buckets contract → Shows table next (get_or heads at 0) contract told → Shows table next first this told
+  looked-up {contract} told its fell shown =
+      subst (λ (c : Contract). Shows table next (get_or heads (bucket_of buckets c) 0) c told) its (subst (λ (b : ℕ). Shows table next (get_or heads b 0) contract told) fell shown)
+
+  -- and of all, where it does not differ
+  pub told-of-all : (told : ChainResult) → (told ≡ Differs → ⊥) → Shows table next first this told → ShowsAll table count told
+  told-of-all Differs h shown = absurd (h refl)
+  told-of-all Repeats h shown = repeated shown
+  told-of-all TooLong h shown = tt
 
   new : Shows table next first this Differs → on_table this (trades_to table i) ≡ false
   new told = off-below this table i (λ place l. by-test (λ b. b ≡ false) (same (trade_at table place).contract this) (λ e. sym e ∙ known place l e) (λ e. refl))

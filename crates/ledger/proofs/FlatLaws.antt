@@ -3,7 +3,7 @@
 use Rattle.std.specs.Prelude.{◌≡◌, ℕ, zero, suc, ◌+◌, ◌*◌, ◌<◌, ◌≤◌, Bool, true, false, List, [], ◌∷◌, ◌++◌, length, get_or, take, drop}
 use mathlib.Core.Path.{refl, sym, ap, ◌∙◌}
 use native.Mathlib.Numerals.{add-one}
-use native.Mathlib.Nat.{add-zero, suc-mul, mul-le-mul_right}
+use native.Mathlib.Nat.{add-zero}
 use native.Mathlib.Omega.{arith}
 use native.Mathlib.Decide.{dec_lt}
 use lib.ListN.{length-append, get_or-append}
@@ -87,17 +87,11 @@ pub total-more : (f : Trade → ℕ) (table : List ℕ) (i : ℕ) → total f (t
 unfolding total
 total-more f table i = rw (one_more table i, total-append f (trades_to table i) (trade_at table i ∷ [])) (omega arith)
 
--- a bound of each bounds the sum, and the sum with one more
+-- a bound of each bounds the sum
 module _ (f : Trade → ℕ) (table : List ℕ) (most : ℕ) where
   pub total_at_most : (n : ℕ) → ((i : ℕ) → i < n → f (trade_at table i) ≤ most) → total f (trades_to table n) ≤ n * most
   total_at_most zero h = omega (arith, total-none f table)
   total_at_most (suc n) h = omega (arith, rw add-one at (total-more f table n), h n (omega arith), total_at_most n (λ i l. h i (omega arith)))
-
-  pub next-at-most : (n : ℕ) → ((i : ℕ) → i < n → f (trade_at table i) ≤ most) → (i : ℕ) → i < n → total f (trades_to table i) + f (trade_at table i) ≤ n * most
-  next-at-most n h i l =
-      let sum : total f (trades_to table i) ≤ i * most = total_at_most i (λ j k. h j (omega arith)) in
-      let more : suc i * most ≤ n * most = mul-le-mul_right most l in
-      omega (arith, sum, more, suc-mul i most, h i l)
 
 -- ---- a test of each trade
 

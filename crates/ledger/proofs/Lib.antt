@@ -2,6 +2,7 @@
 
 -- laws for the code: the core's table
 pub mod FlatLaws
+pub mod TableChains
 pub mod StoreLaws
 pub mod PlaceLaws
 pub mod ChainLaws

@@ -3,7 +3,7 @@
 use Rattle.std.specs.Prelude.{◌≡◌, ℕ, suc, ◌+◌, ◌-◌, ◌<◌, ◌≤◌, Bool, true, false, cond, ltb, List, [], ◌∷◌, ◌++◌, length, get_or, take, drop, set}
 use mathlib.Core.Path.{refl, sym, ap, ◌∙◌}
 use mathlib.Core.Bool.{false≢true}
-use mathlib.Core.List.{append-nil, map-append}
+use mathlib.Core.List.{map-append}
 use native.Mathlib.Numerals.{add-one}
 use native.Mathlib.Omega.{arith}
 use borrow.Author.Tests.{lt-ltb, le-ltb, eq-eqb, eqb-true}
@@ -28,6 +28,15 @@ on-table-by-place c (t ∷ l) = by (same t.contract c) (on-table-by-place c l)
     by : (b : Bool) → on_table c l ≡ ltb (place_of c l) (length l) → cond b true (on_table c l) ≡ ltb (cond b 0 (suc (place_of c l))) (suc (length l))
     by true h = sym (lt-ltb 0 (suc (length l)) (omega arith))
     by false h = h ∙ sym (leb-suc-suc (suc (place_of c l)) (length l))
+
+pub place-within : (c : Contract) (l : List Trade) → place_of c l ≤ length l
+unfolding place_of
+place-within c [] = omega arith
+place-within c (t ∷ l) = by (same t.contract c) (place-within c l)
+  where
+    by : (b : Bool) → place_of c l ≤ length l → cond b 0 (suc (place_of c l)) ≤ suc (length l)
+    by true h = omega arith
+    by false h = omega arith
 
 pub trade-at-place : (c : Contract) (l : List Trade) → on_table c l ≡ true → trade_of c l ≡ get_or l (place_of c l) no_trade
 unfolding on_table trade_of place_of
@@ -63,10 +72,6 @@ pub place_here : (c : Contract) (a : List Trade) (t : Trade) (b : List Trade) �
 unfolding place_of
 place_here c a t b h k = place-later c a (t ∷ b) h ∙ rw k (omega arith)
 
-pub place-nowhere : (c : Contract) (l : List Trade) → on_table c l ≡ false → place_of c l ≡ length l
-unfolding place_of
-place-nowhere c l h = ap (place_of c) (sym (append-nil l)) ∙ place-later c l [] h ∙ omega arith
-
 pub on-table-append : (c : Contract) (a b : List Trade) → on_table c (a ++ b) ≡ cond (on_table c a) true (on_table c b)
 unfolding on_table
 on-table-append c [] b = refl
@@ -89,9 +94,6 @@ off-one-more c table i h k = rw (one_more table i, on-table-append c (trades_to 
 pub place_found : (c : Contract) (table : List ℕ) (n i : ℕ) → i < n → on_table c (trades_to table i) ≡ false → same (trade_at table i).contract c ≡ true → place_of c (trades_to table n) ≡ i
 place_found c table n i l h k =
     ap (place_of c) (split-trades table n i l) ∙ place_here c (trades_to table i) (trade_at table i) (drop (suc i) (trades_to table n)) h k ∙ length-trades table i
-
-pub place-past : (c : Contract) (table : List ℕ) (n : ℕ) → on_table c (trades_to table n) ≡ false → place_of c (trades_to table n) ≡ n
-place-past c table n h = place-nowhere c (trades_to table n) h ∙ length-trades table n
 
 -- ---- contracts that differ
 
@@ -126,19 +128,19 @@ differ-none table = rw (no-trades table)
 
 -- the search for a trade's contract among the trades before it tells whether they still differ
 module _ (table : List ℕ) (i : ℕ) where
-  abbrev place : ℕ
-  place = place_of (trade_at table i).contract (trades_to table i)
+  abbrev pub place_before : ℕ
+  place_before = place_of (trade_at table i).contract (trades_to table i)
 
-  by_place : on_table (trade_at table i).contract (trades_to table i) ≡ ltb place i
-  by_place = on-table-by-place (trade_at table i).contract (trades_to table i) ∙ ap (ltb place) (length-trades table i)
+  by_place : on_table (trade_at table i).contract (trades_to table i) ≡ ltb place_before i
+  by_place = on-table-by-place (trade_at table i).contract (trades_to table i) ∙ ap (ltb place_before) (length-trades table i)
 
-  pub differ-one-more : differ (trades_to table i) ≡ true → i ≤ place_of (trade_at table i).contract (trades_to table i) → differ (trades_to table (i + 1)) ≡ true
-  differ-one-more h k = rw (one_more table i) (differ-append (trades_to table i) (trade_at table i) h (by_place ∙ le-ltb place i k))
+  pub differ-one-more : differ (trades_to table i) ≡ true → i ≤ place_before → differ (trades_to table (i + 1)) ≡ true
+  differ-one-more h k = rw (one_more table i) (differ-append (trades_to table i) (trade_at table i) h (by_place ∙ le-ltb place_before i k))
 
-  pub differ-fails : (n : ℕ) → i < n → place_of (trade_at table i).contract (trades_to table i) < i → differ (trades_to table n) ≡ false
+  pub differ-fails : (n : ℕ) → i < n → place_before < i → differ (trades_to table n) ≡ false
   differ-fails n l k =
       ap differ (split-trades table n i l)
-      ∙ differ-not (trades_to table i) (trade_at table i) (drop (suc i) (trades_to table n)) (by_place ∙ lt-ltb place i k)
+      ∙ differ-not (trades_to table i) (trade_at table i) (drop (suc i) (trades_to table n)) (by_place ∙ lt-ltb place_before i k)
 
 -- ---- contracts by their numbers
 

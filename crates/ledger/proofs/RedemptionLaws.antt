@@ -9,6 +9,7 @@ use borrow.Author.Tests.{leb-true, le-leb}
 use lib.ListN.{length-map}
 use lib.Seq.{drop_at, drop-cons, append_snoc, set_at}
 use Rattle.money.specs.Limits.{trade_limit, price_limit}
+use Rattle.money.specs.declared.units.Sheets.{Sheets}
 use Rattle.money.specs.declared.units.Ticks.{Ticks}
 use Rattle.money.specs.Units.{sheets}
 use Rattle.money.proofs.Bounds.{redemption-bound}
@@ -19,7 +20,7 @@ use Rattle.rules.proofs.FoldLaws.{every_holds}
 use Rattle.rules.proofs.TradeLaws.{maturing-le}
 use Rattle.ledger.specs.Types.{Trade}
 use Rattle.ledger.specs.Flat.{trade_at, trades_to, capacity, trades_of, Kept, Redeemable}
-use Rattle.ledger.specs.Redemption.{amount_bound}
+use Rattle.ledger.specs.Redemption.{amount_bound, IsWithin}
 use Rattle.ledger.proofs.FlatLaws.{no-trades, one_more, length-trades, same-trade, total_at_most, all-below}
 
 -- ---- a trade in use
@@ -55,6 +56,12 @@ module _ (table : List ℕ) (count payment : ℕ) (r : Redeemable table count pa
   redeemed-at-most : (q : ℕ) (price : Ticks) (i : ℕ) → q ≤ trade_limit → price.0 ≤ price_limit → redeemed payment q price (trade_at table i) ≤ 106205500000000
   redeemed-at-most q price i h k =
       omega (arith, redemption-bound (sheets q) price (payment - (trade_at table i).first) k (omega (arith, r.term)))
+
+  pub part-within : (i : ℕ) → i < count → (part : Sheets × Ticks) → IsWithin (trade_at table i) part
+      → (part.0.0 ≤ trade_limit) × (part.1.0 ≤ price_limit) × (redeemed payment part.0.0 part.1 (trade_at table i) ≤ 106205500000000)
+  part-within i l part h =
+      let few : part.0.0 ≤ trade_limit = omega (arith, h, (trade-within i l).sheets) in
+      (few, h.1, redeemed-at-most part.0.0 part.1 i few h.1)
 
   pub fallback-at-most : (i : ℕ) → i < count → fallback_amount payment (trade_at table i) ≤ 106205500000000
   fallback-at-most i l = redeemed-at-most (trade_at table i).sheets.0 (trade_at table i).fallback i (trade-within i l).sheets (trade-within i l).fallback

@@ -6,7 +6,7 @@ use mathlib.Core.List.{append_assoc, append-nil}
 use mathlib.Core.Option.{Option, none, some}
 use native.Mathlib.Omega.{arith}
 use borrow.Author.Tests.{ltb-false}
-use lib.ListN.{length-append, take-append-drop}
+use lib.ListN.{length-append, length-drop, take-append-drop}
 use lib.Seq.{sets, length-sets, sets-eq, take_at, drop_at, drop-drop, length-take-le}
 use Rattle.money.specs.Causes.{first_of}
 use Rattle.money.specs.Days.{Calendar}
@@ -69,6 +69,24 @@ no_more : (calendar : Calendar) (book : Book) (table : List Trade) (bytes : List
 unfolding entries_of run last_book last_table
 no_more calendar book table bytes = (refl, refl)
 
+-- ---- an event's bytes, and those behind it
+
+module _ (bytes : List ℕ) (k : ℕ) where
+  module _ (part rest : List ℕ) (cut : drop (k * 40) bytes ≡ part ++ rest) (whole : length part ≡ 40) where
+    pub part-taken : take 40 (drop (k * 40) bytes) ≡ part
+    part-taken = rw cut (take_at part rest 40 whole)
+
+    pub rest-dropped : rest ≡ drop ((k + 1) * 40) bytes
+    rest-dropped =
+        let next : (k + 1) * 40 ≡ k * 40 + 40 = omega arith in
+        sym (rw next (sym (drop-drop 40 (k * 40) bytes) ∙ rw cut (drop_at part rest 40 whole)))
+
+    pub one-more-whole : k < length bytes / 40
+    one-more-whole = omega (arith, ap length cut, length-drop (k * 40) bytes, length-append part rest, whole)
+
+  pub none-whole : length (drop (k * 40) bytes) < 40 → length bytes / 40 ≤ k
+  none-whole h = omega (arith, h, length-drop (k * 40) bytes)
+
 -- `k` of `count` events are run: their lines stand in front of `lines`, the rest of which is as it was, and the others are still to be run on the book and the table that they left
 pub record RunTo (calendar : Calendar) (book₀ : Book) (bytes table₀ lines₀ : List ℕ) (count : ℕ) (table lines : List ℕ) (book : Book) (k : ℕ) : Type 0 where
   pub high : k ≤ count
@@ -81,20 +99,6 @@ pub record RunTo (calendar : Calendar) (book₀ : Book) (bytes table₀ lines₀
   pub tabled : last_table (trades_of table₀) (run calendar book₀ (trades_of table₀) (entries_of count bytes)) ≡ last_table (trades_of table) (run calendar book (trades_of table) (entries_of (count - k) (drop (k * 40) bytes)))
 
 module _ (calendar : Calendar) (book₀ : Book) (bytes table₀ lines₀ : List ℕ) (count : ℕ) where
-  pub none-run : fit calendar book₀ (trades_of table₀) ≡ true → RunTo calendar book₀ bytes table₀ lines₀ count table₀ lines₀ book₀ 0
-  none-run fits =
-      let all : count - 0 ≡ count = omega arith in
-      record {
-        high = omega arith;
-        fits = fits;
-        long = refl;
-        wide = refl;
-        told = rw all refl;
-        rest = refl;
-        booked = rw all refl;
-        tabled = rw all refl;
-      }
-
   -- the next event, by what it leaves
   one-run : (table lines : List ℕ) (book : Book) (k : ℕ) → RunTo calendar book₀ bytes table₀ lines₀ count table lines book k → k < count → count * 7 ≤ length lines₀
       → (left : Outcome) → step calendar book (trades_of table) (decoded (take 40 (drop (k * 40) bytes))) ≡ left

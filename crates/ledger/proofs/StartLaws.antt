@@ -39,6 +39,14 @@ pub posting-within : (postings : List Posting) → postings_fit postings ≡ tru
 posting-within postings e zero h = none-posted-fits
 posting-within postings e (suc number) h = postings-fit postings e number h
 
+-- the term of a posting that was read by a trade's product
+module _ (held : List ℕ) (trade : Trade) (posting : Posting) {product : ℕ} (read : posting ≡ posting_at (postings_of held) product) (its : product ≡ trade.product) where
+  pub term-read : posting.term ≡ (posting_at (postings_of held) trade.product).term
+  term-read = ap (λ (p : Posting). p.term) (read ∙ ap (posting_at (postings_of held)) its)
+
+  pub term-short : postings_fit (postings_of held) ≡ true → trade_fit trade ≡ true → posting.term ≤ 365
+  term-short fits fit = omega (arith, term-read, (posting-within _ fits _ (within_of trade fit).product).term)
+
 -- where nothing is posted, nothing is posted for any product
 pub nothing-posted : (held : List ℕ) → ((number : ℕ) → number < product_limit → is_posted (posting_in held number) ≡ false)
     → (product : ℕ) → product ≤ product_limit → is_posted (posting_at (postings_of held) product) ≡ false

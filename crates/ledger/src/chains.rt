@@ -33,23 +33,21 @@ fn look_along(table: &[u64], next: &[u16], from: usize, contract: Contract) -> C
     ensures { Shows table.now next.now from contract result }
 {
     let mut link = from;
-    let mut steps: usize = 0;
-    while link != 0 {
-        if steps >= CHAIN_LIMIT {
-            return ChainResult::TooLong;
+    for _ in 0..CHAIN_LIMIT {
+        if link == 0 {
+            return ChainResult::Differs;
         }
         let place = link - 1;
         if flat::same_contract(flat::contract_at(table, place), contract) {
             return ChainResult::Repeats;
         }
         link = next[place] as usize;
-        steps += 1;
     }
-    ChainResult::Differs
+    ChainResult::TooLong
 }
 
 // The trades linked one after the other, each looked for along the chain of its bucket.
-#[tactic(auto, using(crate::proofs::ChainLaws::inside, crate::proofs::ChainLaws::repeated))]
+#[tactic(auto, using(crate::proofs::ChainLaws::inside))]
 pub fn linked_differ(
     table: &[u64],
     count: usize,
@@ -65,19 +63,16 @@ pub fn linked_differ(
         × (count ≤ length next.old) }
     ensures { ShowsAll table.now count result }
 {
-    let mut i = 0;
-    while i < count {
+    for i in 0..count {
         let contract = flat::contract_at(table, i);
         let bucket = bucket_of(contract, buckets);
         let first = heads[bucket];
         match look_along(table, &*next, first as usize, contract) {
             ChainResult::Differs => {}
-            ChainResult::Repeats => return ChainResult::Repeats,
-            ChainResult::TooLong => return ChainResult::TooLong,
+            told => return told,
         }
         next[i] = first;
         heads[bucket] = (i + 1) as u16;
-        i += 1;
     }
     ChainResult::Differs
 }

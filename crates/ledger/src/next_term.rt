@@ -44,7 +44,6 @@ pub struct Plan {
 }
 
 // Whether any next term may start today: the status is normal, and something is posted.
-#[tactic(auto, using(crate::proofs::Fitting::refuted, crate::proofs::Fitting::upheld))]
 fn may_start(scalars: Scalars, held: &[u64]) -> bool
     requires { length held.now ≡ held_length }
     ensures { (result ≡ true → is_normal scalars.standing.status ≡ true)
@@ -53,11 +52,7 @@ fn may_start(scalars: Scalars, held: &[u64]) -> bool
         trade.product ≤ product_limit
         → starts_of calendar (book_of scalars (rows_of held.now kinds units)) outstanding trade ≡ false) }
 {
-    let standing = scalars.standing;
-    if !standing.is_normal() {
-        return false;
-    }
-    postings::any_posted(held)
+    scalars.standing.is_normal() && postings::any_posted(held)
 }
 
 fn closing_of(
@@ -76,22 +71,17 @@ fn closing_of(
         today ≡ today_of book → payment ≡ payment_day calendar scalars.standing.day → Meets calendar book result held.now)
         × (result.today ≡ today) }
 {
-    let size = scalars.size;
-    if !may_start(scalars, held) {
-        return Closing {
-            today,
-            payment,
-            may_start: false,
-            size,
-            value: Sheets(0),
-        };
-    }
+    let may_start = may_start(scalars, held);
     Closing {
         today,
         payment,
-        may_start: true,
-        size,
-        value: figures::value_known(scalars, held, value),
+        may_start,
+        size: scalars.size,
+        value: if may_start {
+            figures::value_known(scalars, held, value)
+        } else {
+            Sheets(0)
+        },
     }
 }
 
@@ -119,12 +109,8 @@ fn starts(
     if posting.term == 0 {
         return false;
     }
-    let next = closing.today + posting.term as u32;
-    if !days::matures(calendar, next) {
-        return false;
-    }
-    let lacks = headroom::above_headroom(closing.size, closing.value, outstanding, due);
-    !lacks
+    days::matures(calendar, closing.today + posting.term as u32)
+        && !headroom::above_headroom(closing.size, closing.value, outstanding, due)
 }
 
 // The record that takes the old one's slot.
@@ -137,22 +123,19 @@ fn next_term(calendar: &[u32], held: &[u64], table: &[u64], place: usize, closin
 {
     let product = flat::product_at(table, place);
     let posting = postings::posting_of(held, product as usize);
-    let price = posting.price;
-    let fallback = posting.fallback;
-    let due = closing.today + posting.term as u32;
     Trade {
         contract: flat::contract_at(table, place),
         sheets: redemption::maturing_at(table, place, closing.today),
-        price,
-        fallback,
+        price: posting.price,
+        fallback: posting.fallback,
         first: closing.payment,
-        due,
+        due: closing.today + posting.term as u32,
         product,
     }
 }
 
 // O with a trade's next term, if it starts.
-#[tactic(auto, using(crate::proofs::Fitting::refuted, crate::proofs::Fitting::upheld, crate::proofs::RedemptionLaws::within_of))]
+#[tactic(auto, using(crate::proofs::RedemptionLaws::within_of))]
 fn with_started(
     calendar: &[u32],
     held: &[u64],
@@ -170,12 +153,11 @@ fn with_started(
         Meets calendar.now book closing held.now
         → result.0 ≡ with_started (starts_of calendar.now book outstanding.0 trade) book trade outstanding.0) }
 {
-    if !starts(calendar, held, table, place, closing, outstanding) {
-        return outstanding;
+    if starts(calendar, held, table, place, closing, outstanding) {
+        Sheets(outstanding.0 + redemption::maturing_at(table, place, closing.today).0)
+    } else {
+        outstanding
     }
-    let due = redemption::maturing_at(table, place, closing.today);
-    let sum = outstanding.0 + due.0;
-    Sheets(sum)
 }
 
 // The plan: O as part (b) begins, from O once all have matured. Each term is judged beside those that started before it.
@@ -194,21 +176,19 @@ pub fn outstanding_after(
         Meets calendar.now book closing held.now
         → result.0 ≡ matured.0 + outstanding_of (started_from calendar.now book matured.0 trades)) }
 {
-    let may_start = closing.may_start;
-    if !may_start {
+    if !closing.may_start {
         return matured;
     }
     let mut sum = matured;
-    let mut place = 0;
-    while place < count {
+    for place in 0..count {
         sum = with_started(calendar, held, table, place, closing, sum);
-        place += 1;
     }
     sum
 }
 
-// A slot as part (b) begins: the next term if it starts, else the trade matured. The answer is O with it.
-#[tactic(auto, using(crate::proofs::Fitting::refuted, crate::proofs::Fitting::upheld, crate::proofs::RedemptionLaws::within_of))]
+// A slot as part (b) begins: the next term if it starts, else the trade matured. The answer is O with it, as of `with_started`, which only reads
+// the table: one function for both would lend it to the plan for writing.
+#[tactic(auto, using(crate::proofs::RedemptionLaws::within_of))]
 fn settle_slot(
     calendar: &[u32],
     held: &[u64],
@@ -228,14 +208,14 @@ fn settle_slot(
         (result.0 ≡ with_started started book trade outstanding.0)
         × (trades_of table.new ≡ slice_set (trades_of table.old) place (in_slot started calendar.now book trade))) }
 {
-    if !starts(calendar, held, &*table, place, closing, outstanding) {
+    if starts(calendar, held, &*table, place, closing, outstanding) {
+        let next = next_term(calendar, held, &*table, place, closing);
+        flat::put_trade(table, place, next);
+        Sheets(outstanding.0 + next.sheets.0)
+    } else {
         redemption::redeem_one(table, place, closing.today);
-        return outstanding;
+        outstanding
     }
-    let next = next_term(calendar, held, &*table, place, closing);
-    flat::put_trade(table, place, next);
-    let sum = outstanding.0 + next.sheets.0;
-    Sheets(sum)
 }
 
 // What the plan decided, written: every slot in use as part (b) begins.
@@ -253,16 +233,13 @@ pub fn settle(
         Meets calendar.now book closing held.now
         → trades_of table.new ≡ over count (left_from calendar.now book matured.0 trades) (trades_of table.old)) }
 {
-    let may_start = closing.may_start;
-    if !may_start {
+    if !closing.may_start {
         redemption::redeem_due(table, count, closing.today);
         return;
     }
     let mut sum = matured;
-    let mut place = 0;
-    while place < count {
+    for place in 0..count {
         sum = settle_slot(calendar, held, table, place, closing, sum);
-        place += 1;
     }
 }
 
@@ -281,26 +258,19 @@ pub fn plan_of(
     ensures { let book = book_of scalars (rows_of held.now kinds.now units.now) in
         (Planned calendar.now book held.now (trades_of table.now) result) × (PlanWithin result) }
 {
-    let standing = scalars.standing;
-    let day = standing.day;
-    let count = scalars.trades;
+    let day = scalars.standing.day;
     let today = days::day_number(day);
     let payment = days::payment_day(calendar, day);
-    let redeemed = redemption::maturity_plan(table, count, today, payment);
-    let matured = redeemed.sheets;
-    let amount = redeemed.amount;
-    let value = known.value;
-    let closing = closing_of(scalars, held, value, today, payment);
-    let outstanding = known.outstanding.0 - matured.0;
-    let left = outstanding_after(calendar, held, table, count, closing, Sheets(outstanding));
-    let more = left.0 - outstanding;
-    let started = SHEET_FEN * more;
+    let redeemed = redemption::maturity_plan(table, scalars.trades, today, payment);
+    let closing = closing_of(scalars, held, known.value, today, payment);
+    let outstanding = Sheets(known.outstanding.0 - redeemed.sheets.0);
+    let left = outstanding_after(calendar, held, table, scalars.trades, closing, outstanding);
     Plan {
         closing,
-        matured,
-        amount,
-        started: Fen(started),
-        outstanding: Sheets(outstanding),
+        matured: redeemed.sheets,
+        amount: redeemed.amount,
+        started: Fen(SHEET_FEN * (left.0 - outstanding.0)),
+        outstanding,
         left,
     }
 }

@@ -6,7 +6,6 @@ ghost use Rattle.ledger.specs.Flat.{HasSlots, HasSlot, trades_to, trades_of};
 use crate::flat;
 
 // The trades with something left go to the front, in order.
-#[tactic(auto, using(crate::proofs::PackingLaws::none_passed, crate::proofs::PackingLaws::moved_up))]
 fn move_up(table: &mut [u64], count: usize) -> usize
     requires { HasSlots table.old count }
     ensures few { result ≤ count }
@@ -14,16 +13,11 @@ fn move_up(table: &mut [u64], count: usize) -> usize
     ensures rest { drop count (trades_of table.new) ≡ drop count (trades_of table.old) }
 {
     let mut kept = 0;
-    let mut i = 0;
-    while i < count {
-        let left = flat::sheets_at(table, i);
-        if left.0 == 0 {
-            i += 1;
-            continue;
+    for i in 0..count {
+        if flat::sheets_at(table, i).0 != 0 {
+            flat::move_trade(table, i, kept);
+            kept += 1;
         }
-        flat::move_trade(table, i, kept);
-        kept += 1;
-        i += 1;
     }
     kept
 }
@@ -35,16 +29,13 @@ fn free(table: &mut [u64], place: usize)
     flat::put_trade(table, place, flat::no_trade());
 }
 
-#[tactic(auto, using(crate::proofs::PackingLaws::freed))]
 fn free_from(table: &mut [u64], from: usize, to: usize)
     requires { (from ≤ to) × (HasSlots table.old to) }
     ensures { let trades = trades_of table.old in
         trades_of table.new ≡ take from trades ++ (replicate (to - from) no_trade ++ drop to trades) }
 {
-    let mut i = from;
-    while i < to {
+    for i in from..to {
         free(table, i);
-        i += 1;
     }
 }
 

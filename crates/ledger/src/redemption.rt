@@ -1,10 +1,12 @@
 // Redemption: what it will move, planned before anything is written, and what it leaves of the table.
-ghost use Rattle.std.specs.Prelude.{◌≡◌, ◌≤◌, map, slice_set};
+ghost use Rattle.std.specs.Prelude.{◌≡◌, ℕ, ◌<◌, ◌≤◌, map, slice_set};
 ghost use Rattle.money.specs.Limits.{trade_limit, price_limit, term_limit};
+ghost use Rattle.money.specs.declared.units.Ticks.{Ticks};
 ghost use Rattle.money.specs.Units.{fen, sheets};
 ghost use Rattle.rules.specs.Trades.{redeemed, maturing, matured, over};
 ghost use Rattle.ledger.specs.Flat.{HasSlots, HasSlot, trade_at, trades_to, trades_of, Redeemable};
-ghost use Rattle.ledger.specs.Redemption.{maturity_of, termination_of};
+ghost use Rattle.ledger.specs.Types.{Trade};
+ghost use Rattle.ledger.specs.Redemption.{IsPart, IsWithin, redeemed_of, maturity_of, termination_of};
 
 use crate::flat;
 use money::units::{Fen, Sheets, Ticks};
@@ -39,20 +41,27 @@ pub fn maturing_at(table: &[u64], place: usize, today: u32) -> Sheets
     flat::sheets_at(table, place)
 }
 
-// "Trades due today or earlier are redeemed at their price."
-pub fn maturity_plan(table: &[u64], count: usize, today: u32, payment: u32) -> Redeemed
-    requires { Redeemable table.now count payment }
-    ensures { result ≡ maturity_of today payment (trades_to table.now count) }
+// Of each trade so many sheets at a price, as `part` tells both of a place.
+fn plan<F: Fn(usize) -> (Sheets, Ticks)>(
+    table: &[u64],
+    count: usize,
+    payment: u32,
+    part: F,
+) -> Redeemed
+    requires redeemable { Redeemable table.now count payment }
+    requires can { (place : ℕ) → place < count → F.pre part place }
+    requires within { (place : ℕ) (told : _) → place < count → F.post part place told → IsWithin (trade_at table.now place) told }
+    ensures { (count_of : Trade → ℕ) (price_of : Trade → Ticks)
+        → ((place : ℕ) (told : _) → place < count → F.post part place told → IsPart count_of price_of (trade_at table.now place) told)
+        → result ≡ redeemed_of count_of price_of payment (trades_to table.now count) }
 {
     let mut sheets = 0;
     let mut amount = 0;
-    let mut i = 0;
-    while i < count {
-        let due = maturing_at(table, i, today);
-        let paid = redeemed_for(table, i, due, flat::price_at(table, i), payment);
-        sheets += due.0;
+    for place in 0..count {
+        let (redeemed, price) = part(place);
+        let paid = redeemed_for(table, place, redeemed, price, payment);
+        sheets += redeemed.0;
         amount += paid.0;
-        i += 1;
     }
     Redeemed {
         sheets: Sheets(sheets),
@@ -60,26 +69,36 @@ pub fn maturity_plan(table: &[u64], count: usize, today: u32, payment: u32) -> R
     }
 }
 
+// "Trades due today or earlier are redeemed at their price."
+pub fn maturity_plan(table: &[u64], count: usize, today: u32, payment: u32) -> Redeemed
+    requires { Redeemable table.now count payment }
+    ensures { result ≡ maturity_of today payment (trades_to table.now count) }
+{
+    plan(
+        table,
+        count,
+        payment,
+        |place| (
+            maturing_at(table, place, today),
+            flat::price_at(table, place),
+        ),
+    )
+}
+
 // "Every trade is redeemed whole at its fallback price."
-#[tactic(auto, using(rules::proofs::TradeLaws::sheets_of), unfolding(rules::specs::Trades::outstanding, money::specs::Causes::first_of))]
 pub fn termination_plan(table: &[u64], count: usize, payment: u32) -> Redeemed
     requires { Redeemable table.now count payment }
     ensures { result ≡ termination_of payment (trades_to table.now count) }
 {
-    let mut sheets = 0;
-    let mut amount = 0;
-    let mut i = 0;
-    while i < count {
-        let left = flat::sheets_at(table, i);
-        let paid = redeemed_for(table, i, left, flat::fallback_at(table, i), payment);
-        sheets += left.0;
-        amount += paid.0;
-        i += 1;
-    }
-    Redeemed {
-        sheets: Sheets(sheets),
-        amount: Fen(amount),
-    }
+    plan(
+        table,
+        count,
+        payment,
+        |place| (
+            flat::sheets_at(table, place),
+            flat::fallback_at(table, place),
+        ),
+    )
 }
 
 pub fn redeem_one(table: &mut [u64], place: usize, by: u32)
@@ -98,9 +117,7 @@ pub fn redeem_due(table: &mut [u64], count: usize, by: u32)
     ensures { let trades = trades_of table.old in
         trades_of table.new ≡ over count (map (matured by) (trades_to table.old count)) trades }
 {
-    let mut i = 0;
-    while i < count {
+    for i in 0..count {
         redeem_one(table, i, by);
-        i += 1;
     }
 }

@@ -46,8 +46,6 @@ fn run_event(
         × (result.figures ≡ figures_at result.scalars held.new (trades_of table.new)) }
 {
     let entry = decoder::entry::decode(bytes);
-    let outstanding = figures.outstanding;
-    let value = figures.value;
     let done = dispatch::entry_on(
         calendar,
         scalars,
@@ -56,8 +54,8 @@ fn run_event(
         units,
         table,
         KnownFigures {
-            outstanding,
-            value: Some(value),
+            outstanding: figures.outstanding,
+            value: Some(figures.value),
         },
         entry,
     );
@@ -107,12 +105,9 @@ pub fn run_events(
         × (trades_of table.new ≡ ended.table)
         × (lines.new ≡ ended.lines) }
 {
-    let count = events.len() / EVENT_BYTES;
     let figures = figures::figures_of(calendar, scalars, &*held, &*table);
     let mut turn = Turn { scalars, figures };
-    let mut k = 0;
-    while k < count {
-        let bytes = &events[k * EVENT_BYTES..k * EVENT_BYTES + EVENT_BYTES];
+    for (k, bytes) in events.chunks_exact(EVENT_BYTES).enumerate() {
         turn = run_event(
             calendar,
             bytes,
@@ -125,7 +120,6 @@ pub fn run_events(
             lines,
             k * LINE_NUMBERS,
         );
-        k += 1;
     }
     turn.scalars
 }

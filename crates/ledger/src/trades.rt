@@ -1,5 +1,5 @@
 // What is counted and tested over the trades in use.
-ghost use Rattle.std.specs.Prelude.{◌≡◌, ◌<◌, ◌≤◌, max, length, replicate};
+ghost use Rattle.std.specs.Prelude.{◌≡◌, ◌<◌, ◌≤◌, length, replicate};
 ghost use Rattle.rules.specs.Limits.{capacity_limit};
 ghost use Rattle.rules.specs.Trades.{outstanding, differ};
 ghost use Rattle.rules.specs.Fit.{trade_fit};
@@ -29,35 +29,25 @@ const MANY_BUCKETS: usize = 32_749;
 const PRODUCTS: u64 = PRODUCT_LIMIT as u64;
 
 // O, the sheets left on the table.
-#[tactic(auto, using(rules::proofs::TradeLaws::sheets_of), unfolding(rules::specs::Trades::outstanding, money::specs::Causes::first_of))]
 pub fn outstanding_of(table: &[u64], count: usize) -> Sheets
     requires { Kept table.now count }
     ensures { result.0 ≡ outstanding (trades_to table.now count) }
 {
-    let mut sum = 0;
-    let mut place = 0;
-    while place < count {
-        let left = flat::sheets_at(table, place);
-        sum += left.0;
-        place += 1;
-    }
-    Sheets(sum)
+    Sheets(
+        (0..count)
+            .map(|place| flat::sheets_at(table, place).0)
+            .sum(),
+    )
 }
 
 // Where a contract's trade stands, or the count where it is not on the table.
-#[tactic(auto, using(crate::proofs::PlaceLaws::place_found))]
 pub fn place_of(table: &[u64], count: usize, contract: Contract) -> usize
     requires { HasSlots table.now count }
     ensures { result ≡ place_of contract (trades_to table.now count) }
 {
-    let mut i = 0;
-    while i < count {
-        if flat::same_contract(flat::contract_at(table, i), contract) {
-            return i;
-        }
-        i += 1;
-    }
-    count
+    (0..count)
+        .position(|place| flat::same_contract(flat::contract_at(table, place), contract))
+        .unwrap_or(count)
 }
 
 // No contract stands before its own place: each is searched, which for few trades is as fast as to sort.
@@ -65,25 +55,15 @@ fn few_differ(table: &[u64], count: usize) -> bool
     requires { HasSlots table.now count }
     ensures { result ≡ differ (trades_to table.now count) }
 {
-    let mut i = 0;
-    while i < count {
-        if place_of(table, i, flat::contract_at(table, i)) < i {
-            return false;
-        }
-        i += 1;
-    }
-    true
+    (0..count).all(|place| place_of(table, place, flat::contract_at(table, place)) == place)
 }
 
 fn contract_numbers(table: &[u64], count: usize, numbers: &mut [u64])
     requires { (HasSlots table.now count) × (length numbers.old ≡ count) }
     ensures { numbers.new ≡ contract_numbers (trades_to table.now count) }
 {
-    let mut i = 0;
-    while i < count {
-        let contract = flat::contract_at(table, i);
-        numbers[i] = contract.0;
-        i += 1;
+    for (place, number) in numbers.iter_mut().enumerate() {
+        *number = flat::contract_at(table, place).0;
     }
 }
 
@@ -107,36 +87,17 @@ fn sorted_differ(table: &[u64], count: usize) -> bool
 }
 
 // By chains, which most contracts keep short; where they do not, sorted.
-fn chains_differ(table: &[u64], count: usize, buckets: usize, heads: &mut [u16]) -> bool
-    requires { (HasSlots table.now count)
-        × (count ≤ capacity_limit)
-        × (0 < buckets)
-        × (buckets ≤ most_buckets)
-        × (heads.old ≡ replicate buckets 0) }
+fn chains_differ<const BUCKETS: usize>(table: &[u64], count: usize) -> bool
+    requires { (HasSlots table.now count) × (count ≤ capacity_limit) × (0 < BUCKETS) × (BUCKETS ≤ most_buckets) }
     ensures { result ≡ differ (trades_to table.now count) }
 {
+    let mut heads: [u16; BUCKETS] = [0; BUCKETS];
     let mut next: [u16; CAPACITY_LIMIT] = [0; CAPACITY_LIMIT];
-    match chains::linked_differ(table, count, buckets, heads, &mut next) {
+    match chains::linked_differ(table, count, BUCKETS, &mut heads, &mut next) {
         ChainResult::Differs => true,
         ChainResult::Repeats => false,
         ChainResult::TooLong => sorted_differ(table, count),
     }
-}
-
-fn some_differ(table: &[u64], count: usize) -> bool
-    requires { (HasSlots table.now count) × (count ≤ capacity_limit) }
-    ensures { result ≡ differ (trades_to table.now count) }
-{
-    let mut heads: [u16; SOME_BUCKETS] = [0; SOME_BUCKETS];
-    chains_differ(table, count, SOME_BUCKETS, &mut heads)
-}
-
-fn many_differ(table: &[u64], count: usize) -> bool
-    requires { (HasSlots table.now count) × (count ≤ capacity_limit) }
-    ensures { result ≡ differ (trades_to table.now count) }
-{
-    let mut heads: [u16; MANY_BUCKETS] = [0; MANY_BUCKETS];
-    chains_differ(table, count, MANY_BUCKETS, &mut heads)
 }
 
 // No contract stands twice.
@@ -145,41 +106,23 @@ pub fn contracts_differ(table: &[u64], count: usize) -> bool
     ensures { result ≡ differ (trades_to table.now count) }
 {
     if count <= FEW {
-        return few_differ(table, count);
+        few_differ(table, count)
+    } else if count <= SOME {
+        chains_differ::<SOME_BUCKETS>(table, count)
+    } else {
+        chains_differ::<MANY_BUCKETS>(table, count)
     }
-    if count <= SOME {
-        return some_differ(table, count);
-    }
-    many_differ(table, count)
 }
 
-#[tactic(auto, unfolding(rules::specs::Folds::every, money::specs::Causes::first_of))]
+#[tactic(auto, unfolding(rules::specs::Folds::every))]
 fn trade_fits(table: &[u64], place: usize) -> bool
     requires { HasSlot table.now place }
     ensures { result ≡ trade_fit (trade_at table.now place) }
 {
-    let left = flat::sheets_at(table, place);
-    if left.0 > TRADE_LIMIT {
-        return false;
-    }
-    let price = flat::price_at(table, place);
-    if price.0 > PRICE_LIMIT {
-        return false;
-    }
-    let fallback = flat::fallback_at(table, place);
-    if fallback.0 > PRICE_LIMIT {
-        return false;
-    }
-    flat::product_at(table, place) <= PRODUCTS
-}
-
-fn later(a: u32, b: u32) -> u32
-    ensures { result ≡ max a b }
-{
-    if a < b {
-        return b;
-    }
-    a
+    flat::sheets_at(table, place).0 <= TRADE_LIMIT
+        && flat::price_at(table, place).0 <= PRICE_LIMIT
+        && flat::fallback_at(table, place).0 <= PRICE_LIMIT
+        && flat::product_at(table, place) <= PRODUCTS
 }
 
 // What one walk tells: whether each trade is within its limits, and if so O and the latest first payment day.
@@ -190,15 +133,15 @@ pub struct Summary {
     pub latest: u32,
 }
 
-#[tactic(auto, using(rules::proofs::TradeLaws::sheets_of, crate::proofs::FlatLaws::all_none, crate::proofs::FlatLaws::all_more, crate::proofs::RedemptionLaws::within_of), unfolding(rules::specs::Trades::outstanding, money::specs::Causes::first_of))]
+#[tactic(auto, using(rules::proofs::TradeLaws::sheets_of, crate::proofs::FlatLaws::all_none, crate::proofs::FlatLaws::all_more, crate::proofs::RedemptionLaws::within_of), unfolding(rules::specs::Trades::outstanding))]
 pub fn summary_of(table: &[u64], count: usize) -> Summary
     requires { (HasSlots table.now count) × (count ≤ capacity_limit) }
     ensures { result ≡ summary_of (trades_to table.now count) }
 {
+    // One walk: a chain for each figure would go over the table three times.
     let mut outstanding = 0;
     let mut latest = 0;
-    let mut i = 0;
-    while i < count {
+    for i in 0..count {
         if !trade_fits(table, i) {
             return Summary {
                 fit: false,
@@ -208,8 +151,7 @@ pub fn summary_of(table: &[u64], count: usize) -> Summary
         }
         let left = flat::sheets_at(table, i);
         outstanding += left.0;
-        latest = later(latest, flat::first_at(table, i));
-        i += 1;
+        latest = latest.max(flat::first_at(table, i));
     }
     Summary {
         fit: true,

@@ -1,9 +1,6 @@
-use Rattle.std.proofs.Common.{◌≤◌, ◌-◌}
+use Rattle.std.proofs.Common.{◌≤◌}
 use Rattle.ledger.proofs.ChainLaws.{Ahead}
 use Rattle.ledger.proofs.chains.look_along.Given as goal
 
-abbrev pub invariant-loop-link : goal.invariant-loop-link
-invariant-loop-link l = (l.link ≤ l.from) × (l.steps ≤ 64) × (Ahead l.table l.next l.from l.fn.contract l.link)
-
-abbrev pub decreases-loop-link : goal.decreases-loop-link
-decreases-loop-link l = 64 - l.steps
+abbrev pub invariant-loop : goal.invariant-loop
+invariant-loop l = (l.link ≤ l.from) × (Ahead l.table l.next l.from l.fn.contract l.link)

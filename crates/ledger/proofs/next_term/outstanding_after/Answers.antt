@@ -1,31 +1,24 @@
 use Rattle.std.specs.Prelude.{◌≡◌, true}
-use mathlib.Core.Path.{ap}
 use native.Mathlib.Omega.{arith}
 use borrow.Author.Rules.{rules}
-use borrow.Author.Tests.{not-true, not-false}
 use Rattle.rules.specs.NextTerm.{starts}
 use Rattle.ledger.specs.Flat.{trade_at}
 use Rattle.ledger.proofs.RedemptionLaws.{kept-within}
 use Rattle.ledger.proofs.FlatLaws.{all-below}
-use Rattle.ledger.proofs.StartLaws.{no_more, with-at-most, none-started, started-more}
-use Rattle.std.specs.Prelude.{not}
+use Rattle.ledger.proofs.StartLaws.{with-at-most, none-started, started-more}
 use Rattle.ledger.proofs.next_term.outstanding_after.Goals as goal
-
-pub returns-then-not-may_start : goal.returns-then-not-may_start
-returns-then-not-may_start c book met =
-    no_more _ book (met.none (not-true _ (ap not c.if-not-may_start.true))) _ _ c.requires.1.within
 
 pub loop-place-init : goal.loop-place-init
 loop-place-init c =
-    (omega arith, omega arith, λ book met. none-started _ book _ _)
+    (omega arith, λ book met. none-started _ book _ _)
 
 pub with_started-sum-requires : goal.with_started-sum-requires
 with_started-sum-requires c =
-    let may-start : c.args.closing.may_start ≡ true = not-false _ (ap not c.if-not-may_start.false) in
+    let may-start : c.args.closing.may_start ≡ true = search rules in
     let kept = c.requires.1 in (
       c.requires.0,
       record { slot = omega (arith, kept.room); fits = all-below _ _ _ _ c.loop-place-test.true kept.within },
-      omega (arith, c.loop-place.invariant.1, c.requires.2, kept.few),
+      omega (arith, c.loop-place.invariant.0, c.requires.2, kept.few),
       may-start,
     )
 
@@ -34,12 +27,6 @@ loop-place-preserved c =
     let some = c.requires.0 in
     let trade = trade_at c.args.table.now c.loop-place.place in
     let within = kept-within _ _ c.requires.1 c.loop-place.place c.loop-place-test.true in (
-      search rules,
-      omega (arith, c.loop-place.invariant.1, c.with_started-sum.ensures some.book some.met, with-at-most (starts c.args.calendar.now some.book c.loop-place.sum.0 trade) some.book trade c.loop-place.sum.0, within.sheets),
-      λ book met. started-more _ book _ _ _ _ _ (c.loop-place.invariant.2 book met) (c.with_started-sum.ensures book met),
+      omega (arith, c.loop-place.invariant.0, c.with_started-sum.ensures some.book some.met, with-at-most (starts c.args.calendar.now some.book c.loop-place.sum.0 trade) some.book trade c.loop-place.sum.0, within.sheets),
+      λ book met. started-more _ book _ _ _ _ _ (c.loop-place.invariant.1 book met) (c.with_started-sum.ensures book met),
     )
-
-pub returns : goal.returns
-returns c book met =
-    let e : c.loop-place.place ≡ c.args.count = omega arith in
-    rw e at (c.loop-place.invariant.2 book met)

@@ -1,4 +1,4 @@
-use Rattle.std.proofs.Common.{◌-◌, ◌≡◌, ◌+◌, ◌≤◌, ◌*◌}
+use Rattle.std.proofs.Common.{◌≡◌, ◌+◌, ◌≤◌, ◌*◌}
 use Rattle.rules.specs.NextTerm.{started_from}
 use Rattle.ledger.specs.Types.{Book}
 use Rattle.ledger.specs.Flat.{trades_to}
@@ -8,9 +8,5 @@ use Rattle.ledger.proofs.next_term.outstanding_after.Given as goal
 
 abbrev pub invariant-loop-place : goal.invariant-loop-place
 invariant-loop-place l =
-    (l.place ≤ l.count)
-    × (l.sum.0 ≤ l.initial.sum.0 + l.place * 100000000)
+    (l.sum.0 ≤ l.initial.sum.0 + l.place * 100000000)
     × ((book : Book) → Meets l.calendar book l.closing l.held → l.sum.0 ≡ l.initial.sum.0 + outstanding (started_from l.calendar book l.initial.sum.0 (trades_to l.table l.place)))
-
-abbrev pub decreases-loop-place : goal.decreases-loop-place
-decreases-loop-place l = l.count - l.place

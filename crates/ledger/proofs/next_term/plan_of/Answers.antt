@@ -65,14 +65,14 @@ outstanding_after-left-requires c =
       omega (arith, rest-within _ _ a.table.now fits _ _ c.requires.sheets matured),
     )
 
-pub overflow_sub-more : goal.overflow_sub-more
-overflow_sub-more c =
+pub overflow_sub-result : goal.overflow_sub-result
+overflow_sub-result c =
     let a = c.args in
     let met = c.closing_of-closing.ensures.0 a.calendar.now a.kinds.now a.units.now c.day_number-today.ensures c.payment_day-payment.ensures in
     omega (arith, c.outstanding_after-left.ensures _ met)
 
-pub overflow_mul-started : goal.overflow_mul-started
-overflow_mul-started c =
+pub overflow_mul-result : goal.overflow_mul-result
+overflow_mul-result c =
     let a = c.args in
     let less = a.known.outstanding.0 - c.maturity_plan-redeemed.result.sheets.0 in
     let met = c.closing_of-closing.ensures.0 a.calendar.now a.kinds.now a.units.now c.day_number-today.ensures c.payment_day-payment.ensures in

@@ -1,4 +1,4 @@
-use Rattle.std.proofs.Common.{◌-◌, ◌≡◌, ◌+◌, ◌≤◌, length, ◌*◌}
+use Rattle.std.proofs.Common.{◌≡◌, ◌+◌, ◌≤◌, length, ◌*◌}
 use Rattle.rules.specs.Trades.{over}
 use Rattle.rules.specs.NextTerm.{left_from, started_from}
 use Rattle.ledger.specs.Types.{Book}
@@ -9,12 +9,8 @@ use Rattle.ledger.proofs.next_term.settle.Given as goal
 
 abbrev pub invariant-loop-place : goal.invariant-loop-place
 invariant-loop-place l =
-    (l.place ≤ l.count)
-    × (length l.table ≡ length l.initial.table)
+    (length l.table ≡ length l.initial.table)
     × (l.sum.0 ≤ l.initial.sum.0 + l.place * 100000000)
     × ((book : Book) → Meets l.calendar book l.closing l.held
     → (l.sum.0 ≡ l.initial.sum.0 + outstanding (started_from l.calendar book l.initial.sum.0 (trades_to l.initial.table l.place)))
     × (trades_of l.table ≡ over l.place (left_from l.calendar book l.initial.sum.0 (trades_to l.initial.table l.place)) (trades_of l.initial.table)))
-
-abbrev pub decreases-loop-place : goal.decreases-loop-place
-decreases-loop-place l = l.count - l.place

@@ -1,10 +1,7 @@
-use Rattle.std.proofs.Common.{◌-◌, ◌≡◌, ◌≤◌, length}
+use Rattle.std.proofs.Common.{◌≡◌, length}
 use Rattle.ledger.specs.Flat.{trades_of}
 use Rattle.ledger.proofs.PackingLaws.{freed}
 use Rattle.ledger.proofs.packing.free_from.Given as goal
 
 abbrev pub invariant-loop-i : goal.invariant-loop-i
-invariant-loop-i l = (l.from ≤ l.i) × (l.i ≤ l.to) × (length l.table ≡ length l.initial.table) × (trades_of l.table ≡ freed l.from l.i (trades_of l.initial.table))
-
-abbrev pub decreases-loop-i : goal.decreases-loop-i
-decreases-loop-i l = l.to - l.i
+invariant-loop-i l = (length l.table ≡ length l.initial.table) × (trades_of l.table ≡ freed l.from l.i (trades_of l.initial.table))

@@ -1,10 +1,7 @@
-use Rattle.std.proofs.Common.{◌-◌, ◌≡◌, ◌≤◌, map, length}
+use Rattle.std.proofs.Common.{◌≡◌, map, length}
 use Rattle.rules.specs.Trades.{matured, over}
 use Rattle.ledger.specs.Flat.{trades_to, trades_of}
 use Rattle.ledger.proofs.redemption.redeem_due.Given as goal
 
 abbrev pub invariant-loop-i : goal.invariant-loop-i
-invariant-loop-i l = (l.i ≤ l.count) × (length l.table ≡ length l.initial.table) × (trades_of l.table ≡ over l.i (map (matured l.by) (trades_to l.initial.table l.i)) (trades_of l.initial.table))
-
-abbrev pub decreases-loop-i : goal.decreases-loop-i
-decreases-loop-i l = l.count - l.i
+invariant-loop-i l = (length l.table ≡ length l.initial.table) × (trades_of l.table ≡ over l.i (map (matured l.by) (trades_to l.initial.table l.i)) (trades_of l.initial.table))

@@ -1,60 +1,36 @@
-use Rattle.std.specs.Prelude.{◌≡◌, ◌+◌, ◌-◌, ◌*◌, take, drop}
-use mathlib.Core.Path.{refl, ap, ◌∙◌}
+use Rattle.std.specs.Prelude.{◌≡◌, ◌*◌, ◌++◌, length, drop}
+use mathlib.Core.Path.{refl, sym, ap, ◌∙◌}
 use native.Mathlib.Omega.{arith}
-use Rattle.ledger.proofs.RunLaws.{none-run, next-run, all-run}
+use Rattle.std.specs.Slice.Iter.{chunks_exact_rest}
+use Rattle.std.specs.Iterator.Adapters.{enumerate_source, enumerate_count}
+use Rattle.ledger.proofs.RunLaws.{part-taken, rest-dropped, one-more-whole, none-whole, next-run, all-run}
 use Rattle.ledger.proofs.run.run_events.Goals as goal
-
-pub figures_of-figures-requires : goal.figures_of-figures-requires
-figures_of-figures-requires c =
-    record { kinds = c.args.kinds.now; units = c.args.units.now; held-long = c.requires.0.held-long; few = c.requires.0.few; fits = c.requires.0.fits }
-
-pub loop-k-init : goal.loop-k-init
-loop-k-init c =
-    (none-run _ _ _ _ _ _ c.requires.0.fits, c.requires.0.held-long, c.requires.0.kinds-long, c.requires.0.units-long, c.figures_of-figures.ensures)
-
-pub run_event-turn-requires : goal.run_event-turn-requires
-run_event-turn-requires c =
-    let inv = c.loop-k.invariant in (
-      record { held-long = inv.1; kinds-long = inv.2; units-long = inv.3; few = c.requires.0.few; fits = inv.0.fits },
-      inv.4,
-      omega (arith, inv.0.wide, c.requires.1, c.loop-k-test.true),
-    )
 
 pub loop-k-preserved : goal.loop-k-preserved
 loop-k-preserved c =
     let called = c.run_event-turn in
-    let turn = c.loop-k in
-    let inv = turn.invariant in
-    let length-40 : 40 ≡ (turn.k * 40 + 40) - turn.k * 40 = omega arith in (
-      next-run _ _ _ _ _ _ _ _ _ _ inv.0 c.loop-k-test.true (omega (arith, c.requires.1)) _
-          (ap (λ n. take n (drop (turn.k * 40) c.args.events.now)) length-40)
-          _ _ _ called.auto.table called.ensures.0 called.ensures.1 called.ensures.2,
+    let inv = c.loop-k.invariant in
+    let step = c.in-Some.ensures.steps in
+    let k = enumerate_count c.loop-k.k-iterator in
+    let events = c.args.events.now in
+    let rest = chunks_exact_rest (enumerate_source c.next.new.self) in
+    let cut : drop (k * 40) events ≡ c.in-Some.bytes.now ++ rest = sym inv.6 ∙ step.0.1.0 in
+    let whole : length c.in-Some.bytes.now ≡ 40 = step.0.1.1 ∙ inv.5 in
+    let lines = rw step.1 at called.ensures.2 in
+    rw step.2 (
+      next-run _ _ _ _ _ _ _ _ _ _ inv.0 (one-more-whole events k _ _ cut whole) (omega (arith, c.requires.1)) _
+          (part-taken events k _ _ cut whole)
+          _ _ _ called.auto.table called.ensures.0 called.ensures.1 lines,
       called.auto.held ∙ inv.1,
       called.auto.kinds ∙ inv.2,
       called.auto.units ∙ inv.3,
       called.ensures.3,
+      step.0.0 ∙ inv.5,
+      rest-dropped events k _ _ cut whole,
     )
 
 pub returns : goal.returns
 returns c =
-    all-run _ _ _ _ _ _ _ _ _ _ refl c.loop-k.invariant.0 c.loop-k-test.false (omega (arith, c.requires.1))
-
-pub overflow_mul-bytes : goal.overflow_mul-bytes
-overflow_mul-bytes c =
-    record { fits = omega (arith, c.loop-k-test.true, c.requires.1) }
-
-pub overflow_mul-bytes-in-loop-k : goal.overflow_mul-bytes-in-loop-k
-overflow_mul-bytes-in-loop-k c =
-    record { fits = omega (arith, c.loop-k-test.true, c.requires.1) }
-
-pub overflow_add-bytes : goal.overflow_add-bytes
-overflow_add-bytes c =
-    record { fits = omega (arith, c.loop-k-test.true, c.requires.1) }
-
-pub overflow_mul-k : goal.overflow_mul-k
-overflow_mul-k c =
-    record { fits = omega (arith, c.loop-k-test.true, c.requires.1) }
-
-pub overflow_add-k : goal.overflow_add-k
-overflow_add-k c =
-    omega (arith, c.loop-k-test.true, c.requires.1)
+    let inv = c.loop-k.invariant in
+    let step = c.in-None.ensures.steps in
+    all-run _ _ _ _ _ _ _ _ _ _ refl inv.0 (none-whole _ _ (omega (arith, step.0.1.0, inv.5, ap length inv.6))) (omega (arith, c.requires.1))

@@ -1,39 +1,27 @@
+use Rattle.std.proofs.lemmas.Grind.{common_steps}
 use Rattle.std.specs.Prelude.{◌≡◌, ◌≤◌, true}
 use mathlib.Core.Path.{sym, ◌∙◌}
 use native.Mathlib.Omega.{arith}
 use borrow.Author.Rules.{rules}
 use borrow.Author.Tests.{not-true, not-false}
 use Rattle.money.specs.Limits.{trade_limit}
-use Rattle.rules.specs.Trades.{outstanding}
 use Rattle.rules.specs.Fit.{trade_fit}
 use Rattle.rules.proofs.TradeLaws.{sheets_of}
 use Rattle.ledger.specs.Flat.{trade_at}
 use Rattle.ledger.proofs.FlatLaws.{all_none, all_more, all-fails, total-none, total-more}
 use Rattle.ledger.proofs.RedemptionLaws.{within_of}
-use Rattle.ledger.proofs.SummaryLaws.{latest-none, latest-more, summary-fit, summary-unfit}
+use Rattle.ledger.proofs.SummaryLaws.{latest-none, latest-more, summary-unfit}
 use mathlib.Core.Path.{ap}
 use Rattle.std.specs.Prelude.{not}
 use Rattle.ledger.proofs.trades.summary_of.Goals as goal
 
 pub loop-i-init : goal.loop-i-init
 loop-i-init c =
-    (search rules, all_none trade_fit _, sym (total-none sheets_of _), search rules, sym (latest-none _))
-
-pub trade_fits-requires : goal.trade_fits-requires
-trade_fits-requires c =
-    omega (arith, c.requires.0)
+    (all_none trade_fit _, sym (total-none sheets_of _), search rules, sym (latest-none _))
 
 pub returns-then-not-trade_fits : goal.returns-then-not-trade_fits
 returns-then-not-trade_fits c =
     sym (summary-unfit _ (all-fails trade_fit _ _ _ c.loop-i-test.true (sym c.trade_fits.ensures ∙ not-true _ (ap not c.if-not-trade_fits.true))))
-
-pub sheets_at-left-requires : goal.sheets_at-left-requires
-sheets_at-left-requires c =
-    omega (arith, c.requires.0)
-
-pub first_at-requires : goal.first_at-requires
-first_at-requires c =
-    omega (arith, c.requires.0)
 
 pub loop-i-preserved : goal.loop-i-preserved
 loop-i-preserved c =
@@ -41,22 +29,8 @@ loop-i-preserved c =
     let few : (trade_at c.args.table.now c.loop-i.i).sheets.0 ≤ trade_limit = (within_of (trade_at c.args.table.now c.loop-i.i) within).sheets in
     let inv = c.loop-i.invariant in
     let sheets = c.sheets_at-left.ensures in (
-      search rules,
-      all_more trade_fit _ _ inv.1 within,
-      rw (inv.2, sheets) (sym (total-more sheets_of _ _)),
-      rw sheets (omega (arith, few, inv.3)),
-      c.later-latest.ensures ∙ rw (inv.4, c.first_at.ensures) (sym (latest-more _ _)),
+      all_more trade_fit _ _ inv.0 within,
+      rw (inv.1, sheets) (sym (total-more sheets_of _ _)),
+      rw sheets (omega (arith, few, inv.2)),
+      grind (arith, common_steps, latest-more c.args.table.now c.loop-i.i),
     )
-
-pub returns : goal.returns
-unfolding outstanding
-returns c =
-    let inv = c.loop-i.invariant in
-    let e : c.loop-i.i ≡ c.args.count = omega arith in
-    rw (inv.2, inv.4) (rw e (sym (summary-fit _ (rw e at inv.1))))
-
-pub overflow_add-outstanding : goal.overflow_add-outstanding
-overflow_add-outstanding c =
-    let within : trade_fit (trade_at c.args.table.now c.loop-i.i) ≡ true = sym c.trade_fits.ensures ∙ not-false _ (ap not c.if-not-trade_fits.false) in
-    let few : (trade_at c.args.table.now c.loop-i.i).sheets.0 ≤ trade_limit = (within_of (trade_at c.args.table.now c.loop-i.i) within).sheets in
-    rw c.sheets_at-left.ensures (omega (arith, few, c.loop-i.invariant.3, c.loop-i-test.true, c.requires.1))

@@ -1,4 +1,4 @@
-use Rattle.std.proofs.Common.{◌-◌, ◌≡◌, ◌≤◌, ◌*◌}
+use Rattle.std.proofs.Common.{◌≡◌, ◌≤◌, ◌*◌}
 use Rattle.rules.specs.Fit.{trade_fit}
 use Rattle.ledger.specs.Flat.{trades_to}
 use Rattle.std.specs.Prelude.{true}
@@ -10,7 +10,4 @@ use Rattle.ledger.proofs.trades.summary_of.Given as goal
 
 abbrev pub invariant-loop-i : goal.invariant-loop-i
 invariant-loop-i l =
-    (l.i ≤ l.count) × (all_trades trade_fit (trades_to l.table l.i) ≡ true) × (l.outstanding ≡ total sheets_of (trades_to l.table l.i)) × (l.outstanding ≤ l.i * 100000000) × (l.latest ≡ latest_first (trades_to l.table l.i))
-
-abbrev pub decreases-loop-i : goal.decreases-loop-i
-decreases-loop-i l = l.count - l.i
+    (all_trades trade_fit (trades_to l.table l.i) ≡ true) × (l.outstanding ≡ total sheets_of (trades_to l.table l.i)) × (l.outstanding ≤ l.i * 100000000) × (l.latest ≡ latest_first (trades_to l.table l.i))
