@@ -4,4 +4,4 @@ pub use Rattle.rules.specs.declared.book.Book.{Book}
 pub use Rattle.rules.specs.declared.trade.Trade.{Trade}
 pub use Rattle.rules.specs.Entry.{Entry}
 pub use Rattle.rules.specs.declared.answer.Applied.{Applied}
-pub use Rattle.rules.specs.declared.answer.Ran.{Ran}
+pub use Rattle.rules.specs.Listing.{Ran}

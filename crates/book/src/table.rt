@@ -9,6 +9,7 @@ ghost use Rattle.ledger.specs.Flat.{HasSlots, trades_to, applied_of};
 
 use crate::{copies, numbers, refused};
 use ledger::layout::WIDTH;
+use money::refusal::Refusal;
 use rules::answer::Applied;
 use rules::book::Book;
 use rules::event::Event;
@@ -54,7 +55,12 @@ fn apply_by(
 }
 
 // With numbers of its own, of the one size that every table fits.
-fn apply_in_numbers(calendar: &[u32], book: Book, table: &mut [Trade], entry: Option<Event>) -> Applied
+fn apply_in_numbers(
+    calendar: &[u32],
+    book: Book,
+    table: &mut [Trade],
+    entry: Option<Event>,
+) -> Applied
     requires { length table.old ≤ capacity_limit }
     ensures { let next = step calendar.now book table.old entry in
         (result ≡ applied_of next)
@@ -79,7 +85,7 @@ pub fn apply(calendar: &[u32], book: Book, table: &mut [Trade], entry: Option<Ev
 {
     let slots = table.len();
     if slots > CAPACITY_LIMIT {
-        return refused::entry(1, book);
+        return refused::entry(Refusal::NotFit, book);
     }
     let used = slots_used(book, slots);
     apply_in_numbers(calendar, book, &mut table[..used], entry)

@@ -18,12 +18,12 @@ use Rattle.exports.specs.declared.codes.Codes.{Codes}
 
 -- ---- the codes that are well-formed
 
--- "a phase (Closed, Trading, Paid); a status (normal, suspended, terminated)", "a run of failed payments (0 to 2) and of short closes (0 to
--- 3)"; "the day, none at first": 1 where there is one, and its number only then
 -- there is a day, or its number is 0
 abbrev pub is_dated : (dated day : ℕ) → Bool
 is_dated dated day = every (nat_le dated 1 ∷ (dated == 1 || day == 0) ∷ [])
 
+-- "a phase (Closed, Trading, Paid); a status (normal, suspended, terminated)", "a run of failed payments (0 to 2) and of short closes (0 to
+-- 3)"; "the day, none at first": 1 where there is one, and its number only then
 unfoldable pub is_well_formed : Codes → Bool
 is_well_formed codes =
     every

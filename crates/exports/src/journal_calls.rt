@@ -3,6 +3,8 @@ ghost use Rattle.std.specs.Prelude.{◌≡◌};
 ghost use Rattle.journal.specs.Listing.{listing_text, text_after};
 ghost use Rattle.exports.specs.Journal.{answer_of};
 
+use money::refusal::Refusal;
+
 // A number of document 01, and how many bytes were written.
 #[repr(C)]
 #[derive(Clone, Copy)]
@@ -21,7 +23,7 @@ pub extern "C" fn journal_write_listing(journal: &[u8], text: &mut [u8]) -> Writ
     match journal::listing::write_listing(journal, text) {
         Some(length) => Written { number: 0, length },
         None => Written {
-            number: 14,
+            number: Refusal::PastLimit.into(),
             length: 0,
         },
     }

@@ -9,8 +9,8 @@ ghost use Rattle.exports.specs.Raw.{scalars_from, raw_of, refused, refused_run};
 
 use crate::raw;
 use crate::raw::{RawDone, RawEnded, RawScalars};
+use money::refusal::Refusal;
 use rules::answer::Cover;
-use scalars::headroom;
 
 // One event, as its 40 bytes.
 #[unsafe(no_mangle)]
@@ -53,9 +53,9 @@ pub extern "C" fn lent_cover(
         result ≡ (if is_well_formed raw.codes then cover_in calendar.now before else cover_refused) }
 {
     let Some(scalars) = raw::scalars_from(raw) else {
-        return headroom::cover_refused();
+        return Err(Refusal::NotFit).into();
     };
-    ledger::lent::cover(calendar, scalars, held, kinds, units, table)
+    ledger::lent::cover(calendar, scalars, held, kinds, units, table).into()
 }
 
 // Encoded events, 40 bytes each, and a line of seven numbers for each.

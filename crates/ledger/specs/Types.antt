@@ -23,5 +23,5 @@ pub use Rattle.rules.specs.declared.event.Event.TheVariants.{Open, FundIn, FundO
 pub use Rattle.rules.specs.Entry.{Entry}
 pub use Rattle.std.specs.Prelude.{Some, None}
 pub use Rattle.rules.specs.declared.answer.Applied.{Applied}
-pub use Rattle.rules.specs.declared.answer.Ran.{Ran}
+pub use Rattle.rules.specs.Listing.{Ran}
 pub use Rattle.rules.specs.declared.answer.Cover.{Cover}

@@ -6,7 +6,7 @@ ghost use Rattle.rules.specs.Vault.{headroom_of};
 
 use crate::figures::Figures;
 use money::units::{Sheets, SignedSheets};
-use rules::answer::Cover;
+use rules::answer::Covered;
 use scalars::headroom;
 
 // The smaller of S and V, less O.
@@ -22,13 +22,12 @@ fn headroom_from(size: Sheets, value: Sheets, outstanding: Sheets) -> SignedShee
 }
 
 // From O and V.
-pub fn cover_from(size: Sheets, figures: Figures) -> Cover
+pub fn cover_from(size: Sheets, figures: Figures) -> Covered
     requires { (size.0 ≤ size_limit) × (figures.outstanding.0 ≤ size_limit) }
     ensures { let headroom = headroom_of size.0 figures.value.0 figures.outstanding.0 in
-        result ≡ record { number = 0; headroom = signed_sheets headroom; outstanding = figures.outstanding } }
+        result ≡ record { headroom = signed_sheets headroom; outstanding = figures.outstanding } }
 {
-    Cover {
-        number: 0,
+    Covered {
         headroom: headroom_from(size, figures.value, figures.outstanding),
         outstanding: figures.outstanding,
     }

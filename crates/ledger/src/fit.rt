@@ -138,7 +138,7 @@ fn others_fit(
     day_fit(calendar, standing, count, latest)
 }
 
-// The tests of a table with room for its trades, from what one walk over these summary.
+// The tests of a table with room for its trades, with what one walk over these tells.
 #[tactic(auto, using(crate::proofs::Fitting::fitting, crate::proofs::Fitting::refuted, crate::proofs::Fitting::upheld))]
 fn is_fit(
     calendar: &[u32],

@@ -5,6 +5,7 @@ ghost use Rattle.money.specs.Causes.{first_of, number_of, refusal_of};
 ghost use Rattle.std.specs.Result.{result_unwrap_or};
 ghost use Rattle.rules.specs.Trades.{no_trade};
 ghost use Rattle.rules.specs.Step.{outcome, accepted};
+ghost use Rattle.rules.specs.Cover.{cover_told};
 ghost use Rattle.rules.specs.Listing.{length_causes};
 ghost use Rattle.ledger.specs.Flat.{width, capacity, trades_of};
 ghost use Rattle.ledger.specs.Figures.{outstanding_at, IsFitWith};
@@ -15,13 +16,13 @@ use crate::layout::HELD_LENGTH;
 use crate::{cover, dispatch, figures, fit, flat, layout, run};
 use money::refusal::Refusal;
 use money::units::Sheets;
-use rules::answer::Cover;
+use rules::answer::Covered;
 use rules::event::Event;
 use rules::limits::{APPLICATION_LIMIT, EVENT_BYTES, EVENT_LIMIT, LINE_NUMBERS};
 use rules::trade::Trade;
 use scalars::done::Done;
 use scalars::state::Scalars;
-use scalars::{done, headroom, state};
+use scalars::{done, state};
 
 #[tactic(auto, unfolding(crate::specs::Lent::is_whole, money::specs::Causes::first_of))]
 fn is_whole(scalars: Scalars, held: &[u64], kinds: &[u8], units: &[u64], table: &[u64]) -> bool
@@ -105,15 +106,15 @@ pub fn cover(
     kinds: &[u8],
     units: &[u64],
     table: &[u64],
-) -> Cover
+) -> Result<Covered, Refusal>
     ensures { let before = lent scalars held.now kinds.now units.now table.now in
-        result ≡ cover_in calendar.now before }
+        cover_told result ≡ cover_in calendar.now before }
 {
     let Some(_) = fitness_in(calendar, scalars, held, kinds, units, table) else {
-        return headroom::cover_refused();
+        return Err(Refusal::NotFit);
     };
     let figures = figures::figures_of(calendar, scalars, held, table);
-    cover::cover_from(scalars.size, figures)
+    Ok(cover::cover_from(scalars.size, figures))
 }
 
 // The lent lengths: room for the events' lines, whole events, and no more than a journal's.

@@ -6,7 +6,6 @@ use Rattle.money.specs.Limits.{calendar_limit}
 use Rattle.money.specs.Causes.{Cause, ◌⇒◌, first_of}
 use Rattle.money.specs.Days.{Calendar}
 use Rattle.rules.specs.Book.{Book, fresh_book}
-use Rattle.rules.specs.declared.answer.Ran.{Ran}
 use Rattle.rules.specs.Trades.{Trade, no_trade}
 use Rattle.rules.specs.Vault.{outstanding_of, headroom}
 use Rattle.rules.specs.Entry.{Entry, event_bytes, decoded}
@@ -78,6 +77,11 @@ written_by none lines buffer = lines ++ drop (length lines) buffer
 written_by (some number) lines buffer = buffer
 
 -- ---- the same on any book and any table
+
+-- a run's number, 0 if it is done, and the book after its last event
+pub record Ran : Type 0 where
+  pub number : ℕ
+  pub book : Book
 
 -- what a run leaves: its number and the book, the table, and the lent buffer
 pub record RunOutcome : Type 0 where

@@ -1,5 +1,9 @@
 // What a call answers.
+ghost use Rattle.std.specs.Prelude.{◌≡◌};
+ghost use Rattle.rules.specs.Cover.{cover_told};
+
 use crate::book::Book;
+use money::refusal::Refusal;
 use money::units::{Sheets, SignedSheets};
 
 // The number; of an accepted Close also the sheets matured and the applications done and dropped, of any other 0.
@@ -19,19 +23,37 @@ pub struct Applied {
     pub book: Book,
 }
 
-// What a run of encoded events leaves beside the table and its lines: 0 and the book after the last event, or the number
-// of what refuses the run and the book as it was.
+// Headroom and O of a fit book.
 #[derive(Clone, Copy)]
-pub struct Ran {
-    pub number: u8,
-    pub book: Book,
+pub struct Covered {
+    pub headroom: SignedSheets,
+    pub outstanding: Sheets,
 }
 
-// Headroom and O of a book: the number, and beside a refusal 0 for both.
+// The same as C has them: 0 beside them, or the refusal's number beside 0 for both.
 #[repr(C)]
 #[derive(Clone, Copy)]
 pub struct Cover {
     pub number: u8,
     pub headroom: SignedSheets,
     pub outstanding: Sheets,
+}
+
+impl From<Result<Covered, Refusal>> for Cover {
+    ghost from_gives = { λ answer cover. cover ≡ cover_told answer };
+
+    fn from(answer: Result<Covered, Refusal>) -> Cover {
+        match answer {
+            Ok(covered) => Cover {
+                number: 0,
+                headroom: covered.headroom,
+                outstanding: covered.outstanding,
+            },
+            Err(refusal) => Cover {
+                number: refusal.into(),
+                headroom: SignedSheets(0),
+                outstanding: Sheets(0),
+            },
+        }
+    }
 }

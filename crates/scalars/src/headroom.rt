@@ -3,10 +3,8 @@ ghost use Rattle.std.specs.Prelude.{◌≡◌, min, pos};
 ghost use Rattle.std.specs.Int.Signed.{lt_z};
 ghost use Rattle.rules.specs.Vault.{headroom_of};
 ghost use Rattle.rules.specs.Close.{claims_of, covers};
-ghost use Rattle.rules.specs.Cover.{cover_refused};
 
-use money::units::{Fen, SHEET_FEN, Sheets, SignedSheets};
-use rules::answer::Cover;
+use money::units::{Fen, SHEET_FEN, Sheets};
 
 pub fn smaller(a: Sheets, b: Sheets) -> Sheets
     ensures { result.0 ≡ min a.0 b.0 }
@@ -47,15 +45,4 @@ pub fn covers(value: Sheets, outstanding: Sheets, unpaid: Fen) -> bool
         return whole <= spare;
     }
     whole < spare
-}
-
-// What is answered of a book that is not fit.
-pub fn cover_refused() -> Cover
-    ensures { result ≡ cover_refused }
-{
-    Cover {
-        number: 1,
-        headroom: SignedSheets(0),
-        outstanding: Sheets(0),
-    }
 }

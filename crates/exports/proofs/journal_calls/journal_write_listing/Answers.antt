@@ -25,4 +25,4 @@ returns-in-Some c = (ap told c.in-Some.ensures.0 ∙ answered _ _, c.in-Some.ens
 
 pub returns-in-None : goal.returns-in-None
 unfolding told
-returns-in-None c = (ap told c.in-None.ensures.0 ∙ answered _ _, c.in-None.ensures.1)
+returns-in-None c = rw c.into.ensures (ap told c.in-None.ensures.0 ∙ answered _ _, c.in-None.ensures.1)

@@ -1,4 +1,7 @@
-use mathlib.Core.Path.{sym, ◌∙◌}
+use Rattle.std.specs.Prelude.{Ok}
+use mathlib.Core.Path.{sym, ap, ◌∙◌}
+use Rattle.rules.specs.declared.answer.Covered.{Covered}
+use Rattle.rules.specs.Cover.{cover_told}
 use native.Mathlib.Omega.{arith}
 use Rattle.rules.proofs.FitParts.{fit_parts}
 use Rattle.ledger.proofs.StepLaws.{not-unfit}
@@ -8,7 +11,7 @@ use Rattle.ledger.proofs.LentLaws.{fit-in, refused-cover, by-cover}
 use Rattle.ledger.proofs.lent.cover.Goals as goal
 
 pub returns-in_default : goal.returns-in_default
-returns-in_default c = c.cover_refused.ensures ∙ sym (refused-cover _ _ (rw c.in_default.is at c.fitness_in.ensures))
+returns-in_default c = sym (refused-cover _ _ (rw c.in_default.is at c.fitness_in.ensures))
 
 pub figures_of-figures-requires : goal.figures_of-figures-requires
 figures_of-figures-requires c =
@@ -24,6 +27,6 @@ cover_from-requires c =
 pub returns : goal.returns
 returns c =
     let found = fit-in _ _ c.in-Some.ensures.0 in
-    c.cover_from.ensures
+    ap (λ (covered : Covered). cover_told (Ok covered)) c.cover_from.ensures
     ∙ counted-from _ _ _ c.figures_of-figures.ensures
     ∙ sym (by-cover _ _ found.whole ∙ fit-cover _ _ _ (not-unfit _ _ _ found.fits found.few))
