@@ -46,7 +46,7 @@ pub fn place_of(table: &[u64], count: usize, contract: Contract) -> usize
     ensures { result ≡ place_of contract (trades_to table.now count) }
 {
     (0..count)
-        .position(|place| flat::same_contract(flat::contract_at(table, place), contract))
+        .position(|place| flat::contract_at(table, place) == contract)
         .unwrap_or(count)
 }
 
