@@ -1,6 +1,6 @@
 -- A column of tests against the list that `every` asks, test by test: a ruleset that search follows down the column.
 -- The code asks them of the flat table, the definitions of the table. Assumes nothing.
-use Rattle.std.specs.Prelude.{◌≡◌, ℕ, Bool, true, false, not, List, [], ◌∷◌, take}
+use Rattle.std.specs.Prelude.{◌≡◌, ℕ, Bool, true, false, not, cond, List, [], ◌∷◌, take}
 use mathlib.Core.Path.{refl, sym, ap, ◌∙◌}
 use borrow.Author.Tests.{not-true, not-false}
 use Rattle.money.specs.Days.{Calendar}
@@ -57,3 +57,16 @@ by-flat-tests calendar book table r e = e ∙ by-capacity (capacity_fit book.tra
     by-capacity : (first : Bool) → capacity_fit book.trades (trades_of table) ≡ first → tests first (trades_to table book.trades) ≡ tests first (take book.trades (trades_of table))
     by-capacity true h = ap (tests true) (sym (in-use-of table book.trades (capacity-fits book.trades (trades_of table) h)))
     by-capacity false h = refl
+
+-- where a trade is past its limits, the tests before do not count
+pub unfit-trades : (calendar : Calendar) (book : Book) (table : List ℕ) → all_trades trade_fit (trades_to table book.trades) ≡ false → fit calendar book (trades_of table) ≡ false
+unfolding every
+unfit-trades calendar book table e =
+    sym (by-flat-tests calendar book table false
+    (rw e (either (capacity_fit book.trades (trades_of table)) (securities_fit book.vault) (cash_fit book.cash book.vault.guarantee))))
+  where
+    either : (room vault cash : Bool) → false ≡ cond room (cond vault (cond cash false false) false) false
+    either true true true = refl
+    either true true false = refl
+    either true false cash = refl
+    either false vault cash = refl

@@ -1,6 +1,6 @@
 -- Next terms over the flat table: which start by the code's tests, the record that starts, and what a plan and a writing pass make of one trade
 -- more. For the functions of next_term.rt, and for Close. Assumes nothing.
-use Rattle.std.specs.Prelude.{◌≡◌, ℕ, zero, suc, ◌+◌, ◌<◌, ◌≤◌, Bool, true, false, cond, not, eqb, List, [], ◌∷◌, map, length, drop, set, pos}
+use Rattle.std.specs.Prelude.{◌≡◌, ℕ, zero, suc, ◌+◌, ◌<◌, ◌≤◌, Bool, true, false, cond, not, eqb, List, [], ◌∷◌, map, length, drop, set, pos, Option}
 use mathlib.Core.Path.{refl, sym, ap, ◌∙◌}
 use native.Mathlib.Omega.{arith}
 use borrow.Author.Tests.{eq-eqb, ne_eqb, lt-leb, le-ltb}
@@ -8,6 +8,7 @@ use lib.Seq.{drop_at}
 use lib.Signed.{lt_z}
 use Rattle.money.specs.declared.units.Sheets.{Sheets}
 use Rattle.money.specs.Units.{sheets}
+use Rattle.money.specs.Limits.{calendar_limit, term_limit}
 use Rattle.money.specs.Days.{Calendar, at_or_after}
 use Rattle.money.proofs.TwoTests.{both}
 use Rattle.rules.specs.Folds.{every}
@@ -23,9 +24,9 @@ use Rattle.rules.proofs.FitParts.{PostingFits, postings-fit}
 use Rattle.rules.proofs.KeepsFit.{none-posted-fits}
 use Rattle.rules.proofs.TradeLaws.{maturing-le}
 use Rattle.rules.proofs.NextTermTurns.{left-more, outstanding-more, left-matured}
-use Rattle.ledger.specs.Types.{Book, Posting, Contract, Trade}
-use Rattle.ledger.specs.Flat.{trade_at, trades_to, capacity, trades_of, posting_in, postings_of}
-use Rattle.ledger.specs.NextTerm.{Closing, Meets}
+use Rattle.ledger.specs.Types.{Book, Posting, Contract, Trade, Some, None}
+use Rattle.ledger.specs.Flat.{trade_at, trades_to, capacity, trades_of, posting_in, postings_of, held_length}
+use Rattle.ledger.specs.NextTerm.{Closing, Meets, MeetsWhere, RenewableWhere}
 use Rattle.ledger.proofs.SumLaws.{test-fails, test-holds}
 use Rattle.ledger.proofs.Fitting.{last-test}
 use Rattle.ledger.proofs.Column.{second_holds, neither-holds}
@@ -113,39 +114,37 @@ module _ (calendar : Calendar) (book : Book) (closing : Closing) (held : List �
     due : not (eqb (maturing (today book) trade) 0) ≡ true
     due = ap not (ne_eqb (maturing (today book) trade) 0 (λ z. some (same-sheets ∙ z)))
 
-    module _ (may : closing.may_start ≡ true) where
-      pub not-posted : term ≡ 0 → false ≡ starts calendar book o trade
+    pub not-posted : term ≡ 0 → false ≡ starts calendar book o trade
+    unfolding starts
+    not-posted e =
+        test-holds _ _ _ due
+        (test-holds _ _ _ met.normal (test-fails _ _ (ap not (eq-eqb (posting_at book.postings trade.product).term 0 (sym same-term ∙ e)))))
+
+    module _ (posted : term ≡ 0 → ⊥) where
+      is-posted : is_posted (posting_at book.postings trade.product) ≡ true
+      is-posted = ap not (ne_eqb (posting_at book.postings trade.product).term 0 (λ z. posted (same-term ∙ z)))
+
+      pub no-maturity : followed calendar (at_or_after calendar (closing.today + term)) ≡ false → false ≡ starts calendar book o trade
       unfolding starts
-      not-posted e =
+      no-maturity e =
+          let due-day = today book + (posting_at book.postings trade.product).term in
+          let late : bad_due calendar (today book) due-day ≡ true = second_holds (off_term (today book) due-day) (ap not (rw (met.today, same-term) at e)) in
           test-holds _ _ _ due
-          (test-holds _ _ _ (met.normal may) (test-fails _ _ (ap not (eq-eqb (posting_at book.postings trade.product).term 0 (sym same-term ∙ e)))))
+          (test-holds _ _ _ met.normal (test-holds _ _ _ is-posted (test-fails _ _ (ap not late))))
 
-      module _ (posted : term ≡ 0 → ⊥) where
-        is-posted : is_posted (posting_at book.postings trade.product) ≡ true
-        is-posted = ap not (ne_eqb (posting_at book.postings trade.product).term 0 (λ z. posted (same-term ∙ z)))
-
-        pub no-maturity : followed calendar (at_or_after calendar (closing.today + term)) ≡ false → false ≡ starts calendar book o trade
-        unfolding starts
-        no-maturity e =
-            let due-day = today book + (posting_at book.postings trade.product).term in
-            let late : bad_due calendar (today book) due-day ≡ true = second_holds (off_term (today book) due-day) (ap not (rw (met.today, same-term) at e)) in
-            test-holds _ _ _ due
-            (test-holds _ _ _ (met.normal may) (test-holds _ _ _ is-posted (test-fails _ _ (ap not late))))
-
-        pub by-headroom : term ≤ 365 → followed calendar (at_or_after calendar (closing.today + term)) ≡ true
-            → (lacks : Bool) → lacks ≡ lt_z (headroom_of closing.size.0 closing.value.0 o) (pos (maturing closing.today trade)) → not lacks ≡ starts calendar book o trade
-        unfolding starts
-        by-headroom short e lacks asked =
-            let found = rw (met.today, same-term) at e in
-            let due-day = today book + (posting_at book.postings trade.product).term in
-            let on-term = neither-holds (lt-leb due-day (today book) (omega (arith, posted, same-term))) (le-ltb (today book + 365) due-day (omega (arith, short, same-term))) in
-            let v = met.value may in
-            let told : lacks ≡ lt_z (headroom_of book.size.0 (value book.vault) o) (pos (maturing (today book) trade)) = asked ∙ rw (met.size, v, same-sheets) in
-            test-holds _ _ _ due
-            (test-holds _ _ _ (met.normal may)
-            (test-holds _ _ _ is-posted
-            (test-holds _ _ _ (ap not (neither-holds on-term (ap not found)))
-            (last-test _ _ (ap not told)))))
+      pub by-headroom : term ≤ 365 → followed calendar (at_or_after calendar (closing.today + term)) ≡ true
+          → (lacks : Bool) → lacks ≡ lt_z (headroom_of closing.size.0 closing.value.0 o) (pos (maturing closing.today trade)) → not lacks ≡ starts calendar book o trade
+      unfolding starts
+      by-headroom short e lacks asked =
+          let found = rw (met.today, same-term) at e in
+          let due-day = today book + (posting_at book.postings trade.product).term in
+          let on-term = neither-holds (lt-leb due-day (today book) (omega (arith, posted, same-term))) (le-ltb (today book + 365) due-day (omega (arith, short, same-term))) in
+          let told : lacks ≡ lt_z (headroom_of book.size.0 (value book.vault) o) (pos (maturing (today book) trade)) = asked ∙ rw (met.size, met.value, same-sheets) in
+          test-holds _ _ _ due
+          (test-holds _ _ _ met.normal
+          (test-holds _ _ _ is-posted
+          (test-holds _ _ _ (ap not (neither-holds on-term (ap not found)))
+          (last-test _ _ (ap not told)))))
 
   -- the record that starts is the next term
   pub next-term-is : term_from trade closing.today closing.payment (postings_of held) ≡ next_term calendar book trade
@@ -201,6 +200,13 @@ module _ (calendar : Calendar) (book : Book) (o : ℕ) (s t : List ℕ) (place :
       ∙ rw (trade-to-come h, now, written) (over-set place (left_from calendar book o l) (trades_of s) slot (left-long calendar book o s place) (omega (arith, length-trades s (capacity s))))
       ∙ ap (λ (slots : List Trade). over (place + 1) slots (trades_of s))
       (sym (left-more calendar book o l here) ∙ ap (left_from calendar book o) (sym (one_more s place)))
+
+-- what may be relied on of a Close, from a fit book
+pub renewable-where : (calendar : Calendar) (book : Book) (held : List ℕ) (closing : Option Closing) → MeetsWhere calendar book closing held
+    → length calendar ≤ calendar_limit → length held ≡ held_length → postings_fit (postings_of held) ≡ true → today book < term_limit → RenewableWhere calendar closing held
+renewable-where calendar book held (Some closing) met few long posted day =
+    record { book = book; met = met; few = few; held-long = long; posted = posted; day = omega (arith, met.today, day) }
+renewable-where calendar book held None met few long posted day = record {}
 
 -- where none may start, none does, and the trades stay matured
 module _ (calendar : Calendar) (book : Book) (none : (o : ℕ) (trade : Trade) → trade.product ≤ product_limit → starts calendar book o trade ≡ false) where

@@ -78,7 +78,7 @@ unfoldable pub latest_first : List Trade → ℕ
 latest_first [] = 0
 latest_first (trade ∷ trades) = max trade.first (latest_first trades)
 
-abbrev pub summary_of : List Trade → Summary
+-- and nothing where a trade is past its limits
+abbrev pub summary_of : List Trade → Option Summary
 summary_of trades =
-    cond (all_trades trade_fit trades) (record { fit = true; outstanding = sheets (outstanding trades); latest = latest_first trades })
-    (record { fit = false; outstanding = sheets 0; latest = 0 })
+    cond (all_trades trade_fit trades) (Some (record { outstanding = sheets (outstanding trades); latest = latest_first trades })) None

@@ -38,7 +38,7 @@ fn look_along(table: &[u64], next: &[u16], from: usize, contract: Contract) -> C
             return ChainResult::Differs;
         }
         let place = link - 1;
-        if flat::same_contract(flat::contract_at(table, place), contract) {
+        if flat::contract_at(table, place) == contract {
             return ChainResult::Repeats;
         }
         link = next[place] as usize;

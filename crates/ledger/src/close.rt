@@ -11,7 +11,7 @@ ghost use Rattle.rules.specs.Close.{may_close, left_trades, cleared_at_close, un
 ghost use Rattle.rules.specs.Trades.{outstanding, remaining};
 ghost use Rattle.ledger.specs.Types.{Trade};
 ghost use Rattle.ledger.specs.Figures.{CountedWhole};
-ghost use Rattle.ledger.specs.NextTerm.{Planned, Renewable, most_matured};
+ghost use Rattle.ledger.specs.NextTerm.{Planned, RenewableWhere, most_matured};
 ghost use Rattle.scalars.specs.Scalars.{done_by};
 ghost use Rattle.ledger.specs.Flat.{RowsFit, Rows, vault_of, securities_of, postings_of, rows_of, book_of, evening_at, applied_at, trades_of, closed_by, table_by, Kept};
 
@@ -167,7 +167,7 @@ fn closed(
     unpaid: Unpaid,
 ) -> Done
     requires { (RowsFit scalars held.old kinds.old units.old)
-        × (Renewable calendar.now plan.closing held.old)
+        × (RenewableWhere calendar.now plan.closing held.old)
         × (Kept table.old scalars.trades)
         × (plan.outstanding.0 ≤ most_matured) }
     ensures { let book = book_of scalars (rows_of held.old kinds.old units.old) in
@@ -180,9 +180,16 @@ fn closed(
         × (trades_of table.new ≡ closed_table book remains trades)) }
 {
     let count = scalars.trades;
-    let closing = plan.closing;
     let left = plan.left;
-    next_term::settle(calendar, &*held, table, count, closing, plan.outstanding);
+    next_term::settle(
+        calendar,
+        &*held,
+        table,
+        count,
+        plan.closing,
+        plan.today,
+        plan.outstanding,
+    );
     let kept = packing::pack(table, count);
     let ended = evening_end(scalars, held, &*kinds, &*units, left, unpaid.cleared);
     clear(kinds, units);

@@ -5,7 +5,7 @@ ghost use Rattle.rules.specs.Limits.{application_limit};
 ghost use Rattle.rules.specs.Folds.{every};
 ghost use Rattle.rules.specs.Trades.{differ};
 ghost use Rattle.rules.specs.Fit.{capacity_fit, size_fit, nets_fit, sums_fit, withdrawals_fit, unopened_fit, opened_fit, day_fit, fit};
-ghost use Rattle.ledger.specs.Types.{Trade};
+ghost use Rattle.ledger.specs.Types.{Trade, Some};
 ghost use Rattle.ledger.specs.Flat.{RowsLong, rows_of, book_of, trades_to, trades_of, Kept};
 ghost use Rattle.ledger.specs.Figures.{outstanding_at, IsFitWith, latest_first, summary_of};
 
@@ -138,7 +138,7 @@ fn others_fit(
     day_fit(calendar, standing, count, latest)
 }
 
-// The tests of a table with room for its trades, with what one walk over these tells.
+// The tests of a table with room for its trades, each within its limits, from what one walk over these tells.
 #[tactic(auto, using(crate::proofs::Fitting::fitting, crate::proofs::Fitting::refuted, crate::proofs::Fitting::upheld))]
 fn is_fit(
     calendar: &[u32],
@@ -151,7 +151,7 @@ fn is_fit(
 ) -> bool
     requires { (RowsLong calendar.now held.now kinds.now units.now)
         × (capacity_fit scalars.trades (trades_of table.now) ≡ true)
-        × (summary ≡ summary_of (trades_to table.now scalars.trades)) }
+        × (summary_of (trades_to table.now scalars.trades) ≡ Some summary) }
     ensures { let book = book_of scalars (rows_of held.now kinds.now units.now) in
         let trades = trades_of table.now in
         result ≡ fit calendar.now book trades }
@@ -159,13 +159,7 @@ fn is_fit(
     if !vault::securities_fit(held) {
         return false;
     }
-    let cash = scalars.cash;
-    let guarantee = scalars.guarantee;
-    if !vault::cash_fit(cash, guarantee) {
-        return false;
-    }
-    let within = summary.fit;
-    if !within {
+    if !vault::cash_fit(scalars.cash, scalars.guarantee) {
         return false;
     }
     if !size_fit(scalars.size, summary.outstanding) {
@@ -178,7 +172,7 @@ fn is_fit(
 }
 
 // O of a book that is fit, since the test counts it.
-#[tactic(auto, using(crate::proofs::Fitting::fitting, crate::proofs::Fitting::upheld))]
+#[tactic(auto, using(crate::proofs::Fitting::upheld))]
 pub fn fitness_of(
     calendar: &[u32],
     scalars: Scalars,
@@ -196,9 +190,6 @@ pub fn fitness_of(
     if !capacity_fit(count, table) {
         return None;
     }
-    let summary = trades::summary_of(table, count);
-    if !is_fit(calendar, scalars, held, kinds, units, table, summary) {
-        return None;
-    }
-    Some(summary.outstanding)
+    let summary = trades::summary_of(table, count)?;
+    is_fit(calendar, scalars, held, kinds, units, table, summary).then_some(summary.outstanding)
 }

@@ -1,17 +1,11 @@
 // The core's table: five numbers a trade, in the record's order. Trades are read and written here only.
 ghost use Rattle.std.specs.Prelude.{◌≡◌, ℕ, ◌+◌, ◌*◌, ◌<◌, ◌≤◌, length, slice_index, slice_set};
-ghost use Rattle.rules.specs.Trades.{same, no_trade, with_sheets};
+ghost use Rattle.rules.specs.Trades.{no_trade, with_sheets};
 ghost use Rattle.ledger.specs.Flat.{HasSlot, width, capacity, lower, upper, trade_at, trades_of};
 
 use crate::layout;
 use money::units::{Sheets, Ticks};
 use rules::trade::{Contract, Trade};
-
-pub fn same_contract(a: Contract, b: Contract) -> bool
-    ensures { result ≡ same a b }
-{
-    a.0 == b.0
-}
 
 #[tactic(auto, unfolding(crate::specs::Flat::trade_at, money::specs::Causes::first_of))]
 pub fn contract_at(table: &[u64], place: usize) -> Contract

@@ -11,7 +11,7 @@ ghost use Rattle.rules.specs.NextTerm.{starts as starts_of, next_term, with_star
 ghost use Rattle.ledger.specs.Types.{Book, Trade};
 ghost use Rattle.ledger.specs.Flat.{Kept, trade_at, trades_to, trades_of, securities_of, vault_of, rows_of, book_of, held_length};
 ghost use Rattle.ledger.specs.Figures.{CountedWhole, IsValue};
-ghost use Rattle.ledger.specs.NextTerm.{Planned, PlanWithin, Meets, Renewable, FitAt, most_matured, most_started};
+ghost use Rattle.ledger.specs.NextTerm.{Planned, PlanWithin, Meets, MeetsWhere, Renewable, RenewableWhere, FitAt, most_matured, most_started};
 
 use crate::figures::KnownFigures;
 use crate::{days, figures, flat, postings, redemption};
@@ -20,13 +20,12 @@ use rules::trade::Trade;
 use scalars::headroom;
 use scalars::state::Scalars;
 
-// What decides beside the trade itself whether its next term starts: the same for every trade of a Close. V is that before (c), and is told
-// where any may start.
+// What decides beside the trade itself whether its next term starts: the same for every trade of a Close, and told only where one may start. V is
+// that before (c).
 #[derive(Clone, Copy)]
 pub struct Closing {
     pub today: u32,
     pub payment: u32,
-    pub may_start: bool,
     pub size: Sheets,
     pub value: Sheets,
 }
@@ -35,7 +34,8 @@ pub struct Closing {
 // O as part (b) begins.
 #[derive(Clone, Copy)]
 pub struct Plan {
-    pub closing: Closing,
+    pub closing: Option<Closing>,
+    pub today: u32,
     pub matured: Sheets,
     pub amount: Fen,
     pub started: Fen,
@@ -61,28 +61,21 @@ fn closing_of(
     value: Option<Sheets>,
     today: u32,
     payment: u32,
-) -> Closing
+) -> Option<Closing>
     requires { (length held.now ≡ held_length)
         × (securities_fit (vault_of scalars.guarantee (securities_of held.now)) ≡ true)
         × (cash_fit scalars.cash scalars.guarantee ≡ true)
         × (IsValue value (value_of (vault_of scalars.guarantee (securities_of held.now)))) }
-    ensures { ((calendar : Calendar) (kinds units : List ℕ) →
+    ensures { (calendar : Calendar) (kinds units : List ℕ) →
         let book = book_of scalars (rows_of held.now kinds units) in
-        today ≡ today_of book → payment ≡ payment_day calendar scalars.standing.day → Meets calendar book result held.now)
-        × (result.today ≡ today) }
+        today ≡ today_of book → payment ≡ payment_day calendar scalars.standing.day → MeetsWhere calendar book result held.now }
 {
-    let may_start = may_start(scalars, held);
-    Closing {
+    may_start(scalars, held).then(|| Closing {
         today,
         payment,
-        may_start,
         size: scalars.size,
-        value: if may_start {
-            figures::value_known(scalars, held, value)
-        } else {
-            Sheets(0)
-        },
-    }
+        value: figures::value_known(scalars, held, value),
+    })
 }
 
 // The conditions in the order of the ask; the status is normal. A posted term is 1 to 365 days, so of rule 9 the calendar alone is left to ask.
@@ -95,7 +88,7 @@ fn starts(
     closing: Closing,
     outstanding: Sheets,
 ) -> bool
-    requires { (Renewable calendar.now closing held.now) × (FitAt table.now place) × (closing.may_start ≡ true) }
+    requires { (Renewable calendar.now closing held.now) × (FitAt table.now place) }
     ensures { (book : Book) →
         Meets calendar.now book closing held.now
         → result ≡ starts_of calendar.now book outstanding.0 (trade_at table.now place) }
@@ -146,8 +139,7 @@ fn with_started(
 ) -> Sheets
     requires { (Renewable calendar.now closing held.now)
         × (FitAt table.now place)
-        × (outstanding.0 ≤ most_started)
-        × (closing.may_start ≡ true) }
+        × (outstanding.0 ≤ most_started) }
     ensures { let trade = trade_at table.now place in
         ((book : Book) →
         Meets calendar.now book closing held.now
@@ -167,18 +159,18 @@ pub fn outstanding_after(
     held: &[u64],
     table: &[u64],
     count: usize,
-    closing: Closing,
+    closing: Option<Closing>,
     matured: Sheets,
 ) -> Sheets
-    requires { (Renewable calendar.now closing held.now) × (Kept table.now count) × (matured.0 ≤ most_matured) }
+    requires { (RenewableWhere calendar.now closing held.now) × (Kept table.now count) × (matured.0 ≤ most_matured) }
     ensures { let trades = trades_to table.now count in
         ((book : Book) →
-        Meets calendar.now book closing held.now
+        MeetsWhere calendar.now book closing held.now
         → result.0 ≡ matured.0 + outstanding_of (started_from calendar.now book matured.0 trades)) }
 {
-    if !closing.may_start {
+    let Some(closing) = closing else {
         return matured;
-    }
+    };
     let mut sum = matured;
     for place in 0..count {
         sum = with_started(calendar, held, table, place, closing, sum);
@@ -199,8 +191,7 @@ fn settle_slot(
 ) -> Sheets
     requires { (Renewable calendar.now closing held.now)
         × (FitAt table.old place)
-        × (outstanding.0 ≤ most_started)
-        × (closing.may_start ≡ true) }
+        × (outstanding.0 ≤ most_started) }
     ensures { let trade = trade_at table.old place in
         ((book : Book) →
         Meets calendar.now book closing held.now
@@ -224,19 +215,21 @@ pub fn settle(
     held: &[u64],
     table: &mut [u64],
     count: usize,
-    closing: Closing,
+    closing: Option<Closing>,
+    today: u32,
     matured: Sheets,
 )
-    requires { (Renewable calendar.now closing held.now) × (Kept table.old count) × (matured.0 ≤ most_matured) }
+    requires { (RenewableWhere calendar.now closing held.now) × (Kept table.old count) × (matured.0 ≤ most_matured) }
     ensures { let trades = trades_to table.old count in
         ((book : Book) →
-        Meets calendar.now book closing held.now
+        MeetsWhere calendar.now book closing held.now
+        → today ≡ today_of book
         → trades_of table.new ≡ over count (left_from calendar.now book matured.0 trades) (trades_of table.old)) }
 {
-    if !closing.may_start {
-        redemption::redeem_due(table, count, closing.today);
+    let Some(closing) = closing else {
+        redemption::redeem_due(table, count, today);
         return;
-    }
+    };
     let mut sum = matured;
     for place in 0..count {
         sum = settle_slot(calendar, held, table, place, closing, sum);
@@ -267,6 +260,7 @@ pub fn plan_of(
     let left = outstanding_after(calendar, held, table, scalars.trades, closing, outstanding);
     Plan {
         closing,
+        today,
         matured: redeemed.sheets,
         amount: redeemed.amount,
         started: Fen(SHEET_FEN * (left.0 - outstanding.0)),

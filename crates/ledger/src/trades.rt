@@ -46,7 +46,7 @@ pub fn place_of(table: &[u64], count: usize, contract: Contract) -> usize
     ensures { result ≡ place_of contract (trades_to table.now count) }
 {
     (0..count)
-        .position(|place| flat::same_contract(flat::contract_at(table, place), contract))
+        .position(|place| flat::contract_at(table, place) == contract)
         .unwrap_or(count)
 }
 
@@ -125,16 +125,15 @@ fn trade_fits(table: &[u64], place: usize) -> bool
         && flat::product_at(table, place) <= PRODUCTS
 }
 
-// What one walk tells: whether each trade is within its limits, and if so O and the latest first payment day.
+// What one walk tells of trades that are each within their limits: O and the latest first payment day.
 #[derive(Clone, Copy)]
 pub struct Summary {
-    pub fit: bool,
     pub outstanding: Sheets,
     pub latest: u32,
 }
 
 #[tactic(auto, using(rules::proofs::TradeLaws::sheets_of, crate::proofs::FlatLaws::all_none, crate::proofs::FlatLaws::all_more, crate::proofs::RedemptionLaws::within_of), unfolding(rules::specs::Trades::outstanding))]
-pub fn summary_of(table: &[u64], count: usize) -> Summary
+pub fn summary_of(table: &[u64], count: usize) -> Option<Summary>
     requires { (HasSlots table.now count) × (count ≤ capacity_limit) }
     ensures { result ≡ summary_of (trades_to table.now count) }
 {
@@ -143,19 +142,14 @@ pub fn summary_of(table: &[u64], count: usize) -> Summary
     let mut latest = 0;
     for i in 0..count {
         if !trade_fits(table, i) {
-            return Summary {
-                fit: false,
-                outstanding: Sheets(0),
-                latest: 0,
-            };
+            return None;
         }
         let left = flat::sheets_at(table, i);
         outstanding += left.0;
         latest = latest.max(flat::first_at(table, i));
     }
-    Summary {
-        fit: true,
+    Some(Summary {
         outstanding: Sheets(outstanding),
         latest,
-    }
+    })
 }

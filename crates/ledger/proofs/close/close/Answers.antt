@@ -1,5 +1,6 @@
 use Rattle.std.specs.Prelude.{◌≡◌, false, not, pos, ◌+ℤ◌, ◌-ℤ◌, nat_abs}
 use mathlib.Core.Path.{ap, ◌∙◌}
+use native.Mathlib.Omega.{arith}
 use borrow.Author.Tests.{le-leb}
 use Rattle.money.specs.declared.units.Fen.{Fen}
 use Rattle.money.specs.declared.refusal.Refusal.TheVariants.{WrongPhase, PastLimit}
@@ -16,6 +17,7 @@ use Rattle.ledger.specs.Flat.{trades_of, rows_of, book_of}
 use Rattle.ledger.proofs.FitFacts.{fit-keeps}
 use Rattle.ledger.proofs.Column.{asked, asked-not, denied, denied-not}
 use Rattle.ledger.proofs.Fitting.{refuted, upheld}
+use Rattle.ledger.proofs.StartLaws.{renewable-where}
 use Rattle.ledger.proofs.CloseLaws.{close-refused, not-now, today-outside, cleared-outside, unpaid-past, may-be-closed}
 use Rattle.ledger.proofs.close.close.Goals as goal
 
@@ -95,14 +97,7 @@ closed-requires c =
         securities = fit-securities book.vault fits.securities;
         cash = fits-cash c.args.scalars.cash c.args.scalars.guarantee fits.cash;
       },
-      record {
-        book = book;
-        met = plan.0.met;
-        few = c.requires.book.few;
-        held-long = c.requires.book.held-long;
-        posted = fit-postings book.postings fits.postings;
-        day = plan.1.day;
-      },
+      renewable-where _ book _ _ plan.0.met c.requires.book.few c.requires.book.held-long (fit-postings book.postings fits.postings) (omega (arith, plan.0.today, plan.1.day)),
       fit-keeps c.args.calendar.now book c.args.table.now c.requires.book.fits,
       plan.1.outstanding,
     )

@@ -19,20 +19,13 @@ returns-then-not-cash_fit c =
     let row = c.securities_fit.ensures c.args.scalars.guarantee in
     by-flat-tests _ _ _ _ (search fitting depth 12)
 
-pub returns-then-not-within : goal.returns-then-not-within
-returns-then-not-within c =
-    let capacity = c.requires.1 in
-    let row = c.securities_fit.ensures c.args.scalars.guarantee in
-    let each = (summary-where _ _ c.requires.2).0 in
-    by-flat-tests _ _ _ _ (search fitting depth 12)
-
 pub returns-then-not-size_fit : goal.returns-then-not-size_fit
 returns-then-not-size_fit c =
     let capacity = c.requires.1 in
     let row = c.securities_fit.ensures c.args.scalars.guarantee in
     let summary = summary-where _ _ c.requires.2 in
-    let each = upheld summary.0 (ap not c.if-not-within.false) in
-    let size = rw (summary.1 each).0 at c.size_fit.ensures in
+    let each = summary.0 in
+    let size = rw summary.1 at c.size_fit.ensures in
     by-flat-tests _ _ _ _ (search fitting depth 12)
 
 pub postings_fit-requires : goal.postings_fit-requires
@@ -44,8 +37,8 @@ returns-then-not-postings_fit c =
     let summary = summary-where _ _ c.requires.2 in
     let securities = upheld (c.securities_fit.ensures c.args.scalars.guarantee) (ap not c.if-not-securities_fit.false) in
     let cash = upheld c.cash_fit.ensures (ap not c.if-not-cash_fit.false) in
-    let each = upheld summary.0 (ap not c.if-not-within.false) in
-    let size = upheld (c.size_fit.ensures ∙ ap (size_fit _) (summary.1 each).0) (ap not c.if-not-size_fit.false) in
+    let each = summary.0 in
+    let size = upheld (c.size_fit.ensures ∙ ap (size_fit _) summary.1) (ap not c.if-not-size_fit.false) in
     by-flat-tests _ _ _ _
     (test-holds _ _ _ c.requires.1
     (test-holds _ _ _ securities
@@ -56,16 +49,16 @@ returns-then-not-postings_fit c =
 pub others_fit-requires : goal.others_fit-requires
 others_fit-requires c =
     let summary = summary-where _ _ c.requires.2 in
-    let each = upheld summary.0 (ap not c.if-not-within.false) in
-    (c.requires.0.few, c.requires.0.kinds-long, c.requires.0.units-long, kept-where-fit _ _ c.requires.1 each, (summary.1 each).1)
+    let each = summary.0 in
+    (c.requires.0.few, c.requires.0.kinds-long, c.requires.0.units-long, kept-where-fit _ _ c.requires.1 each, summary.2)
 
 pub returns : goal.returns
 returns c =
     let summary = summary-where _ _ c.requires.2 in
     let securities = upheld (c.securities_fit.ensures c.args.scalars.guarantee) (ap not c.if-not-securities_fit.false) in
     let cash = upheld c.cash_fit.ensures (ap not c.if-not-cash_fit.false) in
-    let each = upheld summary.0 (ap not c.if-not-within.false) in
-    let size = upheld (c.size_fit.ensures ∙ ap (size_fit _) (summary.1 each).0) (ap not c.if-not-size_fit.false) in
+    let each = summary.0 in
+    let size = upheld (c.size_fit.ensures ∙ ap (size_fit _) summary.1) (ap not c.if-not-size_fit.false) in
     by-flat-tests _ _ _ _
     (test-holds _ _ _ c.requires.1
     (test-holds _ _ _ securities

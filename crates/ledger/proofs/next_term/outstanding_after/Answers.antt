@@ -1,6 +1,4 @@
-use Rattle.std.specs.Prelude.{◌≡◌, true}
 use native.Mathlib.Omega.{arith}
-use borrow.Author.Rules.{rules}
 use Rattle.rules.specs.NextTerm.{starts}
 use Rattle.ledger.specs.Flat.{trade_at}
 use Rattle.ledger.proofs.RedemptionLaws.{kept-within}
@@ -14,17 +12,15 @@ loop-place-init c =
 
 pub with_started-sum-requires : goal.with_started-sum-requires
 with_started-sum-requires c =
-    let may-start : c.args.closing.may_start ≡ true = search rules in
     let kept = c.requires.1 in (
-      c.requires.0,
+      rw c.in-Some.is at c.requires.0,
       record { slot = omega (arith, kept.room); fits = all-below _ _ _ _ c.loop-place-test.true kept.within },
       omega (arith, c.loop-place.invariant.0, c.requires.2, kept.few),
-      may-start,
     )
 
 pub loop-place-preserved : goal.loop-place-preserved
 loop-place-preserved c =
-    let some = c.requires.0 in
+    let some = rw c.in-Some.is at c.requires.0 in
     let trade = trade_at c.args.table.now c.loop-place.place in
     let within = kept-within _ _ c.requires.1 c.loop-place.place c.loop-place-test.true in (
       omega (arith, c.loop-place.invariant.0, c.with_started-sum.ensures some.book some.met, with-at-most (starts c.args.calendar.now some.book c.loop-place.sum.0 trade) some.book trade c.loop-place.sum.0, within.sheets),

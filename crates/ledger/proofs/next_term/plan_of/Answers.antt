@@ -13,6 +13,7 @@ use Rattle.ledger.specs.Flat.{trades_of, rows_of, book_of, Redeemable}
 use Rattle.ledger.proofs.FitFacts.{fit-keeps, fit-redeemable}
 use Rattle.ledger.proofs.InitialLaws.{today-within}
 use Rattle.ledger.proofs.RedemptionLaws.{maturity-bound}
+use Rattle.ledger.proofs.StartLaws.{renewable-where}
 use Rattle.ledger.proofs.CloseLaws.{sheets-planned, amount-planned, matured-left, matured-bound, started-bound, left-planned, principal-planned}
 use Rattle.ledger.proofs.next_term.plan_of.Goals as goal
 
@@ -52,15 +53,8 @@ outstanding_after-left-requires c =
     let fits = c.requires.book.fits in
     let parts = fit_parts _ _ _ fits in
     let matured = sheets-planned _ _ a.table.now fits _ _ c.day_number-today.ensures c.payment_day-payment.ensures _ c.maturity_plan-redeemed.ensures in
-    let met = c.closing_of-closing.ensures.0 a.calendar.now a.kinds.now a.units.now c.day_number-today.ensures c.payment_day-payment.ensures in (
-      record {
-        book = book;
-        met = met;
-        few = c.requires.book.few;
-        held-long = c.requires.book.held-long;
-        posted = fit-postings _ parts.postings;
-        day = omega (arith, met.today, today-within _ _ _ fits c.requires.book.few);
-      },
+    let met = c.closing_of-closing.ensures a.calendar.now a.kinds.now a.units.now c.day_number-today.ensures c.payment_day-payment.ensures in (
+      renewable-where _ book _ _ met c.requires.book.few c.requires.book.held-long (fit-postings _ parts.postings) (today-within _ _ _ fits c.requires.book.few),
       fit-keeps a.calendar.now book a.table.now fits,
       omega (arith, rest-within _ _ a.table.now fits _ _ c.requires.sheets matured),
     )
@@ -68,14 +62,14 @@ outstanding_after-left-requires c =
 pub overflow_sub-result : goal.overflow_sub-result
 overflow_sub-result c =
     let a = c.args in
-    let met = c.closing_of-closing.ensures.0 a.calendar.now a.kinds.now a.units.now c.day_number-today.ensures c.payment_day-payment.ensures in
+    let met = c.closing_of-closing.ensures a.calendar.now a.kinds.now a.units.now c.day_number-today.ensures c.payment_day-payment.ensures in
     omega (arith, c.outstanding_after-left.ensures _ met)
 
 pub overflow_mul-result : goal.overflow_mul-result
 overflow_mul-result c =
     let a = c.args in
     let less = a.known.outstanding.0 - c.maturity_plan-redeemed.result.sheets.0 in
-    let met = c.closing_of-closing.ensures.0 a.calendar.now a.kinds.now a.units.now c.day_number-today.ensures c.payment_day-payment.ensures in
+    let met = c.closing_of-closing.ensures a.calendar.now a.kinds.now a.units.now c.day_number-today.ensures c.payment_day-payment.ensures in
     omega (arith, c.outstanding_after-left.ensures _ met, started-bound a.calendar.now _ a.table.now c.requires.book.fits less)
 
 pub returns : goal.returns
@@ -91,7 +85,7 @@ returns c =
     let less = a.known.outstanding.0 - redeemed.result.sheets.0 in
     let matured = sheets-planned calendar book table fits _ _ today payment redeemed.result redeemed.ensures in
     let less-is = rest-is calendar book table fits _ _ c.requires.sheets matured in
-    let met = c.closing_of-closing.ensures.0 calendar a.kinds.now a.units.now today payment in
+    let met = c.closing_of-closing.ensures calendar a.kinds.now a.units.now today payment in
     let left-is = c.outstanding_after-left.ensures book met in
     let redeemable = subst (λ (day : ℕ). Redeemable table a.scalars.trades day) (sym payment) (fit-redeemable calendar book table fits c.requires.book.few) in (
       record {
@@ -100,12 +94,13 @@ returns c =
         started = ap fen (principal-planned calendar book table fits less _ less-is left-is);
         outstanding = less-is;
         left = left-planned calendar book table fits less _ less-is left-is;
+        today = today;
         met = met;
       },
       record {
         amount = rw redeemed.ensures (maturity-bound _ _ _ redeemable _);
         started = omega (arith, left-is, started-bound calendar book table fits less);
         outstanding = omega (arith, rest-within calendar book table fits _ _ c.requires.sheets matured);
-        day = omega (arith, met.today, today-within _ _ _ fits c.requires.book.few);
+        day = omega (arith, today, today-within _ _ _ fits c.requires.book.few);
       },
     )

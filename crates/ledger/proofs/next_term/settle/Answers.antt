@@ -1,8 +1,6 @@
 use Rattle.std.specs.Prelude.{◌≡◌, ℕ, true, List, map}
 use mathlib.Core.Path.{refl, sym, ap, subst, ◌∙◌}
 use native.Mathlib.Omega.{arith}
-use borrow.Author.Rules.{rules}
-use borrow.Author.Tests.{not-true}
 use Rattle.rules.specs.Trades.{matured, over}
 use Rattle.rules.specs.Fit.{trade_fit}
 use Rattle.rules.specs.NextTerm.{starts, with_started}
@@ -13,12 +11,13 @@ use Rattle.ledger.proofs.FlatLaws.{all-below}
 use Rattle.ledger.proofs.StartLaws.{all-matured, with-at-most, none-started, started-more, none-settled, trade-to-come, slot-more}
 use Rattle.ledger.proofs.next_term.settle.Goals as goal
 
-pub returns-then-not-closing : goal.returns-then-not-closing
-returns-then-not-closing c book met =
+pub returns-in_default : goal.returns-in_default
+returns-in_default c book met today =
     let trades = trades_to c.args.table.now c.args.count in
-    let stay = all-matured _ book (met.none (not-true _ c.if-not-closing.true)) c.args.matured.0 trades c.requires.1.within in
+    let none = rw c.in_default.is at met in
+    let stay = all-matured _ book none.none c.args.matured.0 trades c.requires.1.within in
     c.redeem_due.ensures
-    ∙ ap (λ (day : ℕ). over c.args.count (map (matured day) trades) (trades_of c.args.table.now)) met.today
+    ∙ ap (λ (day : ℕ). over c.args.count (map (matured day) trades) (trades_of c.args.table.now)) today
     ∙ ap (λ (slots : List Trade). over c.args.count slots (trades_of c.args.table.now)) (sym stay)
 
 pub loop-place-init : goal.loop-place-init
@@ -27,24 +26,23 @@ loop-place-init c =
 
 pub settle_slot-sum-requires : goal.settle_slot-sum-requires
 settle_slot-sum-requires c =
-    let as_before : trade_at c.loop-place.table c.loop-place.place ≡ trade_at c.args.table.now c.loop-place.place = let some = c.requires.0 in
+    let as_before : trade_at c.loop-place.table c.loop-place.place ≡ trade_at c.args.table.now c.loop-place.place = let some = rw c.in-Some.is at c.requires.0 in
     trade-to-come _ some.book _ _ _ _ c.loop-place.invariant.0 (c.loop-place.invariant.2 some.book some.met).1 (omega (arith, c.requires.1.room)) in
     let kept = c.requires.1 in (
-      c.requires.0,
+      rw c.in-Some.is at c.requires.0,
       record {
         slot = omega (arith, kept.room, c.loop-place.invariant.0);
         fits = subst (λ (trade : Trade). trade_fit trade ≡ true) (sym as_before) (all-below _ _ _ _ c.loop-place-test.true kept.within);
       },
       omega (arith, c.loop-place.invariant.1, c.requires.2, kept.few),
-      search rules,
     )
 
 pub loop-place-preserved : goal.loop-place-preserved
 loop-place-preserved c =
-    let as_before : trade_at c.loop-place.table c.loop-place.place ≡ trade_at c.args.table.now c.loop-place.place = let some = c.requires.0 in
+    let as_before : trade_at c.loop-place.table c.loop-place.place ≡ trade_at c.args.table.now c.loop-place.place = let some = rw c.in-Some.is at c.requires.0 in
     trade-to-come _ some.book _ _ _ _ c.loop-place.invariant.0 (c.loop-place.invariant.2 some.book some.met).1 (omega (arith, c.requires.1.room)) in
     let inv = c.loop-place.invariant in
-    let some = c.requires.0 in
+    let some = rw c.in-Some.is at c.requires.0 in
     let trade = trade_at c.loop-place.table c.loop-place.place in
     let within = kept-within _ _ c.requires.1 c.loop-place.place c.loop-place-test.true in (
       c.settle_slot-sum.auto.table ∙ inv.0,

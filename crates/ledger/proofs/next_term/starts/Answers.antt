@@ -17,14 +17,14 @@ pub returns-then-posting-eq0 : goal.returns-then-posting-eq0
 returns-then-posting-eq0 c book met =
     let matures = ap (λ (q : Sheets). q.0) c.maturing_at-due.ensures in
     let term = term-read c.args.held.now (trade_at c.args.table.now c.args.place) _ c.posting_of-posting.ensures c.product_at-product.ensures in
-    not-posted _ book _ _ met _ _ (λ z. c.if-due-eq0.false (matures ∙ z)) c.requires.2 (sym term ∙ c.if-posting-eq0.true)
+    not-posted _ book _ _ met _ _ (λ z. c.if-due-eq0.false (matures ∙ z)) (sym term ∙ c.if-posting-eq0.true)
 
 pub returns-else-matures : goal.returns-else-matures
 returns-else-matures c book met =
     let matures = ap (λ (q : Sheets). q.0) c.maturing_at-due.ensures in
     let term = term-read c.args.held.now (trade_at c.args.table.now c.args.place) _ c.posting_of-posting.ensures c.product_at-product.ensures in
     c.if-matures.false
-    ∙ no-maturity _ book _ _ met _ _ (λ z. c.if-due-eq0.false (matures ∙ z)) c.requires.2 (λ z. c.if-posting-eq0.false (term ∙ z)) (sym (rw term at c.matures.ensures) ∙ c.if-matures.false)
+    ∙ no-maturity _ book _ _ met _ _ (λ z. c.if-due-eq0.false (matures ∙ z)) (λ z. c.if-posting-eq0.false (term ∙ z)) (sym (rw term at c.matures.ensures) ∙ c.if-matures.false)
 
 pub returns-then-matures : goal.returns-then-matures
 returns-then-matures c book met =
@@ -32,7 +32,7 @@ returns-then-matures c book met =
     let matures = ap (λ (q : Sheets). q.0) c.maturing_at-due.ensures in
     let term = term-read c.args.held.now trade _ c.posting_of-posting.ensures c.product_at-product.ensures in
     let short = term-short c.args.held.now trade _ c.posting_of-posting.ensures c.product_at-product.ensures c.requires.0.posted c.requires.1.fits in
-    by-headroom _ book _ _ met _ _ (λ z. c.if-due-eq0.false (matures ∙ z)) c.requires.2 (λ z. c.if-posting-eq0.false (term ∙ z))
+    by-headroom _ book _ _ met _ _ (λ z. c.if-due-eq0.false (matures ∙ z)) (λ z. c.if-posting-eq0.false (term ∙ z))
     (rw term at short) (sym (rw term at c.matures.ensures) ∙ c.if-matures.true) _
     (c.above_headroom.ensures ∙ ap (λ (n : ℕ). lt_z (headroom_of c.args.closing.size.0 c.args.closing.value.0 c.args.outstanding.0) (pos n)) matures)
 
