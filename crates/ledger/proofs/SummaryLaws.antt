@@ -1,7 +1,7 @@
 -- What one walk over the trades in use tells, trade by trade, and that the latest first payment day answers for all.
 -- For the proofs of trades.rt and fit.rt. Assumes nothing.
 use Rattle.std.specs.Prelude.{◌≡◌, ℕ, ◌+◌, max, Bool, true, false, ◌&&◌, leb, List, [], ◌∷◌, ◌++◌}
-use mathlib.Core.Path.{refl, sym, ap, ◌∙◌}
+use mathlib.Core.Path.{refl, sym, ap}
 use native.Mathlib.Omega.{arith}
 use borrow.Author.Tests.{le-leb, lt-leb, leb-true, leb-false}
 use Rattle.std.specs.Bool.{then_some}

@@ -6,8 +6,8 @@ use Rattle.rules.specs.Fit.{fit}
 use Rattle.ledger.specs.Flat.{rows_of, book_of, trades_of}
 use Rattle.rules.proofs.FitParts.{capacity-fits}
 use Rattle.ledger.proofs.SummaryLaws.{summary-where, summary-none, fit-with}
-use Rattle.ledger.proofs.FitFacts.{room-where-fit, fit-in-use, fit-keeps}
-use Rattle.ledger.proofs.Fitting.{fitting, refuted, upheld, by-flat-tests, unfit-trades}
+use Rattle.ledger.proofs.FitFacts.{room-where-fit, fit-in-use}
+use Rattle.ledger.proofs.Fitting.{fitting, upheld, by-flat-tests, unfit-trades}
 use Rattle.ledger.proofs.fit.fitness_of.Goals as goal
 
 pub returns-then-not-capacity_fit : goal.returns-then-not-capacity_fit
