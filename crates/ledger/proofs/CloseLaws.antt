@@ -1,13 +1,14 @@
 -- Close: its causes by the code's tests, its plan, the flat table once its slots are settled, the evening that a fit book allows, and what it gives
 -- back. For the event Close.
 -- Assumes nothing.
-use Rattle.std.specs.Prelude.{◌≡◌, ℕ, ◌+◌, ◌-◌, ◌*◌, ◌≤◌, Bool, true, false, not, ◌||◌, ltb, List, length, take, drop, nat_abs, Err}
+use Rattle.std.specs.Prelude.{◌≡◌, ℕ, ◌+◌, ◌-◌, ◌*◌, ◌≤◌, Bool, true, false, not, ◌||◌, ltb, List, length, take, drop, nat_abs, pos, ◌+ℤ◌, ◌-ℤ◌, Err}
 use mathlib.Core.Path.{refl, sym, ap, ◌∙◌}
 use mathlib.Core.Option.{Option, none, some}
 use native.Mathlib.Omega.{arith}
 use lib.Seq.{take_at, drop_at}
+use Rattle.money.specs.declared.units.Fen.{Fen}
 use Rattle.money.specs.declared.units.Sheets.{Sheets}
-use Rattle.money.specs.Units.{fen, sheets}
+use Rattle.money.specs.Units.{fen, sheets, signed_fen}
 use Rattle.money.specs.declared.refusal.Refusal.{Refusal}
 use Rattle.money.specs.Causes.{first_of, refusal_number}
 use Rattle.money.specs.Days.{Calendar}
@@ -18,18 +19,19 @@ use Rattle.rules.specs.Days.{payment_day}
 use Rattle.rules.specs.Trades.{in_use, total, outstanding, maturing, maturity_amount, remaining, packed, over}
 use Rattle.rules.specs.NextTerm.{left_from, started_from}
 use Rattle.rules.specs.Fit.{net_fit, securities_fit, cash_fit, fit}
-use Rattle.rules.specs.Close.{Evening, may_close, today, matured_trades, matured_sheets, matured_amount, outstanding_matured, left_trades, started_terms, started_principal, net_at_close, cleared_at_close, unpaid_at_close, close_causes}
+use Rattle.rules.specs.Close.{Evening, may_close, today, matured_trades, matured_sheets, matured_amount, outstanding_matured, left_trades, started_terms, started_principal, net_with_matured, net_at_close, cleared_at_close, unpaid_at_close, close_causes}
 use Rattle.rules.specs.Close.{all_arrived, claims_of, evening, claims_at_close, closed_table, closed_book, close_answer}
 use Rattle.rules.proofs.FitParts.{Fit, fit_parts, securities-fit, cash-fits}
 use Rattle.rules.proofs.TradeLaws.{outstanding-matured}
 use Rattle.rules.proofs.NextTermLaws.{outstanding-left}
 use Rattle.rules.proofs.NextTermTurns.{principal-by-sheets, started-at-most}
 use Rattle.rules.proofs.EveningFit.{all-arrived-fit}
-use Rattle.ledger.specs.Types.{Unpaid, Security, Book, Trade}
+use Rattle.ledger.specs.Types.{Nets, Unpaid, Security, Book, Trade}
 use Rattle.scalars.specs.declared.state.Scalars.{Scalars}
 use Rattle.scalars.specs.Scalars.{done_by}
 use Rattle.ledger.specs.declared.evening.EveningScalars.{EveningScalars}
 use Rattle.ledger.specs.Redemption.{Redeemed, maturity_of}
+use Rattle.ledger.specs.NextTerm.{Plan, Planned}
 use Rattle.ledger.specs.Flat.{Rows, rows_of, trades_to, trades_of, book_of, evening_at, applied_at, closed_by, table_by, Kept}
 use Rattle.ledger.proofs.Column.{first_holds, second_holds, neither-holds}
 use Rattle.ledger.proofs.NetLaws.{over-net, within-net}
@@ -131,6 +133,30 @@ module _ (calendar : Calendar) (book : Book) (table : List ℕ) (fits : fit cale
     principal-planned =
         rw (principal-by-sheets (started_terms calendar book (trades_of table)))
         (omega (arith, l ∙ ap (λ (terms : List Trade). o + outstanding terms) started-in-use))
+
+-- ---- what the code asks of its plan
+
+module _ {calendar : Calendar} {book : Book} {held : List ℕ} {table : List Trade} {plan : Plan} (planned : Planned calendar book held table plan) where
+  -- the net with what matured and the terms that start, and what is joined of it
+  module _ {at-close : Nets} (net : at-close ≡ record { today = signed_fen (book.nets.today.0 +ℤ pos plan.amount.0 -ℤ pos plan.started.0); cleared = book.nets.cleared }) where
+    pub net-at-close : at-close ≡ record { today = signed_fen (net_at_close calendar book table); cleared = book.nets.cleared }
+    net-at-close =
+        net
+        ∙ ap (λ (amount : Fen). record { today = signed_fen (book.nets.today.0 +ℤ pos amount.0 -ℤ pos plan.started.0); cleared = book.nets.cleared }) planned.amount
+        ∙ ap (λ (amount : Fen). record { today = signed_fen (net_with_matured calendar book table -ℤ pos amount.0); cleared = book.nets.cleared }) planned.started
+
+    pub today-asked : {r : Bool} → r ≡ net_fit at-close.today.0 → r ≡ net_fit (net_at_close calendar book table)
+    today-asked e = e ∙ ap (λ (nets : Nets). net_fit nets.today.0) net-at-close
+
+    module _ {joined-nets : Nets} (join : joined-nets ≡ record { today = signed_fen (pos 0); cleared = signed_fen (at-close.cleared.0 +ℤ at-close.today.0) }) where
+      pub all-joined : joined-nets ≡ record { today = signed_fen (pos 0); cleared = signed_fen (cleared_at_close calendar book table) }
+      all-joined = join ∙ ap (λ (nets : Nets). record { today = signed_fen (pos 0); cleared = signed_fen (nets.cleared.0 +ℤ nets.today.0) }) net-at-close
+
+      pub cleared-asked : {r : Bool} → r ≡ net_fit joined-nets.cleared.0 → r ≡ net_fit (cleared_at_close calendar book table)
+      cleared-asked e = e ∙ ap (λ (nets : Nets). net_fit nets.cleared.0) all-joined
+
+  pub unpaid-asked : {r : Bool} → r ≡ passes plan.amount.0 book.sums.unpaid → r ≡ passes (matured_amount calendar book table) book.sums.unpaid
+  unpaid-asked e = e ∙ ap (λ (amount : Fen). passes amount.0 book.sums.unpaid) planned.amount
 
 -- ---- (a) to (e): the flat table once its slots are settled
 

@@ -1,10 +1,11 @@
 -- Open: which cause applies, by what the code asks in turn, and that the trades in use can be redeemed on the day opened.
 -- For the event Open. Assumes nothing.
-use Rattle.std.specs.Prelude.{◌≡◌, ℕ, ◌≤◌, true, false, ltb, List, length, nat_abs}
+use Rattle.std.specs.Prelude.{◌≡◌, ℕ, ◌≤◌, true, false, Bool, ltb, List, length, nat_abs, pos, ◌+ℤ◌}
 use mathlib.Core.Path.{sym, ap, ◌∙◌}
 use mathlib.Core.Option.{none, some}
 use Rattle.money.specs.Causes.{first_of}
-use Rattle.money.specs.Units.{signed_fen}
+use Rattle.money.specs.declared.units.Fen.{Fen}
+use Rattle.money.specs.Units.{fen, signed_fen}
 use Rattle.money.specs.Days.{Calendar}
 use Rattle.rules.specs.Limits.{net_limit}
 use Rattle.rules.specs.Unpaid.{passes}
@@ -20,7 +21,7 @@ use Rattle.scalars.specs.Scalars.{with_unpaid}
 use Rattle.scalars.specs.declared.state.Scalars.{Scalars}
 use Rattle.scalars.specs.declared.done.Done.{Done}
 use Rattle.ledger.specs.Types.{Nets, Standing, Book, Trading, Trade, Applied}
-use Rattle.ledger.specs.Flat.{Rows, book_of, applied_at, applied_by, trades_of, Redeemable}
+use Rattle.ledger.specs.Flat.{Rows, book_of, applied_at, applied_by, trades_of, Redeemable, Opening}
 use Rattle.ledger.proofs.Column.{first_holds, second_holds, neither-holds}
 use Rattle.ledger.proofs.NetLaws.{over-net, within-net}
 use Rattle.ledger.proofs.FitFacts.{fit-redeemable}
@@ -60,6 +61,17 @@ module _ (calendar : Calendar) (book : Book) (table : List Trade) where
 
         pub none-within-limits : net_fit (net_with_fallbacks calendar book table) ≡ true → passes (fallback_sum calendar book table) book.sums.unpaid ≡ false → first_of (open_causes calendar book table) ≡ none
         none-within-limits net unpaid = within-limits (neither-holds (within-net (net_with_fallbacks calendar book table) net) unpaid)
+
+-- ---- what the code asks of the amount that all trades are redeemed for
+
+module _ (calendar : Calendar) (book : Book) (table : List Trade) (amount : Fen) (is : amount ≡ fen (fallback_sum calendar book table)) where
+  pub net-tested : {nets : Nets} {r : Bool} → nets ≡ record { today = book.nets.today; cleared = signed_fen (book.nets.cleared.0 +ℤ pos amount.0) } → r ≡ net_fit nets.cleared.0
+      → net_fit (net_with_fallbacks calendar book table) ≡ r
+  net-tested n e =
+      sym (e ∙ ap (λ (nets : Nets). net_fit nets.cleared.0) n ∙ ap (λ (amount : Fen). net_fit (book.nets.cleared.0 +ℤ pos amount.0)) is)
+
+  pub unpaid-tested : {r : Bool} → r ≡ passes amount.0 book.sums.unpaid → passes (fallback_sum calendar book table) book.sums.unpaid ≡ r
+  unpaid-tested e = sym (e ∙ ap (λ (amount : Fen). passes amount.0 book.sums.unpaid) is)
 
 -- ---- what it leaves on turning terminated: `owing` are the scalars with the U that it makes
 
@@ -109,5 +121,11 @@ module _ (calendar : Calendar) (book : Book) (table : List ℕ) (fits : fit cale
         day = next-day calendar book.standing.day book.standing.phase Trading (trades_of table) trades n n f.day follows (all-the-same trades);
       })
 
-  pub redeemable-next-day : length calendar ≤ 1200 → Redeemable table book.trades (payment_day calendar (next_day calendar book.standing))
+  redeemable-next-day : length calendar ≤ 1200 → Redeemable table book.trades (payment_day calendar (next_day calendar book.standing))
   redeemable-next-day few = fit-redeemable calendar (with_standing (opened_standing calendar book.standing) book) table fits-next-day few
+
+-- as Open finds it, with the standing that it gives
+pub redeemable-opened : (calendar : Calendar) (scalars : Scalars) (table : List ℕ) (after : Standing) → Opening calendar scalars (trades_of table) after
+    → Redeemable table scalars.trades (payment_day calendar after.day)
+redeemable-opened calendar scalars table after opening =
+    rw opening.opened (redeemable-next-day calendar (book_of scalars opening.book.rows) table opening.book.fits opening.follows opening.book.few)

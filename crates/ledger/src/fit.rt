@@ -139,7 +139,6 @@ fn others_fit(
 }
 
 // The tests of a table with room for its trades, each within its limits, from what one walk over these tells.
-#[tactic(auto, using(crate::proofs::Fitting::fitting, crate::proofs::Fitting::refuted, crate::proofs::Fitting::upheld))]
 fn is_fit(
     calendar: &[u32],
     scalars: Scalars,
@@ -172,7 +171,6 @@ fn is_fit(
 }
 
 // O of a book that is fit, since the test counts it.
-#[tactic(auto, using(crate::proofs::Fitting::upheld))]
 pub fn fitness_of(
     calendar: &[u32],
     scalars: Scalars,

@@ -1,10 +1,9 @@
 use borrow.Author.Tests.{ltb-false}
 use Rattle.rules.specs.Early.{early_causes}
-use Rattle.ledger.specs.Flat.{book_of, Kept}
 use Rattle.ledger.proofs.Groups.{group-applies, group-passes, group-clear}
 use Rattle.ledger.proofs.Refusing.{no_rows, told-on}
-use Rattle.ledger.proofs.FitFacts.{fit-keeps}
 use Rattle.ledger.proofs.ContractLaws.{below-where-on}
+use Rattle.ledger.proofs.EarlyLaws.{named-keeps}
 use Rattle.ledger.proofs.early.early_refusal.Goals as goal
 
 pub returns-in_err-order_refusal : goal.returns-in_err-order_refusal
@@ -20,15 +19,13 @@ returns-in_err-named_refusal c rows =
 
 pub named_refusal-requires : goal.named_refusal-requires
 named_refusal-requires c =
-    let kept : Kept c.args.table.now c.args.scalars.trades = fit-keeps c.args.calendar.now (book_of c.args.scalars c.requires.book.rows) c.args.table.now c.requires.book.fits in
-    (kept.room, c.requires.stands)
+    ((named-keeps c.requires).room, c.requires.stands)
 
 pub take_refusal-requires : goal.take_refusal-requires
 take_refusal-requires c =
-    let kept : Kept c.args.table.now c.args.scalars.trades = fit-keeps c.args.calendar.now (book_of c.args.scalars c.requires.book.rows) c.args.table.now c.requires.book.fits in
     let on = group-clear _ (c.in_ok-named_refusal.ensures no_rows) 10 in
     let cheap = group-clear _ (c.in_ok-order_refusal.ensures no_rows) 8 in
-    record { named = c.requires; below = below-where-on _ _ _ _ kept.room c.requires.stands on; cheap = ltb-false _ _ cheap }
+    record { named = c.requires; below = below-where-on _ _ _ _ (named-keeps c.requires).room c.requires.stands on; cheap = ltb-false _ _ cheap }
 
 pub returns : goal.returns
 unfolding early_causes

@@ -1,20 +1,19 @@
-use Rattle.std.specs.Prelude.{◌≡◌, pos, ◌+ℤ◌}
+use Rattle.std.specs.Prelude.{pos, ◌+ℤ◌}
 use mathlib.Core.Path.{refl, sym, ap, ◌∙◌}
 use borrow.Author.Tests.{not-true, not-false, le-leb}
 use Rattle.money.specs.declared.units.Fen.{Fen}
 use Rattle.money.specs.Units.{signed_fen}
-use Rattle.rules.specs.Unpaid.{passes, cleared_plus}
-use Rattle.rules.specs.Fit.{net_fit}
-use Rattle.rules.specs.Open.{fallback_sum, net_with_fallbacks, opened_table}
+use Rattle.rules.specs.Unpaid.{cleared_plus}
+use Rattle.rules.specs.Open.{opened_table}
 use Rattle.rules.proofs.FitParts.{fit_parts}
 use Rattle.scalars.specs.Scalars.{with_unpaid, unless_past}
 use Rattle.scalars.proofs.UnpaidLaws.{not-past}
-use Rattle.ledger.specs.Types.{Book, Nets, Unpaid}
-use Rattle.ledger.specs.Flat.{Rows, book_of, trades_of}
+use Rattle.ledger.specs.Types.{Unpaid}
+use Rattle.ledger.specs.Flat.{book_of, trades_of}
 use Rattle.ledger.proofs.Refusing.{carried_out}
 use Rattle.ledger.proofs.FitFacts.{fit-in-use, fit-keeps}
 use Rattle.ledger.proofs.RedemptionLaws.{all-due}
-use Rattle.ledger.proofs.OpenLaws.{terminated-book, net-past, unpaid-past, none-within-limits}
+use Rattle.ledger.proofs.OpenLaws.{terminated-book, net-past, unpaid-past, none-within-limits, net-tested, unpaid-tested}
 use Rattle.std.specs.Prelude.{not}
 use Rattle.ledger.proofs.open.terminated.Goals as goal
 
@@ -25,20 +24,16 @@ cleared_plus-with_fallbacks-requires c =
 
 pub returns-then-not-cleared_fit : goal.returns-then-not-cleared_fit
 returns-then-not-cleared_fit c rows =
-    let with_rows : Rows → Book = λ rows. book_of c.args.scalars rows in
-    let net-tested : (rows : Rows) → (net_fit (net_with_fallbacks c.args.calendar.now (with_rows rows) (trades_of c.args.table.now)) ≡ c.cleared_fit.result) = λ rows. sym
-    (c.cleared_fit.ensures
-    ∙ ap (λ (nets : Nets). net_fit nets.cleared.0) c.cleared_plus-with_fallbacks.ensures
-    ∙ ap (λ (amount : Fen). net_fit (c.args.scalars.nets.cleared.0 +ℤ pos amount.0)) (c.fallback_sum-amount.ensures.0 rows)) in
-    let e = net-past c.args.calendar.now (with_rows rows) (trades_of c.args.table.now) c.requires.closed c.requires.opening.follows c.requires.ended (net-tested rows ∙ not-true _ (ap not c.if-not-cleared_fit.true)) in
+    let book = book_of c.args.scalars rows in
+    let net = net-tested _ book _ _ (c.fallback_sum-amount.ensures.0 rows) c.cleared_plus-with_fallbacks.ensures c.cleared_fit.ensures in
+    let e = net-past _ book _ c.requires.closed c.requires.opening.follows c.requires.ended (net ∙ not-true _ (ap not c.if-not-cleared_fit.true)) in
     (rw e refl, rw e refl, sym e)
 
 pub returns-then-passes : goal.returns-then-passes
 returns-then-passes c rows =
-    let with_rows : Rows → Book = λ rows. book_of c.args.scalars rows in
-    let unpaid-tested : (rows : Rows)
-    → (passes (fallback_sum c.args.calendar.now (with_rows rows) (trades_of c.args.table.now)) c.args.scalars.sums.unpaid ≡ c.passes.result) = λ rows. sym (c.passes.ensures ∙ ap (λ (amount : Fen). passes amount.0 c.args.scalars.sums.unpaid) (c.fallback_sum-amount.ensures.0 rows)) in
-    let e = unpaid-past c.args.calendar.now (with_rows rows) (trades_of c.args.table.now) c.requires.closed c.requires.opening.follows c.requires.ended (unpaid-tested rows ∙ c.if-passes.true) in
+    let book = book_of c.args.scalars rows in
+    let unpaid = unpaid-tested _ book _ _ (c.fallback_sum-amount.ensures.0 rows) c.passes.ensures in
+    let e = unpaid-past _ book _ c.requires.closed c.requires.opening.follows c.requires.ended (unpaid ∙ c.if-passes.true) in
     (rw e refl, rw e refl, sym e)
 
 pub redeem_due-requires : goal.redeem_due-requires
@@ -48,23 +43,18 @@ redeem_due-requires c =
 pub returns : goal.returns
 unfolding opened_table
 returns c rows =
-    let with_rows : Rows → Book = λ rows. book_of c.args.scalars rows in
-    let net-tested : (rows : Rows) → (net_fit (net_with_fallbacks c.args.calendar.now (with_rows rows) (trades_of c.args.table.now)) ≡ c.cleared_fit.result) = λ rows. sym
-    (c.cleared_fit.ensures
-    ∙ ap (λ (nets : Nets). net_fit nets.cleared.0) c.cleared_plus-with_fallbacks.ensures
-    ∙ ap (λ (amount : Fen). net_fit (c.args.scalars.nets.cleared.0 +ℤ pos amount.0)) (c.fallback_sum-amount.ensures.0 rows)) in
-    let unpaid-tested : (rows : Rows)
-    → (passes (fallback_sum c.args.calendar.now (with_rows rows) (trades_of c.args.table.now)) c.args.scalars.sums.unpaid ≡ c.passes.result) = λ rows. sym (c.passes.ensures ∙ ap (λ (amount : Fen). passes amount.0 c.args.scalars.sums.unpaid) (c.fallback_sum-amount.ensures.0 rows)) in
+    let book = book_of c.args.scalars rows in
+    let amount = c.fallback_sum-amount.ensures.0 rows in
     let calendar = c.args.calendar.now in
     let table = c.args.table.now in
     let ended = c.requires.ended in
-    let net = net-tested rows ∙ not-false _ (ap not c.if-not-cleared_fit.false) in
-    let within = unpaid-tested rows ∙ c.if-passes.false in
-    let e = none-within-limits calendar (with_rows rows) (trades_of table) c.requires.closed c.requires.opening.follows ended net within in
+    let net = net-tested _ book _ _ amount c.cleared_plus-with_fallbacks.ensures c.cleared_fit.ensures ∙ not-false _ (ap not c.if-not-cleared_fit.false) in
+    let within = unpaid-tested _ book _ _ amount c.passes.ensures ∙ c.if-passes.false in
+    let e = none-within-limits calendar book (trades_of table) c.requires.closed c.requires.opening.follows ended net within in
     let nets = c.args.scalars.nets in
     let unpaid = c.args.scalars.sums.unpaid in
-    let cleared = c.cleared_plus-with_fallbacks.ensures ∙ ap (λ (amount : Fen). record { today = nets.today; cleared = signed_fen (nets.cleared.0 +ℤ pos amount.0) }) (c.fallback_sum-amount.ensures.0 rows) in
-    let owed = c.cleared_plus.ensures ∙ ap (λ (amount : Fen). unless_past amount.0 unpaid (cleared_plus amount.0 unpaid)) (c.fallback_sum-amount.ensures.0 rows) ∙ not-past unpaid _ _ within in
+    let cleared = c.cleared_plus-with_fallbacks.ensures ∙ ap (λ (amount : Fen). record { today = nets.today; cleared = signed_fen (nets.cleared.0 +ℤ pos amount.0) }) amount in
+    let owed = c.cleared_plus.ensures ∙ ap (λ (amount : Fen). unless_past amount.0 unpaid (cleared_plus amount.0 unpaid)) amount ∙ not-past unpaid _ _ within in
     let owing = c.with_unpaid.ensures ∙ ap (λ (unpaid : Unpaid). with_unpaid unpaid c.args.scalars) owed in (
       carried_out _ _ rows _ _ (sym e) c.accepted.ensures (terminated-book calendar c.args.scalars c.with_unpaid.result rows (trades_of table) c.cleared_plus-with_fallbacks.result c.args.after ended c.requires.opening.opened cleared owing),
       c.redeem_due.ensures ∙ rw (e, ended, fit-in-use calendar (book_of c.args.scalars c.requires.opening.book.rows) table c.requires.opening.book.fits, all-due table c.args.scalars.trades),
