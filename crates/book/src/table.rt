@@ -54,7 +54,12 @@ fn apply_by(
 }
 
 // With numbers of its own, of the one size that every table fits.
-fn apply_in_numbers(calendar: &[u32], book: Book, table: &mut [Trade], entry: Option<Event>) -> Applied
+fn apply_in_numbers(
+    calendar: &[u32],
+    book: Book,
+    table: &mut [Trade],
+    entry: Option<Event>,
+) -> Applied
     requires { length table.old ≤ capacity_limit }
     ensures { let next = step calendar.now book table.old entry in
         (result ≡ applied_of next)
