@@ -23,7 +23,7 @@ fn value(kind: u8, units: u64, rate: u64) -> Sheets
 }
 
 // The second part is rounded once, half upward.
-#[tactic(auto, unfolding(money::specs::Money::redemption_amount, money::specs::Causes::first_of, money::specs::Money::redemption, money::specs::Money::principal, money::specs::Money::income))]
+#[tactic(auto, unfolding(money::specs::Money::redemption_amount, money::specs::Money::redemption, money::specs::Money::principal, money::specs::Money::income))]
 pub fn redemptions() {
     let m1 = redemption(Sheets(100), Ticks(3_650), 4);
     check::expect(m1.0 == 1_000_400);
@@ -34,7 +34,7 @@ pub fn redemptions() {
 }
 
 // Each kind is rounded down by itself: 4.5 twice is 8, not 9.
-#[tactic(auto, unfolding(money::specs::Collateral::kind_worth, money::specs::Causes::first_of, money::specs::Collateral::kind_value))]
+#[tactic(auto, unfolding(money::specs::Collateral::kind_worth, money::specs::Collateral::kind_value))]
 pub fn values() {
     let m4 = value(0, 199, 9_000);
     check::expect(m4.0 == 179);

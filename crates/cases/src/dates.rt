@@ -11,7 +11,7 @@ fn day(year: u32, month: u32, day: u32) -> Found
     money::dates::day_of(Date { year, month, day }).into()
 }
 
-#[tactic(auto, unfolding(money::specs::Dates::day_answer, money::specs::Dates::exists, money::specs::Dates::in_years, money::specs::Dates::day_of, money::specs::Dates::start_after, money::specs::Dates::length_after, money::specs::Dates::month_length, money::specs::Dates::february, money::specs::Dates::leap, money::specs::Causes::first_of))]
+#[tactic(auto, unfolding(money::specs::Dates::day_answer, money::specs::Dates::exists, money::specs::Dates::in_years, money::specs::Dates::day_of, money::specs::Dates::start_after, money::specs::Dates::length_after, money::specs::Dates::month_length, money::specs::Dates::february, money::specs::Dates::leap))]
 pub fn to_days() {
     let first = day(2_000, 1, 1);
     check::expect(first.day == 0);
@@ -29,7 +29,7 @@ fn told(day: u32) -> Dated
     money::dates::date_of(day).into()
 }
 
-#[tactic(auto, unfolding(money::specs::Dates::date_answer, money::specs::Dates::date_of, money::specs::Dates::next_date, money::specs::Dates::month_length, money::specs::Dates::february, money::specs::Dates::leap, money::specs::Causes::first_of))]
+#[tactic(auto, unfolding(money::specs::Dates::date_answer, money::specs::Dates::date_of, money::specs::Dates::next_date, money::specs::Dates::month_length, money::specs::Dates::february, money::specs::Dates::leap))]
 pub fn to_dates() {
     let leap = told(59);
     check::expect(leap.date.day == 29);

@@ -23,7 +23,7 @@ fn write_numbers(bytes: &mut [u8], at: usize, numbers: &[u64])
 }
 
 // Whether the numbers from a place on are those of the lines.
-#[tactic(auto, using(crate::proofs::JournalLaws::none_yet), unfolding(crate::specs::Journal::same_numbers, money::specs::Causes::first_of))]
+#[tactic(auto, using(crate::proofs::JournalLaws::none_yet), unfolding(crate::specs::Journal::same_numbers))]
 fn same_numbers(numbers: &[u64], at: usize, lines: &[u64]) -> bool
     requires { at + length lines.now ≤ length numbers.now }
     ensures { result ≡ same_numbers numbers.now at lines.now }

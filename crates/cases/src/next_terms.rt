@@ -83,7 +83,7 @@ const TWICE_LINES: [u64; 19 * 7] = [
     0, 0, 180, 0, 4_999_600, 3_000_400, 0,
 ];
 
-#[tactic(auto, unfolding(crate::specs::Journal::ends_with, money::specs::Causes::first_of))]
+#[tactic(auto, unfolding(crate::specs::Journal::ends_with))]
 pub fn twice() {
     journal::expect_lines(&DAILY, &ACCOUNTS, &COVER, &TWICE, &TWICE_LINES);
 }
@@ -138,7 +138,7 @@ const TOO_LARGE_LINES: [u64; 18 * 7] = [
     0, 0, 40, 60, 5_499_820, 2_500_180, 0,
 ];
 
-#[tactic(auto, unfolding(crate::specs::Journal::ends_with, money::specs::Causes::first_of))]
+#[tactic(auto, unfolding(crate::specs::Journal::ends_with))]
 pub fn too_large() {
     journal::expect_lines(&DAILY, &ACCOUNTS, &COVER, &TOO_LARGE, &TOO_LARGE_LINES);
 }
@@ -185,7 +185,7 @@ const REDEEMED_EARLY_LINES: [u64; 15 * 7] = [
     0, 0, 137, 43, 5_329_967, 2_670_033, 0,
 ];
 
-#[tactic(auto, unfolding(crate::specs::Journal::ends_with, money::specs::Causes::first_of))]
+#[tactic(auto, unfolding(crate::specs::Journal::ends_with))]
 pub fn redeemed_early() {
     journal::expect_lines(
         &DAILY,
@@ -250,7 +250,7 @@ const DUE_ON_A_HOLIDAY_LINES: [u64; 18 * 7] = [
     0, 0, 180, 0, 4_999_400, 3_000_600, 0,
 ];
 
-#[tactic(auto, unfolding(crate::specs::Journal::ends_with, money::specs::Causes::first_of))]
+#[tactic(auto, unfolding(crate::specs::Journal::ends_with))]
 pub fn due_on_a_holiday() {
     journal::expect_lines(
         &HOLIDAYS,
@@ -311,7 +311,7 @@ const POSTED_FOR_THE_DAY_LINES: [u64; 18 * 7] = [
     0, 0, 180, 0, 4_999_750, 3_000_250, 0,
 ];
 
-#[tactic(auto, unfolding(crate::specs::Journal::ends_with, money::specs::Causes::first_of))]
+#[tactic(auto, unfolding(crate::specs::Journal::ends_with))]
 pub fn posted_for_the_day() {
     journal::expect_lines(
         &DAILY,
@@ -383,7 +383,7 @@ const NOT_NORMAL_LINES: [u64; 20 * 7] = [
     5, 0, 180, 0, 0, 0, 0,
 ];
 
-#[tactic(auto, unfolding(crate::specs::Journal::ends_with, money::specs::Causes::first_of))]
+#[tactic(auto, unfolding(crate::specs::Journal::ends_with))]
 pub fn not_normal() {
     journal::expect_lines(&DAILY, &NO_ACCOUNTS, &COVER, &NOT_NORMAL, &NOT_NORMAL_LINES);
 }
@@ -440,7 +440,7 @@ const TURNED_DOWN_LINES: [u64; 16 * 7] = [
     20, 0, 0, 0, 0, 0, 0,
 ];
 
-#[tactic(auto, unfolding(crate::specs::Journal::ends_with, money::specs::Causes::first_of))]
+#[tactic(auto, unfolding(crate::specs::Journal::ends_with))]
 pub fn turned_down() {
     journal::expect_lines(&DAILY, &FRESH, &OPENED, &TURNED_DOWN, &TURNED_DOWN_LINES);
 }

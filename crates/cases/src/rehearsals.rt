@@ -138,7 +138,7 @@ const FIT: [u64; 26 * 7] = [
     0, 0, 120, 0, 1_999_720, 2_000_280, 0,
 ];
 
-#[tactic(auto, unfolding(crate::specs::Journal::ends_with, money::specs::Causes::first_of))]
+#[tactic(auto, unfolding(crate::specs::Journal::ends_with))]
 pub fn first() {
     journal::expect_lines(&WEEKS, &BEFORE, &PLEDGED_AND_PAID, &FROM_NOON, &FIT);
 }
@@ -181,7 +181,7 @@ const REFUSED: [u64; 26 * 7] = [
     0, 0, 120, 0, 1_999_920, 2_000_080, 0,
 ];
 
-#[tactic(auto, unfolding(crate::specs::Journal::ends_with, money::specs::Causes::first_of))]
+#[tactic(auto, unfolding(crate::specs::Journal::ends_with))]
 pub fn second() {
     journal::expect_lines(&WEEKS, &BEFORE, &UNPAID_AND_LATE, &FROM_NOON, &REFUSED);
 }
@@ -223,7 +223,7 @@ const NO_COVER: [u64; 26 * 7] = [
     0, 0, 120, 0, 1_999_920, 2_000_080, 0,
 ];
 
-#[tactic(auto, unfolding(crate::specs::Journal::ends_with, money::specs::Causes::first_of))]
+#[tactic(auto, unfolding(crate::specs::Journal::ends_with))]
 pub fn pledge_alone_late() {
     journal::expect_lines(&WEEKS, &BEFORE, &LATE, &FROM_NOON, &NO_COVER);
 }

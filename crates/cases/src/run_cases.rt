@@ -16,7 +16,7 @@ const TENS_LINES: [u64; 2 * 7] = [
     0, 0, 170, 10, 5_000_000, 3_000_000, 0,
 ];
 
-#[tactic(auto, unfolding(crate::specs::Journal::ends_with, money::specs::Causes::first_of))]
+#[tactic(auto, unfolding(crate::specs::Journal::ends_with))]
 pub fn sheets_in_tens() {
     journal::expect_lines(&WEEK, &ACCOUNTS, &COVER, &TENS, &TENS_LINES);
 }
@@ -39,7 +39,7 @@ const TERMS_LINES: [u64; 3 * 7] = [
     0, 0, 170, 10, 5_000_000, 3_000_000, 0,
 ];
 
-#[tactic(auto, unfolding(crate::specs::Journal::ends_with, money::specs::Causes::first_of))]
+#[tactic(auto, unfolding(crate::specs::Journal::ends_with))]
 pub fn due_within_a_year() {
     journal::expect_lines(&YEAR, &ACCOUNTS, &COVER, &TERMS, &TERMS_LINES);
 }
@@ -64,7 +64,7 @@ const UNDECODABLE_LINES: [u64; 5 * 7] = [
     2, 0, 180, 0, 5_000_000, 3_000_000, 0,
 ];
 
-#[tactic(auto, unfolding(crate::specs::Journal::ends_with, money::specs::Causes::first_of))]
+#[tactic(auto, unfolding(crate::specs::Journal::ends_with))]
 pub fn undecodable() {
     journal::expect_lines(&WEEK, &ACCOUNTS, &COVER, &UNDECODABLE, &UNDECODABLE_LINES);
 }
@@ -82,7 +82,7 @@ const CUT_LINES: [u64; 2 * 7] = [
     0, 1, 100, 100, 5_000_000, 3_000_000, 0,
 ];
 
-#[tactic(auto, unfolding(crate::specs::Journal::ends_with, money::specs::Causes::first_of))]
+#[tactic(auto, unfolding(crate::specs::Journal::ends_with))]
 pub fn headroom_below_zero() {
     journal::expect_lines(&WEEK, &ACCOUNTS, &COVER, &CUT, &CUT_LINES);
 }

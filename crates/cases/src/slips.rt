@@ -33,7 +33,7 @@ const ONE_DAY: [u64; 4 * 7] = [
     0, 0, 180, 0, 4_999_900, 3_000_100, 0,
 ];
 
-#[tactic(auto, unfolding(crate::specs::Journal::ends_with, money::specs::Causes::first_of))]
+#[tactic(auto, unfolding(crate::specs::Journal::ends_with))]
 pub fn days_from_trading_days() {
     journal::expect_lines(&LONGER_WEEK, &ACCOUNTS, &COVER, &FROM_DAY_3, &ONE_DAY);
 }
@@ -69,7 +69,7 @@ const NINE: [u64; 2 * 7] = [
     12, 0, 9, 0, 0, 0, 0,
 ];
 
-#[tactic(auto, unfolding(crate::specs::Journal::ends_with, money::specs::Causes::first_of))]
+#[tactic(auto, unfolding(crate::specs::Journal::ends_with))]
 pub fn values_summed_then_rounded() {
     journal::expect_lines(&WEEK, &THREE_RATES, &THREE_KINDS, &TEN_SHEETS, &NINE);
 }
@@ -96,7 +96,7 @@ const AFTER_ITS_CLOSE: [u64; 6 * 7] = [
     0, 0, 170, 190, 5_000_000, 3_000_000, 0,
 ];
 
-#[tactic(auto, unfolding(crate::specs::Journal::ends_with, money::specs::Causes::first_of))]
+#[tactic(auto, unfolding(crate::specs::Journal::ends_with))]
 pub fn pledge_before_its_close() {
     journal::expect_lines(&WEEK, &ACCOUNTS, &COVER, &PLEDGED_TODAY, &AFTER_ITS_CLOSE);
 }
@@ -151,7 +151,7 @@ const ALL_MOVES: [u64; 2 * 7] = [
     0, 0, 30, 150, 6_500_000, 0, 0,
 ];
 
-#[tactic(auto, unfolding(crate::specs::Journal::ends_with, money::specs::Causes::first_of))]
+#[tactic(auto, unfolding(crate::specs::Journal::ends_with))]
 pub fn smaller_day_paid_alone() {
     journal::expect_lines(
         &DAILY,
@@ -191,7 +191,7 @@ const MATURED_LATER: [u64; 6 * 7] = [
     0, 0, 180, 0, 4_999_600, 3_000_400, 0,
 ];
 
-#[tactic(auto, unfolding(crate::specs::Journal::ends_with, money::specs::Causes::first_of))]
+#[tactic(auto, unfolding(crate::specs::Journal::ends_with))]
 pub fn due_brought_forward() {
     journal::expect_lines(
         &LONGER_WEEK,

@@ -20,11 +20,9 @@ struct Ledger {
 fn left(applied: Applied, table: [Trade; 4]) -> Ledger
     ensures { result ≡ record { answer = applied.answer; book = applied.book; table = table } }
 {
-    let answer = applied.answer;
-    let book = applied.book;
     Ledger {
-        answer,
-        book,
+        answer: applied.answer,
+        book: applied.book,
         table,
     }
 }
@@ -37,7 +35,7 @@ fn apply(calendar: &[u32], book: Book, mut table: [Trade; 4], entry: Option<Even
 }
 
 // Eight events on a fresh book, each accepted: the trade stands in the first slot.
-#[tactic(auto, using(crate::proofs::LedgerLaws::reached, crate::proofs::LedgerLaws::onward, crate::proofs::LedgerLaws::accepted, crate::proofs::LedgerLaws::asked, crate::proofs::LedgerLaws::first_slot), unfolding(crate::proofs::LedgerLaws::reached, money::specs::Causes::first_of))]
+#[tactic(auto, using(crate::proofs::LedgerLaws::reached, crate::proofs::LedgerLaws::onward, crate::proofs::LedgerLaws::accepted, crate::proofs::LedgerLaws::asked, crate::proofs::LedgerLaws::first_slot), unfolding(crate::proofs::LedgerLaws::reached))]
 pub fn first_trade() {
     let terms = Terms {
         contract: Contract(7),

@@ -34,8 +34,9 @@ const EVENINGS: [u64; 19 * 5] = [
     CLOSE, 0, 0, 0, 0,
 ];
 
-// From day 2 on; headroom tells what went. The redemption frees it on the spot. That evening 60 sheets stand and 40 are unpaid: 80 units go, 8 go and leave V at 100, equal, and 1 is dropped. On
-// day 3 that one goes, for the clients are paid. On day 4 none stands: 44 units would leave V at 60 and are dropped, 43 leave it at 61.
+// From day 2 on; headroom tells what went. The redemption frees it on the spot. That evening 60 sheets stand and 40 are unpaid: 80 units go,
+// 8 go and leave V at 100, equal, and 1 is dropped. On day 3 that one goes, for the clients are paid. On day 4 none stands: 44 units would
+// leave V at 60 and are dropped, 43 leave it at 61.
 #[rattlefmt::skip]
 const EVENINGS_LINES: [u64; 16 * 7] = [
     0, 0, 80, 100, 5_000_000, 3_000_000, 0,
@@ -56,7 +57,7 @@ const EVENINGS_LINES: [u64; 16 * 7] = [
     0, 0, 61, 0, 5_600_000, 2_400_000, 0,
 ];
 
-#[tactic(auto, unfolding(crate::specs::Journal::ends_with, money::specs::Causes::first_of))]
+#[tactic(auto, unfolding(crate::specs::Journal::ends_with))]
 pub fn evenings() {
     journal::expect_lines(&DAILY, &ACCOUNTS, &COVER, &EVENINGS, &EVENINGS_LINES);
 }

@@ -58,7 +58,7 @@ const LINES: [u64; 16 * 7] = [
     0, 0, 80, 100, 6_000_000, 2_000_000, 0,
 ];
 
-#[tactic(auto, unfolding(crate::specs::Journal::ends_with, money::specs::Causes::first_of))]
+#[tactic(auto, unfolding(crate::specs::Journal::ends_with))]
 pub fn journal() {
     journal::expect_lines(&WEEK, &ACCOUNTS, &COVER, &TRADES, &LINES);
 }

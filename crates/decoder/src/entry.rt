@@ -170,7 +170,7 @@ fn post(fields: Fields) -> Option<Event>
 }
 
 // Each code with its event, and with the test that the fields it does not use are 0.
-#[tactic(auto, unfolding(rules::specs::Entry::entry_of, money::specs::Causes::first_of))]
+#[tactic(auto, unfolding(rules::specs::Entry::entry_of))]
 fn entry_of(fields: Fields) -> Option<Event>
     ensures { result ≡ entry_of fields }
 {
@@ -195,7 +195,7 @@ fn entry_of(fields: Fields) -> Option<Event>
 }
 
 // The event of 40 bytes; any other number of bytes is no event.
-#[tactic(auto, unfolding(rules::specs::Entry::decoded, money::specs::Causes::first_of))]
+#[tactic(auto, unfolding(rules::specs::Entry::decoded))]
 pub fn decode(bytes: &[u8]) -> Option<Event>
     ensures { IsEntryOf bytes.now result }
 {

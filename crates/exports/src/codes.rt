@@ -100,7 +100,7 @@ pub fn codes_of(standing: Standing) -> Codes
     ensures { result ≡ codes_of standing }
 {
     Codes {
-        dated: standing.day.is_some() as u8,
+        dated: u8::from(standing.day.is_some()),
         day: standing.day.unwrap_or(0),
         phase: standing.phase as u8,
         status: standing.status as u8,

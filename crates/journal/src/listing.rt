@@ -52,7 +52,9 @@ fn write_lines(text: &mut [u8], lines: &[u64], count: usize) -> Option<usize>
 
 // The lines of some events' bytes, run on a fresh book.
 fn write_run(calendar: &[u32], events: &[u8], text: &mut [u8]) -> Option<usize>
-    requires { (length calendar.now ≤ calendar_limit) × (length events.now % event_bytes ≡ 0) × (length events.now / event_bytes ≤ event_limit) }
+    requires { (length calendar.now ≤ calendar_limit)
+        × (length events.now % event_bytes ≡ 0)
+        × (length events.now / event_bytes ≤ event_limit) }
     ensures { let written = lines_text (length events.now / event_bytes) (listing_of calendar.now events.now) in
         (result ≡ written_length written text.old)
         × (text.new ≡ text_after written text.old) }

@@ -33,11 +33,10 @@ impl From<Result<Fen, Refusal>> for Amount {
 pub fn initial(q: Sheets) -> Result<Fen, Refusal>
     ensures { amount_of result ≡ initial_amount q }
 {
-    let count = q.0;
-    if count > TRADE_LIMIT {
+    if q.0 > TRADE_LIMIT {
         return Err(Refusal::PastLimit);
     }
-    Ok(Fen(SHEET_FEN * count))
+    Ok(Fen(SHEET_FEN * q.0))
 }
 
 // What a redemption at a price over some days moves: the principal and, rounded once, the income.
@@ -45,17 +44,15 @@ pub fn initial(q: Sheets) -> Result<Fen, Refusal>
 pub fn redemption(q: Sheets, price: Ticks, days: u32) -> Result<Fen, Refusal>
     ensures { amount_of result ≡ redemption_amount q price days }
 {
-    let count = q.0;
-    let yearly = price.0;
-    if count > TRADE_LIMIT {
+    if q.0 > TRADE_LIMIT {
         return Err(Refusal::PastLimit);
     }
-    if yearly > PRICE_LIMIT {
+    if price.0 > PRICE_LIMIT {
         return Err(Refusal::PastLimit);
     }
     if days > TERM_LIMIT {
         return Err(Refusal::PastLimit);
     }
-    let income = (count * (yearly as u64) * (days as u64) + 1_825) / 3_650;
-    Ok(Fen(SHEET_FEN * count + income))
+    let income = (q.0 * u64::from(price.0) * u64::from(days) + 1_825) / 3_650;
+    Ok(Fen(SHEET_FEN * q.0 + income))
 }

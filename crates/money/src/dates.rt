@@ -47,9 +47,7 @@ impl From<Result<Date, Refusal>> for Dated {
 pub fn day_of(date: Date) -> Result<u32, Refusal>
     ensures { found_of result ≡ day_answer date }
 {
-    let year = date.year;
-    let month = date.month;
-    let day = date.day;
+    let Date { year, month, day } = date;
     if year < FIRST_YEAR {
         return Err(Refusal::NoSuchDate);
     }

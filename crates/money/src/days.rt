@@ -28,7 +28,7 @@ impl From<Result<u32, Refusal>> for Found {
 }
 
 // Whether a day trades.
-#[tactic(auto, unfolding(crate::specs::Days::trades, crate::specs::Causes::first_of))]
+#[tactic(auto, unfolding(crate::specs::Days::trades))]
 pub fn trades_on(calendar: &[u32], day: u32) -> bool
     ensures { result ≡ trades calendar.now day }
 {
@@ -62,19 +62,19 @@ fn from_day(calendar: &[u32], from: u64) -> Result<u32, Refusal>
 pub fn at_or_after(calendar: &[u32], day: u32) -> Result<u32, Refusal>
     ensures { found_of result ≡ search_result calendar.now (at_or_after calendar.now day) }
 {
-    from_day(calendar, day as u64)
+    from_day(calendar, u64::from(day))
 }
 
 // The next trading day after a day: the payment day of a trading day.
-#[tactic(auto, unfolding(crate::specs::Days::next_after, crate::specs::Causes::first_of))]
+#[tactic(auto, unfolding(crate::specs::Days::next_after))]
 pub fn next_after(calendar: &[u32], day: u32) -> Result<u32, Refusal>
     ensures { found_of result ≡ search_result calendar.now (next_after calendar.now day) }
 {
-    from_day(calendar, (day as u64) + 1)
+    from_day(calendar, u64::from(day) + 1)
 }
 
 // The earliest trading day.
-#[tactic(auto, unfolding(crate::specs::Days::earliest, crate::specs::Causes::first_of))]
+#[tactic(auto, unfolding(crate::specs::Days::earliest))]
 pub fn earliest_day(calendar: &[u32]) -> Result<u32, Refusal>
     ensures { found_of result ≡ search_result calendar.now (earliest calendar.now) }
 {

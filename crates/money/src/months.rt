@@ -7,7 +7,7 @@ use crate::limits::{FIRST_YEAR, LAST_DAY, MONTH_COUNT};
 use crate::starts::STARTS;
 
 // The days of February, by the whole leap rule.
-#[tactic(auto, unfolding(crate::specs::Dates::february, crate::specs::Dates::leap, crate::specs::Causes::first_of))]
+#[tactic(auto, unfolding(crate::specs::Dates::february, crate::specs::Dates::leap))]
 fn february(year: u32) -> u32
     ensures { result ≡ february year }
 {
@@ -24,7 +24,7 @@ fn february(year: u32) -> u32
 }
 
 // The days of a month; what is no month has none.
-#[tactic(auto, unfolding(crate::specs::Dates::month_length, crate::specs::Causes::first_of))]
+#[tactic(auto, unfolding(crate::specs::Dates::month_length))]
 pub fn month_length(year: u32, month: u32) -> u32
     ensures { result ≡ month_length year month }
 {
@@ -37,7 +37,7 @@ pub fn month_length(year: u32, month: u32) -> u32
 }
 
 // The length of the month that comes so many months after January 2000.
-#[tactic(auto, unfolding(crate::specs::Dates::length_after, crate::specs::Causes::first_of))]
+#[tactic(auto, unfolding(crate::specs::Dates::length_after))]
 pub fn length_after(months: u32) -> u32
     ensures { result ≡ length_after months }
 {
@@ -45,7 +45,7 @@ pub fn length_after(months: u32) -> u32
 }
 
 // The starts of all months, which together keep the rule of month lengths.
-#[tactic(auto, unfolding(crate::specs::Dates::keeps_rule, crate::specs::Dates::length_after, crate::specs::Dates::month_length, crate::specs::Dates::february, crate::specs::Dates::leap, crate::specs::Causes::first_of))]
+#[tactic(auto, unfolding(crate::specs::Dates::keeps_rule, crate::specs::Dates::length_after, crate::specs::Dates::month_length, crate::specs::Dates::february, crate::specs::Dates::leap))]
 fn starts() -> [u16; 1200]
     ensures { keeps_rule 0 0 result ≡ true }
 {
@@ -63,5 +63,5 @@ pub fn start_after(months: u32) -> u32
         return LAST_DAY + 1;
     }
     let entries = starts();
-    entries[months as usize] as u32
+    u32::from(entries[months as usize])
 }

@@ -182,7 +182,7 @@ pub struct Book {
 }
 
 // A fresh book: Closed and normal, all numbers 0, table and applications empty, nothing posted.
-#[tactic(auto, unfolding(crate::specs::Book::fresh_book, money::specs::Causes::first_of))]
+#[tactic(auto, unfolding(crate::specs::Book::fresh_book))]
 pub fn fresh() -> Book
     ensures { result ≡ fresh_book }
 {

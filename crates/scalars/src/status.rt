@@ -5,7 +5,8 @@ ghost use Rattle.rules.specs.Status.{status_by_runs, status_at_open};
 
 use rules::book::{FailedRun, ShortRun, Status};
 
-// While the permission lasts: by the run of failed payments before this day, and the run of closes at which the pledge was short (headroom below zero).
+// While the permission lasts: by the run of failed payments before this day, and the run of closes at which the pledge was short (headroom
+// below zero).
 fn status_by_runs(failed: FailedRun, short: ShortRun) -> Status
     ensures { result ≡ status_by_runs failed short }
 {
@@ -15,12 +16,13 @@ fn status_by_runs(failed: FailedRun, short: ShortRun) -> Status
             // 70, second clause: "where the firm completes the payment on T+2, its initial trades are accepted again on T+3"
             // or neither speaks, since nothing was short and nothing failed
             ShortRun::NotShort => Status::Normal,
-            // 69, first sentence: "Where … the pledge is short, the exchange may suspend acceptance of the firm's initial trades from the next trading day on …"
+            // 69, first sentence: "Where … the pledge is short, the exchange may suspend acceptance of the firm's initial trades from the next
+            // trading day on …"
             ShortRun::ShortOnce => Status::Suspended,
             // 69, first sentence, still: the two trading days of its second paragraph are not over
             ShortRun::ShortTwice => Status::Suspended,
-            // 69, second paragraph: "Where within the two trading days after the day the pledge fell short the firm has taken no effective measures that bring its headroom
-            // to zero or above, the exchange may end its … permission from the third trading day on."
+            // 69, second paragraph: "Where within the two trading days after the day the pledge fell short the firm has taken no effective
+            // measures that bring its headroom to zero or above, the exchange may end its … permission from the third trading day on."
             ShortRun::ShortThrice => Status::Terminated,
         },
         FailedRun::FailedOnce => match short {
@@ -39,7 +41,7 @@ fn status_by_runs(failed: FailedRun, short: ShortRun) -> Status
 }
 
 // From the old status.
-#[tactic(auto, unfolding(rules::specs::Status::status_at_open, money::specs::Causes::first_of))]
+#[tactic(auto, unfolding(rules::specs::Status::status_at_open))]
 pub fn status_at_open(status: Status, failed: FailedRun, short: ShortRun) -> Status
     ensures { result ≡ status_at_open status failed short }
 {

@@ -1,7 +1,6 @@
 use Rattle.std.specs.Prelude.{◌≡◌, ℕ, ◌+◌, ◌*◌, length, take, replicate}
-use mathlib.Core.Path.{refl, ap, ◌∙◌}
+use mathlib.Core.Path.{refl, ◌∙◌}
 use native.Mathlib.Omega.{arith}
-use borrow.Author.Tests.{eq-eqb}
 use lib.Seq.{length-take-le}
 use Rattle.money.proofs.Refusals.{ok-where-none}
 use Rattle.cases.proofs.JournalLaws.{not-refused, lines-in-front, ending}

@@ -1,4 +1,4 @@
-use Rattle.std.proofs.Common.{◌≡◌, sym, refl, ◌∙◌}
+use Rattle.std.proofs.Common.{sym, refl, ◌∙◌}
 use Rattle.exports.proofs.RawLaws.{scalars-back, some_if, none_if}
 use mathlib.Core.Bool.{false≢true}
 use Rattle.exports.proofs.lent_calls.lent_apply.Goals as goal
