@@ -62,7 +62,8 @@ initial_within q told h e = amount-told told _ (e ∙ initial-given q h)
 pub redemption_within : (q : Sheets) (price : Ticks) (days : ℕ) (told : Result Fen Refusal) → q.0 ≤ trade_limit → price.0 ≤ price_limit → days ≤ term_limit → amount_of told ≡ redemption_amount q price days → told ≡ Ok (redemption q price days)
 redemption_within q price days told h k l e = amount-told told _ (e ∙ redemption-given q price days h k l)
 
-pub worth_within : (kind effective frozen rate : ℕ) (told : Result Sheets Refusal) → kind ≤ 32 → frozen ≤ effective → effective ≤ unit_limit_of kind → rate_of kind rate ≤ rate_limit → worth_of told ≡ kind_worth kind effective frozen rate → told ≡ Ok (kind_value kind effective frozen rate)
+pub worth_within : (kind effective frozen rate : ℕ) (told : Result Sheets Refusal) → kind ≤ 32 → frozen ≤ effective → effective ≤ unit_limit_of kind → rate_of kind rate ≤ rate_limit
+    → worth_of told ≡ kind_worth kind effective frozen rate → told ≡ Ok (kind_value kind effective frozen rate)
 worth_within kind effective frozen rate (Ok value) h k l m e = ap (λ (worth : Worth). Ok worth.sheets) (e ∙ worth-given kind effective frozen rate h k l m)
 worth_within kind effective frozen rate (Err refusal) h k l m e =
     absurd (not-0 refusal (ap (λ (worth : Worth). worth.number) (e ∙ worth-given kind effective frozen rate h k l m)))

@@ -8,7 +8,9 @@ use Prim.Native.Nat.{ℕ}
 use native.Mathlib.Omega.{arith}
 use lib.Dec.{eqb}
 use Rattle.std.specs.Prelude.{Result, Ok, Err, is_ok}
-use Rattle.money.specs.declared.refusal.Refusal.TheVariants.{NotFit, Undecodable, UnknownKind, WrongPhase, PermissionEnded, TradesSuspended, BadCount, BadPrice, BadDueDay, BadContract, TableFull, AboveHeadroom, NotEnough, PastLimit, BelowOutstanding, NoTradingDay, ListFull, BadLength, NoSuchDate, NotPosted}
+use Rattle.money.specs.declared.refusal.Refusal.TheVariants.{NotFit, Undecodable, UnknownKind, WrongPhase, PermissionEnded, TradesSuspended, BadCount}
+use Rattle.money.specs.declared.refusal.Refusal.TheVariants.{BadPrice, BadDueDay, BadContract, TableFull, AboveHeadroom, NotEnough, PastLimit}
+use Rattle.money.specs.declared.refusal.Refusal.TheVariants.{BelowOutstanding, NoTradingDay, ListFull, BadLength, NoSuchDate, NotPosted}
 use Rattle.money.specs.Causes.{Cause, ◌⇒◌, Refusal, first_of, refusal_number, refusal_of}
 
 -- the cause in front applies

@@ -3,7 +3,9 @@
 use Rattle.std.specs.Prelude.{ℕ, Bool, cond, List, [], ◌∷◌, Result, Ok, Err}
 use Rattle.std.proofs.Math.Option.{Option, none, some}
 pub use Rattle.money.specs.declared.refusal.Refusal.{Refusal}
-use Rattle.money.specs.declared.refusal.Refusal.TheVariants.{NotFit, Undecodable, UnknownKind, WrongPhase, PermissionEnded, TradesSuspended, BadCount, BadPrice, BadDueDay, BadContract, TableFull, AboveHeadroom, NotEnough, PastLimit, BelowOutstanding, NoTradingDay, ListFull, BadLength, NoSuchDate, NotPosted}
+use Rattle.money.specs.declared.refusal.Refusal.TheVariants.{NotFit, Undecodable, UnknownKind, WrongPhase, PermissionEnded, TradesSuspended, BadCount}
+use Rattle.money.specs.declared.refusal.Refusal.TheVariants.{BadPrice, BadDueDay, BadContract, TableFull, AboveHeadroom, NotEnough, PastLimit}
+use Rattle.money.specs.declared.refusal.Refusal.TheVariants.{BelowOutstanding, NoTradingDay, ListFull, BadLength, NoSuchDate, NotPosted}
 
 -- a cause and its number
 pub record Cause : Type 0 where
