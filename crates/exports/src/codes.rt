@@ -16,7 +16,7 @@ pub struct Codes {
     pub short: u8,
 }
 
-// A day has its number only where there is one.
+// A day has its number only where there is one. Here and below, a TryFrom for an enum of another crate cannot stand here.
 #[tactic(auto, unfolding(crate::specs::Codes::day_at, rules::specs::Folds::every))]
 fn day_at(dated: u8, day: u32) -> Option<Option<u32>>
     ensures { result ≡ (if is_dated dated day then Some (day_at dated day) else None) }

@@ -37,7 +37,7 @@ pub struct RawDone {
     pub raw: RawScalars,
 }
 
-// What a run leaves beside the rows and its lines.
+// What a run leaves beside the rows and its lines; C has no Result.
 #[repr(C)]
 #[derive(Clone, Copy)]
 pub struct RawEnded {

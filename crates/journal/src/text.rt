@@ -68,7 +68,7 @@ fn signed_length(negative: u64, size: Sheets) -> usize
     2 + number_length(size.0)
 }
 
-// The numbers of a line, headroom as its sign and its size.
+// The numbers of a line, headroom as its sign and its size: C has a line as seven numbers without a sign.
 #[derive(Clone, Copy)]
 pub struct Line {
     pub answer: u64,

@@ -8,7 +8,7 @@ ghost use Rattle.ledger.specs.Chains.{most_buckets, bucket_of, Falls, Shows, Sho
 use crate::flat;
 use rules::trade::Contract;
 
-// Of a contract, or of all of them: it does not stand there before, it does, or the chain was too long to tell.
+// Of a contract, or of all of them: it does not stand there before, it does, or the chain was too long to tell. An Option<bool> would not say which.
 #[derive(Clone, Copy)]
 pub enum ChainResult {
     Differs,

@@ -1,4 +1,4 @@
-// 2, 3 Fund in, fund out: fen from or to outside.
+// 2, 3 Fund in, fund out: fen from or to outside. Their causes differ, so they stay two.
 ghost use Rattle.std.specs.Prelude.{◌≡◌, true};
 ghost use Rattle.money.specs.Causes.{first_of, refusal_of};
 ghost use Rattle.rules.specs.Fit.{cash_fit};

@@ -1,5 +1,6 @@
 // The calls on a book and its table in lent numbers, changed in place: nothing is copied. Numbers that are no whole rows hold no book
-// that is fit, and are answered 1.
+// that is fit, and are answered 1. The rows stay apart and numbers, for C lends them so: std's conversion of a lent row to an array does not
+// say what is handed back, and a struct of lent rows wants of every function that each row is still the same one.
 ghost use Rattle.std.specs.Prelude.{◌≡◌, ℕ, ◌*◌, ◌≤◌, false, IsErr, slice_index, slice_index_or, slice_set};
 ghost use Rattle.money.specs.Causes.{first_of, number_of, refusal_of};
 ghost use Rattle.std.specs.Result.{result_unwrap_or};

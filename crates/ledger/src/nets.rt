@@ -40,6 +40,7 @@ fn negative(amount: Fen) -> SignedFen
     SignedFen(-signed(amount).0)
 }
 
+// Here and below, what stands twice differs in its net alone, which the name tells the caller.
 pub fn today_fit(nets: Nets) -> bool
     ensures { result ≡ net_fit nets.today.0 }
 {

@@ -6,7 +6,8 @@ use crate::book::Book;
 use money::refusal::Refusal;
 use money::units::{Sheets, SignedSheets};
 
-// The number; of an accepted Close also the sheets matured and the applications done and dropped, of any other 0.
+// The number; of an accepted Close also the sheets matured and the applications done and dropped, of any other 0. C has it as it stands, so a
+// refusal is its number here.
 #[repr(C)]
 #[derive(Clone, Copy)]
 pub struct Answer {

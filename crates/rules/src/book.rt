@@ -149,7 +149,7 @@ impl Standing {
     }
 }
 
-// The applications that stand for the evening: the first `count` of both arrays.
+// The applications that stand for the evening: the first `count` of both arrays, which C lends as two rows.
 #[repr(C)]
 #[derive(Clone, Copy)]
 pub struct Withdrawals {
@@ -158,7 +158,7 @@ pub struct Withdrawals {
     pub count: usize,
 }
 
-// What is posted today for a product: the term in days, 0 where nothing is, and both prices.
+// What is posted today for a product: the term in days, 0 where nothing is, and both prices. C lends it as two numbers, which have no other none.
 #[repr(C)]
 #[derive(Clone, Copy)]
 pub struct Posting {

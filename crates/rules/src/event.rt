@@ -9,7 +9,8 @@ pub enum Account {
     Client,
 }
 
-// Events on a kind carry its number as given, and its units or its rate; Post a product's number as given, and its posting.
+// Events on a kind carry its number as given, and its units or its rate; Post a product's number as given, and its posting. A kind and a product
+// are places in a list, no cases of their own, and the event itself refuses a number that is none.
 #[derive(Clone, Copy)]
 pub enum Event {
     Open,

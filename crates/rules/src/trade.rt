@@ -7,7 +7,7 @@ use money::units::{Sheets, Ticks};
 pub struct Contract(pub u64);
 
 // `first` is the payment day of the initial trade, as planned; `product` is 0, or the number plus 1 of the product at whose
-// posted terms the next term starts.
+// posted terms the next term starts: C lends a trade as five numbers, which have no other none.
 #[repr(C)]
 #[derive(Clone, Copy)]
 pub struct Trade {

@@ -20,7 +20,8 @@ pub fn passes(unpaid: Unpaid, amount: Fen) -> bool
     amount.0 > rest
 }
 
-// An early redemption joins the part of today. Here and below, U is as it was where it would pass its limit.
+// An early redemption joins the part of today. Here and below, U is as it was where it would pass its limit. The three that follow differ in
+// the field that grows, and one told of a field would be no plainer.
 #[tactic(auto, using(crate::proofs::UnpaidLaws::within))]
 pub fn today_plus(unpaid: Unpaid, amount: Fen) -> Unpaid
     ensures { result ≡ unless_past amount.0 unpaid (today_plus amount.0 unpaid) }
