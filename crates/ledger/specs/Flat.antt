@@ -152,11 +152,8 @@ applied_at done rows = record { answer = done.answer; book = book_of done.scalar
 abbrev pub evening_at : EveningScalars → List Security → Evening
 evening_at ended securities = record { own = ended.own; vault = vault_of ended.guarantee securities; done = ended.done; dropped = ended.dropped }
 
--- what the core may rely on: a calendar within its limit, rows of their lengths, and that they make the scalars a fit book
+-- what the core may rely on: a calendar within its limit, and rows that make the scalars a fit book
 pub record FitsWhole (calendar : Calendar) (scalars : Scalars) (held kinds units : List ℕ) (table : List Trade) : Type 0 where
-  pub held-long : length held ≡ held_length
-  pub kinds-long : length kinds ≡ application_limit
-  pub units-long : length units ≡ application_limit
   pub few : length calendar ≤ calendar_limit
   pub fits : fit calendar (book_of scalars (rows_of held kinds units)) table ≡ true
 
@@ -164,7 +161,6 @@ pub record FitsWhole (calendar : Calendar) (scalars : Scalars) (held kinds units
 pub record FitsHeld (calendar : Calendar) (scalars : Scalars) (held : List ℕ) (table : List Trade) : Type 0 where
   pub kinds : List ℕ
   pub units : List ℕ
-  pub held-long : length held ≡ held_length
   pub few : length calendar ≤ calendar_limit
   pub fits : fit calendar (book_of scalars (rows_of held kinds units)) table ≡ true
 
@@ -196,13 +192,6 @@ pub record Redeemable (table : List ℕ) (count payment : ℕ) : Type 0 where
   pub begun : all_trades (λ trade. nat_le trade.first payment) (trades_to table count) ≡ true
   pub term : payment ≤ term_limit
 
--- the test of a book: rows of their lengths, and a calendar within its limit
-pub record RowsLong (calendar : Calendar) (held kinds units : List ℕ) : Type 0 where
-  pub held-long : length held ≡ held_length
-  pub kinds-long : length kinds ≡ application_limit
-  pub units-long : length units ≡ application_limit
-  pub few : length calendar ≤ calendar_limit
-
 -- Open: there is a day to go to, and this is how the firm stands on it
 pub record Opening (calendar : Calendar) (scalars : Scalars) (table : List Trade) (after : Standing) : Type 0 where
   pub book : Fits calendar scalars table
@@ -226,11 +215,8 @@ pub record Running (calendar : Calendar) (scalars : Scalars) (table : List ℕ) 
   pub below : place < scalars.trades
   pub cheap : price.0 ≤ price_limit
 
--- Withdraw and Close: rows of their lengths that are fit, and the cash
+-- Withdraw and Close: rows that are fit, and the cash
 pub record RowsFit (scalars : Scalars) (held kinds units : List ℕ) : Type 0 where
-  pub held-long : length held ≡ held_length
-  pub kinds-long : length kinds ≡ application_limit
-  pub units-long : length units ≡ application_limit
   pub withdrawals : withdrawals_fit (record { kinds = kinds; units = units; count = scalars.applications }) ≡ true
   pub securities : securities_fit (vault_of scalars.guarantee (securities_of held)) ≡ true
   pub cash : cash_fit scalars.cash scalars.guarantee ≡ true

@@ -14,7 +14,7 @@ use Rattle.rules.specs.NextTerm.{starts}
 use Rattle.rules.specs.Close.{matured_sheets, matured_amount, outstanding_matured, left_trades, started_principal}
 use Rattle.ledger.specs.Types.{Book, Trade, Some, None}
 use Rattle.ledger.specs.Redemption.{amount_bound}
-use Rattle.ledger.specs.Flat.{HasSlot, trade_at, postings_of, held_length}
+use Rattle.ledger.specs.Flat.{HasSlot, trade_at, postings_of}
 pub use Rattle.ledger.specs.declared.next_term.Closing.{Closing}
 pub use Rattle.ledger.specs.declared.next_term.Plan.{Plan}
 
@@ -37,12 +37,11 @@ abbrev pub MeetsWhere : Calendar → Book → Option Closing → (held : List �
 MeetsWhere calendar book (Some closing) held = Meets calendar book closing held
 MeetsWhere calendar book None held = MeetsNone calendar book held
 
--- what the code may rely on: some book that is met, a calendar and a row of their lengths, and fit postings
+-- what the code may rely on: some book that is met, a calendar within its limit, and fit postings
 pub record Renewable (calendar : Calendar) (closing : Closing) (held : List ℕ) : Type 0 where
   pub book : Book
   pub met : Meets calendar book closing held
   pub few : length calendar ≤ calendar_limit
-  pub held-long : length held ≡ held_length
   pub posted : postings_fit (postings_of held) ≡ true
   pub day : closing.today < term_limit
 

@@ -4,7 +4,6 @@ ghost use Rattle.std.proofs.Math.Option.{none};
 ghost use Rattle.money.specs.Causes.{first_of};
 ghost use Rattle.money.specs.Units.{signed_fen};
 ghost use Rattle.money.specs.Days.{Calendar};
-ghost use Rattle.rules.specs.Limits.{application_limit};
 ghost use Rattle.rules.specs.Vault.{value};
 ghost use Rattle.rules.specs.Book.{no_applications};
 ghost use Rattle.rules.specs.Close.{may_close, left_trades, cleared_at_close, unpaid_at_close, claims_of, claims_at_close, served, evening as evening_of, short_more, short_at_close, closed_standing, close_causes, closed_book, closed_table};
@@ -15,6 +14,8 @@ ghost use Rattle.ledger.specs.NextTerm.{Planned, RenewableWhere, most_matured};
 ghost use Rattle.scalars.specs.Scalars.{done_by};
 ghost use Rattle.ledger.specs.Flat.{RowsFit, Rows, vault_of, securities_of, postings_of, rows_of, book_of, evening_at, applied_at, trades_of, closed_by, table_by, Kept};
 
+use crate::days::Calendar;
+use crate::layout::{Held, Kinds, Units};
 use crate::evening::EveningScalars;
 use crate::figures::KnownFigures;
 use crate::next_term::Plan;
@@ -69,8 +70,7 @@ fn closed_standing(short: ShortRun, standing: Standing) -> Standing
 }
 
 // The list of applications empties to zeros.
-fn clear(kinds: &mut [u8], units: &mut [u64])
-    requires { (length kinds.old ≡ application_limit) × (length units.old ≡ application_limit) }
+fn clear(kinds: &mut Kinds, units: &mut Units)
     ensures { (kinds.new ≡ no_applications.kinds) × (units.new ≡ no_applications.units) }
 {
     kinds.fill(0);
@@ -81,9 +81,9 @@ fn clear(kinds: &mut [u8], units: &mut [u64])
 #[tactic(auto, using(crate::proofs::CloseLaws::begun), unfolding(rules::specs::Close::all_arrived, rules::specs::Close::evening, money::specs::Causes::first_of))]
 fn evening_end(
     scalars: Scalars,
-    held: &mut [u64],
-    kinds: &[u8],
-    units: &[u64],
+    held: &mut Held,
+    kinds: &Kinds,
+    units: &Units,
     left: Sheets,
     unpaid: Fen,
 ) -> EveningScalars
@@ -156,11 +156,11 @@ fn closed_scalars(
 
 // What Close does, once nothing refuses it: what was planned is written, before the table is packed.
 fn closed(
-    calendar: &[u32],
+    calendar: &Calendar,
     scalars: Scalars,
-    held: &mut [u64],
-    kinds: &mut [u8],
-    units: &mut [u64],
+    held: &mut Held,
+    kinds: &mut Kinds,
+    units: &mut Units,
     table: &mut [u64],
     plan: Plan,
     cleared: Nets,
@@ -200,11 +200,11 @@ fn closed(
 // All that can refuse it is decided on a plan, before anything is written.
 #[tactic(auto, using(rules::proofs::FitParts::fit_parts, crate::proofs::Column::asked, crate::proofs::Column::denied, crate::proofs::Fitting::refuted, crate::proofs::Fitting::upheld))]
 pub fn close(
-    calendar: &[u32],
+    calendar: &Calendar,
     scalars: Scalars,
-    held: &mut [u64],
-    kinds: &mut [u8],
-    units: &mut [u64],
+    held: &mut Held,
+    kinds: &mut Kinds,
+    units: &mut Units,
     table: &mut [u64],
     known: KnownFigures,
 ) -> Result<Done, Refusal>

@@ -5,6 +5,8 @@ ghost use Rattle.scalars.specs.Scalars.{done_by};
 ghost use Rattle.ledger.specs.Flat.{rows_of, book_of, applied_at, trades_of, applied_of};
 ghost use Rattle.ledger.specs.Figures.{CountedWhole};
 
+use crate::days::Calendar;
+use crate::layout::{Held, Kinds, Units};
 use crate::figures::KnownFigures;
 use crate::{close, early, freeze, funds, initial, open, pay, pledge, post, rate, size, withdraw};
 use money::refusal::Refusal;
@@ -16,11 +18,11 @@ use scalars::state::Scalars;
 // One event on a fit book, under a calendar of at most 1,200 words; O comes with it, and V where it is known.
 #[tactic(auto, using(rules::proofs::FitParts::fit_parts, crate::proofs::StepLaws::leaves_table), unfolding(rules::specs::Step::event_causes, rules::specs::Step::act, money::specs::Causes::first_of))]
 fn event_on(
-    calendar: &[u32],
+    calendar: &Calendar,
     scalars: Scalars,
-    held: &mut [u64],
-    kinds: &mut [u8],
-    units: &mut [u64],
+    held: &mut Held,
+    kinds: &mut Kinds,
+    units: &mut Units,
     table: &mut [u64],
     known: KnownFigures,
     event: Event,
@@ -55,11 +57,11 @@ fn event_on(
 
 // One entry on a fit book.
 pub fn entry_on(
-    calendar: &[u32],
+    calendar: &Calendar,
     scalars: Scalars,
-    held: &mut [u64],
-    kinds: &mut [u8],
-    units: &mut [u64],
+    held: &mut Held,
+    kinds: &mut Kinds,
+    units: &mut Units,
     table: &mut [u64],
     known: KnownFigures,
     entry: Option<Event>,

@@ -7,6 +7,7 @@ ghost use Rattle.scalars.specs.Scalars.{done_by};
 ghost use Rattle.ledger.specs.Flat.{HasSlots, Rows, book_of, Fits, Named, Running, applied_at, trades_to, trades_of, place_of, applied_by, table_by};
 ghost use Rattle.ledger.specs.Redemption.{early_of};
 
+use crate::days::Calendar;
 use crate::redemption::Redeemed;
 use crate::{days, flat, nets, redemption, trades};
 use money::limits::PRICE_LIMIT;
@@ -31,7 +32,7 @@ fn past_due(scalars: Scalars, table: &[u64], place: usize, contract: Contract) -
 
 // What sheets of the trade at a place are redeemed for, from its first payment day to today's.
 fn early_plan(
-    calendar: &[u32],
+    calendar: &Calendar,
     scalars: Scalars,
     table: &[u64],
     place: usize,
@@ -43,7 +44,7 @@ fn early_plan(
     ensures { (rows : Rows) →
         result ≡ early_of calendar.now (book_of scalars rows) (trades_of table.now) contract count price }
 {
-    let payment = days::payment_day(calendar, scalars.standing.day);
+    let payment = calendar.payment_day(scalars.standing.day);
     Redeemed {
         sheets: count,
         amount: redemption::redeemed_for(table, place, count, price, payment),
@@ -93,7 +94,7 @@ fn named_refusal(
 
 #[tactic(auto, unfolding(money::specs::Causes::first_of))]
 fn take_refusal(
-    calendar: &[u32],
+    calendar: &Calendar,
     scalars: Scalars,
     table: &[u64],
     place: usize,
@@ -121,7 +122,7 @@ fn take_refusal(
 
 #[tactic(auto, using(crate::proofs::Refusing::no_rows), unfolding(rules::specs::Early::early_causes, money::specs::Causes::first_of))]
 fn early_refusal(
-    calendar: &[u32],
+    calendar: &Calendar,
     scalars: Scalars,
     table: &[u64],
     place: usize,
@@ -143,7 +144,7 @@ fn early_refusal(
 
 #[tactic(auto, using(crate::proofs::Refusing::turned_down, crate::proofs::Refusing::carried_out), unfolding(rules::specs::Early::early_book, rules::specs::Early::early_table, money::specs::Causes::first_of))]
 pub fn early(
-    calendar: &[u32],
+    calendar: &Calendar,
     scalars: Scalars,
     table: &mut [u64],
     contract: Contract,

@@ -2,14 +2,14 @@
 ghost use Rattle.std.specs.Prelude.{◌≡◌, ◌+◌, ◌≤◌, true, false, map, length, MatchOption};
 ghost use Rattle.money.specs.Limits.{cash_limit, rate_limit, unit_limit};
 ghost use Rattle.money.specs.Collateral.{cash_kind, rate_of, unit_limit_of, kind_value};
-ghost use Rattle.rules.specs.Limits.{application_limit};
 ghost use Rattle.rules.specs.Vault.{security_at, effective_of, frozen_of, value as value_of};
 ghost use Rattle.rules.specs.Fit.{securities_fit, withdrawals_fit};
 ghost use Rattle.rules.specs.Close.{security_arrived, guarantee_arrived, taken_out, claims_of, may_go, applications};
 ghost use Rattle.ledger.specs.Types.{Vault};
-ghost use Rattle.ledger.specs.Flat.{vault_of, securities_of, postings_of, evening_at, held_length};
+ghost use Rattle.ledger.specs.Flat.{vault_of, securities_of, postings_of, evening_at};
 ghost use Rattle.ledger.specs.Figures.{value_bound};
 
+use crate::layout::{Held, Kinds, Units};
 use crate::{held, vault};
 use money::limits::{CASH_KIND, SECURITIES};
 use money::units::{Fen, Sheets};
@@ -39,8 +39,8 @@ pub fn guarantee_arrived(guarantee: Guarantee) -> Guarantee
 }
 
 // What arrives becomes effective, of every security.
-pub fn all_arrived(held: &mut [u64], guarantee: Guarantee)
-    requires { (length held.old ≡ held_length) × (securities_fit (vault_of guarantee (securities_of held.old)) ≡ true) }
+pub fn all_arrived(held: &mut Held, guarantee: Guarantee)
+    requires { securities_fit (vault_of guarantee (securities_of held.old)) ≡ true }
     ensures { (securities_of held.new ≡ map security_arrived (securities_of held.old))
         × (postings_of held.new ≡ postings_of held.old) }
 {
@@ -101,16 +101,13 @@ pub fn applications(
     served: bool,
     outstanding: Sheets,
     unpaid: Fen,
-    kinds: &[u8],
-    units: &[u64],
+    kinds: &Kinds,
+    units: &Units,
     count: usize,
-    held: &mut [u64],
+    held: &mut Held,
     begun: EveningScalars,
 ) -> EveningScalars
-    requires kinds_len { (length kinds.now ≡ application_limit)
-        × (length units.now ≡ application_limit)
-        × (length held.old ≡ held_length)
-        × (withdrawals_fit (record { kinds = kinds.now; units = units.now; count = count }) ≡ true) }
+    requires kinds_len { withdrawals_fit (record { kinds = kinds.now; units = units.now; count = count }) ≡ true }
     requires held_value { (securities_fit (vault_of begun.guarantee (securities_of held.old)) ≡ true)
         × (begun.guarantee.frozen.0 ≤ begun.guarantee.effective.0)
         × (begun.guarantee.effective.0 ≤ cash_limit)

@@ -1,11 +1,13 @@
 // O and V of a book: counted over the table and the vault, or carried over an event that says how it moves them.
-ghost use Rattle.std.specs.Prelude.{◌≡◌, true, length};
+ghost use Rattle.std.specs.Prelude.{◌≡◌, true};
 ghost use Rattle.rules.specs.Vault.{value as value_of};
 ghost use Rattle.rules.specs.Fit.{securities_fit, cash_fit};
 ghost use Rattle.rules.specs.Trades.{in_use, outstanding};
 ghost use Rattle.ledger.specs.Figures.{CountedHeld, figures_at, IsValue, Moved, MovedBy};
-ghost use Rattle.ledger.specs.Flat.{FitsHeld, vault_of, securities_of, trades_of, held_length};
+ghost use Rattle.ledger.specs.Flat.{FitsHeld, vault_of, securities_of, trades_of};
 
+use crate::days::Calendar;
+use crate::layout::Held;
 use crate::{trades, vault};
 use money::units::Sheets;
 use rules::event::Event;
@@ -26,7 +28,7 @@ pub struct KnownFigures {
 
 // Counted, over the trades in use and all kinds.
 #[tactic(auto, using(rules::proofs::FitParts::fit_parts))]
-pub fn figures_of(calendar: &[u32], scalars: Scalars, held: &[u64], table: &[u64]) -> Figures
+pub fn figures_of(calendar: &Calendar, scalars: Scalars, held: &Held, table: &[u64]) -> Figures
     requires { FitsHeld calendar.now scalars held.now (trades_of table.now) }
     ensures { result ≡ figures_at scalars held.now (trades_of table.now) }
 {
@@ -37,9 +39,8 @@ pub fn figures_of(calendar: &[u32], scalars: Scalars, held: &[u64], table: &[u64
 }
 
 // V, counted where it is not known.
-pub fn value_known(scalars: Scalars, held: &[u64], value: Option<Sheets>) -> Sheets
-    requires { (length held.now ≡ held_length)
-        × (securities_fit (vault_of scalars.guarantee (securities_of held.now)) ≡ true)
+pub fn value_known(scalars: Scalars, held: &Held, value: Option<Sheets>) -> Sheets
+    requires { (securities_fit (vault_of scalars.guarantee (securities_of held.now)) ≡ true)
         × (cash_fit scalars.cash scalars.guarantee ≡ true)
         × (IsValue value (value_of (vault_of scalars.guarantee (securities_of held.now)))) }
     ensures { result.0 ≡ value_of (vault_of scalars.guarantee (securities_of held.now)) }
@@ -53,9 +54,9 @@ pub fn value_known(scalars: Scalars, held: &[u64], value: Option<Sheets>) -> She
 // Both, with V counted only where it is not known.
 #[tactic(auto, using(rules::proofs::FitParts::fit_parts))]
 pub fn figures_known(
-    calendar: &[u32],
+    calendar: &Calendar,
     scalars: Scalars,
-    held: &[u64],
+    held: &Held,
     table: &[u64],
     known: KnownFigures,
 ) -> Figures
@@ -71,10 +72,10 @@ pub fn figures_known(
 // The vault has changed, and the table has not.
 #[tactic(auto, using(rules::proofs::FitParts::fit_parts))]
 fn revalued(
-    calendar: &[u32],
+    calendar: &Calendar,
     before: Figures,
     scalars: Scalars,
-    held: &[u64],
+    held: &Held,
     table: &[u64],
 ) -> Figures
     requires { let trades = trades_of table.now in
@@ -91,11 +92,11 @@ fn revalued(
 // After an event that is done: no trade is looked at where the event itself tells what it adds or takes.
 #[tactic(auto, using(rules::proofs::FitParts::fit_parts))]
 fn figures_moved(
-    calendar: &[u32],
+    calendar: &Calendar,
     before: Figures,
     event: Event,
     scalars: Scalars,
-    held: &[u64],
+    held: &Held,
     table: &[u64],
 ) -> Figures
     requires { let trades = trades_of table.now in
@@ -138,12 +139,12 @@ fn figures_moved(
 // After any entry: what is turned down, or fails to be paid, moves nothing.
 #[tactic(auto, using(crate::proofs::FigureLaws::unmoved))]
 pub fn figures_after(
-    calendar: &[u32],
+    calendar: &Calendar,
     before: Figures,
     entry: Option<Event>,
     number: u8,
     scalars: Scalars,
-    held: &[u64],
+    held: &Held,
     table: &[u64],
 ) -> Figures
     requires { let trades = trades_of table.now in

@@ -1,16 +1,16 @@
 // When a book is fit: its tests in the order of document 01.
-ghost use Rattle.std.specs.Prelude.{◌≡◌, ◌≤◌, true, List, [], ◌∷◌, length};
-ghost use Rattle.money.specs.Limits.{calendar_limit};
-ghost use Rattle.rules.specs.Limits.{application_limit};
+ghost use Rattle.std.specs.Prelude.{◌≡◌, true, List, [], ◌∷◌};
 ghost use Rattle.rules.specs.Folds.{every};
 ghost use Rattle.rules.specs.Trades.{differ};
 ghost use Rattle.rules.specs.Fit.{capacity_fit, size_fit, nets_fit, sums_fit, withdrawals_fit, unopened_fit, opened_fit, day_fit, fit};
 ghost use Rattle.ledger.specs.Types.{Trade, Some};
-ghost use Rattle.ledger.specs.Flat.{RowsLong, rows_of, book_of, trades_to, trades_of, Kept};
+ghost use Rattle.ledger.specs.Flat.{rows_of, book_of, trades_to, trades_of, Kept};
 ghost use Rattle.ledger.specs.Figures.{outstanding_at, IsFitWith, latest_first, summary_of};
 
+use crate::days::Calendar;
+use crate::layout::{Held, Kinds, Units};
 use crate::trades::Summary;
-use crate::{days, layout, nets, postings, trades, vault};
+use crate::{layout, nets, postings, trades, vault};
 use money::units::{Fen, Sheets};
 use rules::book::{Nets, Standing, Sums};
 use rules::limits::{CAPACITY_LIMIT, SIZE_LIMIT};
@@ -70,21 +70,19 @@ fn unopened_fit(standing: Standing, count: usize) -> bool
 
 // The day trades, another follows, and no first payment day is past today's payment day: the latest is not.
 #[tactic(auto, using(crate::proofs::Fitting::fitting))]
-fn opened_fit(calendar: &[u32], today: u32, latest: u32) -> bool
-    requires { length calendar.now ≤ calendar_limit }
+fn opened_fit(calendar: &Calendar, today: u32, latest: u32) -> bool
     ensures { (trades : List Trade) → latest ≡ latest_first trades → result ≡ opened_fit calendar.now today trades }
 {
-    if !money::days::trades_on(calendar, today) {
+    if !calendar.trades_on(today) {
         return false;
     }
-    if !days::has_next(calendar, today) {
+    if !calendar.has_next(today) {
         return false;
     }
-    latest <= days::payment_day(calendar, Some(today))
+    latest <= calendar.payment_day(Some(today))
 }
 
-fn day_fit(calendar: &[u32], standing: Standing, count: usize, latest: u32) -> bool
-    requires { length calendar.now ≤ calendar_limit }
+fn day_fit(calendar: &Calendar, standing: Standing, count: usize, latest: u32) -> bool
     ensures { (trades : List Trade) →
         latest ≡ latest_first trades → result ≡ day_fit calendar.now standing.day standing.phase trades count }
 {
@@ -98,17 +96,14 @@ fn day_fit(calendar: &[u32], standing: Standing, count: usize, latest: u32) -> b
 // The tests after those of the vault, the cash, the sheets and the postings.
 #[tactic(auto, using(crate::proofs::Fitting::fitting, crate::proofs::Fitting::upheld))]
 fn others_fit(
-    calendar: &[u32],
+    calendar: &Calendar,
     scalars: Scalars,
-    kinds: &[u8],
-    units: &[u64],
+    kinds: &Kinds,
+    units: &Units,
     table: &[u64],
     latest: u32,
 ) -> bool
-    requires { (length calendar.now ≤ calendar_limit)
-        × (length kinds.now ≡ application_limit)
-        × (length units.now ≡ application_limit)
-        × (Kept table.now scalars.trades)
+    requires { (Kept table.now scalars.trades)
         × (latest ≡ latest_first (trades_to table.now scalars.trades)) }
     ensures { let trades = trades_to table.now scalars.trades in
         result ≡ every
@@ -140,16 +135,15 @@ fn others_fit(
 
 // The tests of a table with room for its trades, each within its limits, from what one walk over these tells.
 fn is_fit(
-    calendar: &[u32],
+    calendar: &Calendar,
     scalars: Scalars,
-    held: &[u64],
-    kinds: &[u8],
-    units: &[u64],
+    held: &Held,
+    kinds: &Kinds,
+    units: &Units,
     table: &[u64],
     summary: Summary,
 ) -> bool
-    requires { (RowsLong calendar.now held.now kinds.now units.now)
-        × (capacity_fit scalars.trades (trades_of table.now) ≡ true)
+    requires { (capacity_fit scalars.trades (trades_of table.now) ≡ true)
         × (summary_of (trades_to table.now scalars.trades) ≡ Some summary) }
     ensures { let book = book_of scalars (rows_of held.now kinds.now units.now) in
         let trades = trades_of table.now in
@@ -172,14 +166,13 @@ fn is_fit(
 
 // O of a book that is fit, since the test counts it.
 pub fn fitness_of(
-    calendar: &[u32],
+    calendar: &Calendar,
     scalars: Scalars,
-    held: &[u64],
-    kinds: &[u8],
-    units: &[u64],
+    held: &Held,
+    kinds: &Kinds,
+    units: &Units,
     table: &[u64],
 ) -> Option<Sheets>
-    requires { RowsLong calendar.now held.now kinds.now units.now }
     ensures { let trades = trades_of table.now in
         let fits = fit calendar.now (book_of scalars (rows_of held.now kinds.now units.now)) trades in
         IsFitWith result fits (outstanding_at scalars trades) }

@@ -1,11 +1,12 @@
 // 7 Freeze: sets frozen units.
-ghost use Rattle.std.specs.Prelude.{◌≡◌, ℕ, ◌<◌, List, length, slice_set};
+ghost use Rattle.std.specs.Prelude.{◌≡◌, ℕ, ◌<◌, List, slice_set};
 ghost use Rattle.money.specs.Causes.{first_of, refusal_of};
 ghost use Rattle.money.specs.Collateral.{cash_kind};
 ghost use Rattle.rules.specs.Freeze.{freeze_causes, frozen, with_frozen, cash_frozen};
 ghost use Rattle.scalars.specs.Scalars.{done_by};
-ghost use Rattle.ledger.specs.Flat.{security_in, securities_of, postings_of, rows_of, book_of, applied_by, applied_at, held_length};
+ghost use Rattle.ledger.specs.Flat.{security_in, securities_of, postings_of, rows_of, book_of, applied_by, applied_at};
 
+use crate::layout::Held;
 use crate::{held, vault};
 use money::limits::CASH_KIND;
 use money::refusal::Refusal;
@@ -16,8 +17,7 @@ use scalars::done::Done;
 use scalars::state::Scalars;
 
 #[tactic(auto, unfolding(rules::specs::Freeze::freeze_causes, money::specs::Causes::first_of))]
-fn freeze_refusal(scalars: Scalars, held: &[u64], kind: u8, units: u64) -> Result<(), Refusal>
-    requires { length held.now ≡ held_length }
+fn freeze_refusal(scalars: Scalars, held: &Held, kind: u8, units: u64) -> Result<(), Refusal>
     ensures { (kinds amounts : List ℕ) →
         refusal_of result ≡ first_of (freeze_causes (book_of scalars (rows_of held.now kinds amounts)) kind units) }
 {
@@ -30,8 +30,8 @@ fn freeze_refusal(scalars: Scalars, held: &[u64], kind: u8, units: u64) -> Resul
     Ok(())
 }
 
-fn put_frozen(held: &mut [u64], kind: u8, units: u64)
-    requires { (kind < cash_kind) × (length held.old ≡ held_length) }
+fn put_frozen(held: &mut Held, kind: u8, units: u64)
+    requires { kind < cash_kind }
     ensures { (securities_of held.new
         ≡ slice_set (securities_of held.old) kind (with_frozen units (security_in held.old kind)))
         × (postings_of held.new ≡ postings_of held.old) }
@@ -58,8 +58,7 @@ fn cash_frozen(guarantee: Guarantee, amount: Fen) -> Guarantee
 }
 
 #[tactic(auto, using(crate::proofs::Refusing::turned_down, crate::proofs::Refusing::carried_out), unfolding(rules::specs::Step::event_causes, rules::specs::Freeze::freeze_causes, rules::specs::Freeze::frozen, money::specs::Causes::first_of))]
-pub fn freeze(scalars: Scalars, held: &mut [u64], kind: u8, units: u64) -> Result<Done, Refusal>
-    requires { length held.old ≡ held_length }
+pub fn freeze(scalars: Scalars, held: &mut Held, kind: u8, units: u64) -> Result<Done, Refusal>
     ensures { (kinds amounts : List ℕ) →
         let book = book_of scalars (rows_of held.old kinds amounts) in
         let cause = first_of (freeze_causes book kind units) in

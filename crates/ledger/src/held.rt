@@ -1,14 +1,14 @@
 // The securities in a lent row, four numbers each: effective, arriving and frozen units, and the rate. Behind them stands what is posted.
-ghost use Rattle.std.specs.Prelude.{◌≡◌, ◌<◌, length, slice_set};
+ghost use Rattle.std.specs.Prelude.{◌≡◌, ◌<◌, slice_set};
 ghost use Rattle.money.specs.Collateral.{cash_kind};
-ghost use Rattle.ledger.specs.Flat.{security_in, securities_of, postings_of, held_length};
+ghost use Rattle.ledger.specs.Flat.{security_in, securities_of, postings_of};
 
-use crate::layout::SECURITY_WIDTH;
+use crate::layout::{Held, SECURITY_WIDTH};
 use rules::book::Security;
 
 #[tactic(auto, unfolding(crate::specs::Flat::security_in))]
-pub fn security_at(held: &[u64], kind: usize) -> Security
-    requires { (kind < cash_kind) × (length held.now ≡ held_length) }
+pub fn security_at(held: &Held, kind: usize) -> Security
+    requires { kind < cash_kind }
     ensures { result ≡ security_in held.now kind }
 {
     let at = kind * SECURITY_WIDTH;
@@ -20,8 +20,8 @@ pub fn security_at(held: &[u64], kind: usize) -> Security
     }
 }
 
-pub fn put_security(held: &mut [u64], kind: usize, security: Security)
-    requires { (kind < cash_kind) × (length held.old ≡ held_length) }
+pub fn put_security(held: &mut Held, kind: usize, security: Security)
+    requires { kind < cash_kind }
     ensures { (securities_of held.new ≡ slice_set (securities_of held.old) kind security)
         × (postings_of held.new ≡ postings_of held.old) }
 {

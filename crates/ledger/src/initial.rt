@@ -1,6 +1,6 @@
 // 9 Initial: a new last trade; its amount is taken from today's net.
 ghost use Rattle.std.specs.Prelude.{◌≡◌, ℕ, ◌<◌, ◌≤◌, List, length, pos, int_lt, nat_le};
-ghost use Rattle.money.specs.Limits.{calendar_limit, term_limit, trade_limit};
+ghost use Rattle.money.specs.Limits.{term_limit, trade_limit};
 ghost use Rattle.money.specs.Causes.{first_of, refusal_of};
 ghost use Rattle.money.specs.Money.{principal};
 ghost use Rattle.rules.specs.Days.{day_number};
@@ -8,9 +8,11 @@ ghost use Rattle.rules.specs.Trades.{in_use, on_table};
 ghost use Rattle.rules.specs.Vault.{headroom};
 ghost use Rattle.rules.specs.Initial.{bad_count, bad_due, product_causes, time_causes, term_causes, slot_causes, sheet_causes, begun, initial_causes, initial_book, initial_table};
 ghost use Rattle.scalars.specs.Scalars.{done_by};
-ghost use Rattle.ledger.specs.Flat.{HasSlots, Rows, rows_of, book_of, applied_at, trades_of, applied_by, table_by, held_length};
+ghost use Rattle.ledger.specs.Flat.{HasSlots, Rows, rows_of, book_of, applied_at, trades_of, applied_by, table_by};
 ghost use Rattle.ledger.specs.Figures.{CountedHeld};
 
+use crate::days::Calendar;
+use crate::layout::Held;
 use crate::figures::KnownFigures;
 use crate::{days, figures, flat, nets, postings, prices, trades};
 use money::limits::TRADE_LIMIT;
@@ -28,8 +30,8 @@ fn bad_count(count: Sheets) -> bool
     count.0 == 0 || count.0 % 10 != 0 || count.0 > TRADE_LIMIT
 }
 
-fn bad_due(calendar: &[u32], day: Option<u32>, due: u32) -> bool
-    requires { (length calendar.now ≤ calendar_limit) × (day_number day < term_limit) }
+fn bad_due(calendar: &Calendar, day: Option<u32>, due: u32) -> bool
+    requires { day_number day < term_limit }
     ensures { result ≡ bad_due calendar.now (day_number day) due }
 {
     let today = days::day_number(day);
@@ -39,7 +41,7 @@ fn bad_due(calendar: &[u32], day: Option<u32>, due: u32) -> bool
     if due > today + AHEAD_LIMIT {
         return true;
     }
-    !days::matures(calendar, due)
+    !calendar.matures(due)
 }
 
 fn is_taken(table: &[u64], count: usize, contract: Contract) -> bool
@@ -66,9 +68,9 @@ fn principal_of(count: Sheets) -> Fen
 // Whether sheets are above headroom.
 #[tactic(auto, unfolding(rules::specs::Vault::headroom, money::specs::Causes::first_of))]
 fn lacks_headroom(
-    calendar: &[u32],
+    calendar: &Calendar,
     scalars: Scalars,
-    held: &[u64],
+    held: &Held,
     table: &[u64],
     known: KnownFigures,
     count: Sheets,
@@ -84,8 +86,7 @@ fn lacks_headroom(
 // The causes, group by group as the rules have them: a trade's product, when it may begin, its prices and its due day, the table's room,
 // and headroom's and the net's.
 #[tactic(auto, unfolding(money::specs::Causes::first_of))]
-fn product_refusal(scalars: Scalars, held: &[u64], terms: Terms) -> Result<(), Refusal>
-    requires { length held.now ≡ held_length }
+fn product_refusal(scalars: Scalars, held: &Held, terms: Terms) -> Result<(), Refusal>
     ensures { (kinds units : List ℕ) →
         let book = book_of scalars (rows_of held.now kinds units) in
         refusal_of result ≡ first_of (product_causes book terms) }
@@ -122,8 +123,8 @@ fn time_refusal(scalars: Scalars) -> Result<(), Refusal>
 }
 
 #[tactic(auto, unfolding(money::specs::Causes::first_of))]
-fn term_refusal(calendar: &[u32], scalars: Scalars, terms: Terms) -> Result<(), Refusal>
-    requires { (length calendar.now ≤ calendar_limit) × (day_number scalars.standing.day < term_limit) }
+fn term_refusal(calendar: &Calendar, scalars: Scalars, terms: Terms) -> Result<(), Refusal>
+    requires { day_number scalars.standing.day < term_limit }
     ensures { (rows : Rows) → refusal_of result ≡ first_of (term_causes calendar.now (book_of scalars rows) terms) }
 {
     if prices::bad_prices(terms.price, terms.fallback) {
@@ -151,9 +152,9 @@ fn slot_refusal(scalars: Scalars, table: &[u64], terms: Terms) -> Result<(), Ref
 
 #[tactic(auto, unfolding(money::specs::Money::principal, money::specs::Causes::first_of))]
 fn sheet_refusal(
-    calendar: &[u32],
+    calendar: &Calendar,
     scalars: Scalars,
-    held: &[u64],
+    held: &Held,
     table: &[u64],
     known: KnownFigures,
     terms: Terms,
@@ -175,9 +176,9 @@ fn sheet_refusal(
 
 #[tactic(auto, using(crate::proofs::Column::applies, crate::proofs::Column::passes, crate::proofs::Column::asked, crate::proofs::Refusing::no_rows), unfolding(rules::specs::Initial::initial_causes, money::specs::Causes::first_of))]
 fn initial_refusal(
-    calendar: &[u32],
+    calendar: &Calendar,
     scalars: Scalars,
-    held: &[u64],
+    held: &Held,
     table: &[u64],
     known: KnownFigures,
     terms: Terms,
@@ -200,8 +201,7 @@ fn initial_refusal(
 }
 
 // The record of a trade that begins today.
-fn begun_trade(calendar: &[u32], scalars: Scalars, terms: Terms) -> Trade
-    requires { length calendar.now ≤ calendar_limit }
+fn begun_trade(calendar: &Calendar, scalars: Scalars, terms: Terms) -> Trade
     ensures { (rows : Rows) → result ≡ begun calendar.now (book_of scalars rows) terms }
 {
     Trade {
@@ -209,7 +209,7 @@ fn begun_trade(calendar: &[u32], scalars: Scalars, terms: Terms) -> Trade
         sheets: terms.sheets,
         price: terms.price,
         fallback: terms.fallback,
-        first: days::payment_day(calendar, scalars.standing.day),
+        first: calendar.payment_day(scalars.standing.day),
         due: terms.due,
         product: u64::from(terms.product),
     }
@@ -217,9 +217,9 @@ fn begun_trade(calendar: &[u32], scalars: Scalars, terms: Terms) -> Trade
 
 #[tactic(auto, using(crate::proofs::Refusing::turned_down, crate::proofs::Refusing::carried_out), unfolding(money::specs::Money::principal, rules::specs::Initial::initial_book, rules::specs::Initial::initial_table, money::specs::Causes::first_of))]
 pub fn initial(
-    calendar: &[u32],
+    calendar: &Calendar,
     scalars: Scalars,
-    held: &[u64],
+    held: &Held,
     table: &mut [u64],
     known: KnownFigures,
     terms: Terms,

@@ -1,6 +1,5 @@
 // The calls on a book and its table in lent numbers, changed in place: nothing is copied. Numbers that are no whole rows hold no book
-// that is fit, and are answered 1. The rows stay apart and numbers, for C lends them so: std's conversion of a lent row to an array does not
-// say what is handed back, and a struct of lent rows wants of every function that each row is still the same one.
+// that is fit, and are answered 1. The rows stay apart: a struct of lent rows wants of every function that each row is still the same one.
 ghost use Rattle.std.specs.Prelude.{◌≡◌, ℕ, ◌*◌, ◌≤◌, false, IsErr, slice_index, slice_index_or, slice_set};
 ghost use Rattle.money.specs.Causes.{first_of, number_of, refusal_of};
 ghost use Rattle.std.specs.Result.{result_unwrap_or};
@@ -10,36 +9,21 @@ ghost use Rattle.rules.specs.Cover.{cover_told};
 ghost use Rattle.rules.specs.Listing.{length_causes};
 ghost use Rattle.ledger.specs.Flat.{width, capacity, trades_of};
 ghost use Rattle.ledger.specs.Figures.{outstanding_at, IsFitWith};
-ghost use Rattle.ledger.specs.Lent.{lent, book_in, table_in, is_whole, fit_in, step_in, cover_in, run_in};
+ghost use Rattle.ledger.specs.Lent.{lent, book_in, table_in, fit_in, step_in, cover_in, run_in};
 
 use crate::figures::KnownFigures;
-use crate::layout::HELD_LENGTH;
+use crate::days::Calendar;
+use crate::layout::{Held, Kinds, Units};
 use crate::{cover, dispatch, figures, fit, flat, layout, run};
 use money::refusal::Refusal;
 use money::units::Sheets;
 use rules::answer::Covered;
 use rules::event::Event;
-use rules::limits::{APPLICATION_LIMIT, EVENT_BYTES, EVENT_LIMIT, LINE_NUMBERS};
+use rules::limits::{EVENT_BYTES, EVENT_LIMIT, LINE_NUMBERS};
 use rules::trade::Trade;
+use scalars::done;
 use scalars::done::Done;
 use scalars::state::Scalars;
-use scalars::{done, state};
-
-#[tactic(auto, unfolding(crate::specs::Lent::is_whole, money::specs::Causes::first_of))]
-fn is_whole(scalars: Scalars, held: &[u64], kinds: &[u8], units: &[u64], table: &[u64]) -> bool
-    ensures { result ≡ is_whole (lent scalars held.now kinds.now units.now table.now) }
-{
-    if held.len() != HELD_LENGTH {
-        return false;
-    }
-    if kinds.len() != APPLICATION_LIMIT {
-        return false;
-    }
-    if units.len() != APPLICATION_LIMIT {
-        return false;
-    }
-    table.len() % layout::WIDTH == 0
-}
 
 // O of the book that the numbers hold, if it is fit.
 #[tactic(auto, using(crate::proofs::LentLaws::lengths, crate::proofs::LentLaws::too_long))]
@@ -54,13 +38,14 @@ fn fitness_in(
     ensures { let before = lent scalars held.now kinds.now units.now table.now in
         IsFitWith result (fit_in calendar.now before) (outstanding_at scalars (trades_of table.now)) }
 {
-    if !is_whole(scalars, held, kinds, units, table) {
+    let held: &Held = held.as_array()?;
+    let kinds: &Kinds = kinds.as_array()?;
+    let units: &Units = units.as_array()?;
+    if table.len() % layout::WIDTH != 0 {
         return None;
     }
-    if state::is_too_long(calendar.len()) {
-        return None;
-    }
-    fit::fitness_of(calendar, scalars, held, kinds, units, table)
+    let calendar = Calendar::of(calendar)?;
+    fit::fitness_of(&calendar, scalars, held, kinds, units, table)
 }
 
 // One entry. Refused, every number lent is as it was.
@@ -83,12 +68,13 @@ pub fn apply(
     let Some(outstanding) = fitness else {
         return done::refused(Refusal::NotFit, scalars);
     };
+    let calendar = Calendar::of(calendar).unwrap();
     dispatch::entry_on(
-        calendar,
+        &calendar,
         scalars,
-        held,
-        kinds,
-        units,
+        held.as_mut_array().unwrap(),
+        kinds.as_mut_array().unwrap(),
+        units.as_mut_array().unwrap(),
         table,
         KnownFigures {
             outstanding,
@@ -114,7 +100,9 @@ pub fn cover(
     let Some(_) = fitness_in(calendar, scalars, held, kinds, units, table) else {
         return Err(Refusal::NotFit);
     };
-    let figures = figures::figures_of(calendar, scalars, held, table);
+    let calendar = Calendar::of(calendar).unwrap();
+    let held: &Held = held.as_array().unwrap();
+    let figures = figures::figures_of(&calendar, scalars, held, table);
     Ok(cover::cover_from(scalars.size, figures))
 }
 
@@ -158,7 +146,17 @@ pub fn run(
         return Err(Refusal::NotFit);
     };
     lengths_refusal(events.len(), lines.len())?;
-    Ok(run::run_events(calendar, scalars, held, kinds, units, table, events, lines))
+    let calendar = Calendar::of(calendar).unwrap();
+    Ok(run::run_events(
+        &calendar,
+        scalars,
+        held.as_mut_array().unwrap(),
+        kinds.as_mut_array().unwrap(),
+        units.as_mut_array().unwrap(),
+        table,
+        events,
+        lines,
+    ))
 }
 
 // The trade at a place, or an empty one past the last.

@@ -1,5 +1,5 @@
 // Automatic next terms, between Close's parts (a) and (b): which start, decided once for the plan and once more as they are written. (02, ask 4)
-ghost use Rattle.std.specs.Prelude.{◌≡◌, ℕ, ◌+◌, ◌≤◌, true, false, List, length, slice_set};
+ghost use Rattle.std.specs.Prelude.{◌≡◌, ℕ, ◌+◌, ◌≤◌, true, false, List, slice_set};
 ghost use Rattle.money.specs.Days.{Calendar};
 ghost use Rattle.rules.specs.Limits.{product_limit};
 ghost use Rattle.rules.specs.Book.{is_normal};
@@ -9,10 +9,12 @@ ghost use Rattle.rules.specs.Fit.{securities_fit, cash_fit};
 ghost use Rattle.rules.specs.Trades.{outstanding as outstanding_of, over};
 ghost use Rattle.rules.specs.NextTerm.{starts as starts_of, next_term, with_started, in_slot, left_from, started_from};
 ghost use Rattle.ledger.specs.Types.{Book, Trade};
-ghost use Rattle.ledger.specs.Flat.{Kept, trade_at, trades_to, trades_of, securities_of, vault_of, rows_of, book_of, held_length};
+ghost use Rattle.ledger.specs.Flat.{Kept, trade_at, trades_to, trades_of, securities_of, vault_of, rows_of, book_of};
 ghost use Rattle.ledger.specs.Figures.{CountedWhole, IsValue};
 ghost use Rattle.ledger.specs.NextTerm.{Planned, PlanWithin, Meets, MeetsWhere, Renewable, RenewableWhere, FitAt, most_matured, most_started};
 
+use crate::days::Calendar;
+use crate::layout::{Held, Kinds, Units};
 use crate::figures::KnownFigures;
 use crate::{days, figures, flat, postings, redemption};
 use money::units::{Fen, SHEET_FEN, Sheets};
@@ -44,8 +46,7 @@ pub struct Plan {
 }
 
 // Whether any next term may start today: the status is normal, and something is posted.
-fn may_start(scalars: Scalars, held: &[u64]) -> bool
-    requires { length held.now ≡ held_length }
+fn may_start(scalars: Scalars, held: &Held) -> bool
     ensures { (result ≡ true → is_normal scalars.standing.status ≡ true)
         × (result ≡ false
         → (calendar : Calendar) (kinds units : List ℕ) (outstanding : ℕ) (trade : Trade) →
@@ -57,13 +58,12 @@ fn may_start(scalars: Scalars, held: &[u64]) -> bool
 
 fn closing_of(
     scalars: Scalars,
-    held: &[u64],
+    held: &Held,
     value: Option<Sheets>,
     today: u32,
     payment: u32,
 ) -> Option<Closing>
-    requires { (length held.now ≡ held_length)
-        × (securities_fit (vault_of scalars.guarantee (securities_of held.now)) ≡ true)
+    requires { (securities_fit (vault_of scalars.guarantee (securities_of held.now)) ≡ true)
         × (cash_fit scalars.cash scalars.guarantee ≡ true)
         × (IsValue value (value_of (vault_of scalars.guarantee (securities_of held.now)))) }
     ensures { (calendar : Calendar) (kinds units : List ℕ) →
@@ -81,8 +81,8 @@ fn closing_of(
 // The conditions in the order of the ask; the status is normal. A posted term is 1 to 365 days, so of rule 9 the calendar alone is left to ask.
 #[tactic(auto, using(crate::proofs::RedemptionLaws::within_of))]
 fn starts(
-    calendar: &[u32],
-    held: &[u64],
+    calendar: &Calendar,
+    held: &Held,
     table: &[u64],
     place: usize,
     closing: Closing,
@@ -102,13 +102,13 @@ fn starts(
     if posting.term == 0 {
         return false;
     }
-    days::matures(calendar, closing.today + posting.term as u32)
+    calendar.matures(closing.today + posting.term as u32)
         && !headroom::above_headroom(closing.size, closing.value, outstanding, due)
 }
 
 // The record that takes the old one's slot.
 #[tactic(auto, using(crate::proofs::RedemptionLaws::within_of))]
-fn next_term(calendar: &[u32], held: &[u64], table: &[u64], place: usize, closing: Closing) -> Trade
+fn next_term(calendar: &Calendar, held: &Held, table: &[u64], place: usize, closing: Closing) -> Trade
     requires { (Renewable calendar.now closing held.now) × (FitAt table.now place) }
     ensures { (book : Book) →
         Meets calendar.now book closing held.now
@@ -130,8 +130,8 @@ fn next_term(calendar: &[u32], held: &[u64], table: &[u64], place: usize, closin
 // O with a trade's next term, if it starts.
 #[tactic(auto, using(crate::proofs::RedemptionLaws::within_of))]
 fn with_started(
-    calendar: &[u32],
-    held: &[u64],
+    calendar: &Calendar,
+    held: &Held,
     table: &[u64],
     place: usize,
     closing: Closing,
@@ -155,8 +155,8 @@ fn with_started(
 // The plan: O as part (b) begins, from O once all have matured. Each term is judged beside those that started before it.
 #[tactic(auto, using(crate::proofs::StartLaws::no_more))]
 pub fn outstanding_after(
-    calendar: &[u32],
-    held: &[u64],
+    calendar: &Calendar,
+    held: &Held,
     table: &[u64],
     count: usize,
     closing: Option<Closing>,
@@ -182,8 +182,8 @@ pub fn outstanding_after(
 // the table: one function for both would lend it to the plan for writing.
 #[tactic(auto, using(crate::proofs::RedemptionLaws::within_of))]
 fn settle_slot(
-    calendar: &[u32],
-    held: &[u64],
+    calendar: &Calendar,
+    held: &Held,
     table: &mut [u64],
     place: usize,
     closing: Closing,
@@ -211,8 +211,8 @@ fn settle_slot(
 
 // What the plan decided, written: every slot in use as part (b) begins.
 pub fn settle(
-    calendar: &[u32],
-    held: &[u64],
+    calendar: &Calendar,
+    held: &Held,
     table: &mut [u64],
     count: usize,
     closing: Option<Closing>,
@@ -239,11 +239,11 @@ pub fn settle(
 // All that Close has to know before it writes: what matures, and which terms start.
 #[tactic(auto, using(rules::proofs::FitParts::fit_parts))]
 pub fn plan_of(
-    calendar: &[u32],
+    calendar: &Calendar,
     scalars: Scalars,
-    held: &[u64],
-    kinds: &[u8],
-    units: &[u64],
+    held: &Held,
+    kinds: &Kinds,
+    units: &Units,
     table: &[u64],
     known: KnownFigures,
 ) -> Plan
@@ -253,7 +253,7 @@ pub fn plan_of(
 {
     let day = scalars.standing.day;
     let today = days::day_number(day);
-    let payment = days::payment_day(calendar, day);
+    let payment = calendar.payment_day(day);
     let redeemed = redemption::maturity_plan(table, scalars.trades, today, payment);
     let closing = closing_of(scalars, held, known.value, today, payment);
     let outstanding = Sheets(known.outstanding.0 - redeemed.sheets.0);

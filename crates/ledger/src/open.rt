@@ -1,6 +1,5 @@
 // 1 Open: goes to the next trading day; on turning terminated every trade is redeemed at its fallback price.
-ghost use Rattle.std.specs.Prelude.{◌≡◌, ℕ, ◌≤◌, List, length};
-ghost use Rattle.money.specs.Limits.{calendar_limit};
+ghost use Rattle.std.specs.Prelude.{◌≡◌, ℕ, ◌≤◌, List};
 ghost use Rattle.money.specs.Causes.{first_of, refusal_of};
 ghost use Rattle.money.specs.Units.{fen};
 ghost use Rattle.rules.specs.Status.{status_at_open};
@@ -9,7 +8,9 @@ ghost use Rattle.scalars.specs.Scalars.{done_by};
 ghost use Rattle.ledger.specs.Flat.{Rows, rows_of, book_of, Fits, FitsHeld, Opening, Ending, applied_at, trades_of, applied_by, table_by};
 ghost use Rattle.ledger.specs.Redemption.{amount_bound};
 
-use crate::{days, nets, postings, redemption};
+use crate::days::Calendar;
+use crate::layout::Held;
+use crate::{nets, postings, redemption};
 use money::refusal::Refusal;
 use money::units::Fen;
 use rules::book::{Phase, Standing};
@@ -17,12 +18,11 @@ use scalars::done::Done;
 use scalars::state::Scalars;
 use scalars::{done, state, status, unpaid};
 
-fn opened_standing(calendar: &[u32], standing: Standing) -> Standing
-    requires { length calendar.now ≤ calendar_limit }
+fn opened_standing(calendar: &Calendar, standing: Standing) -> Standing
     ensures { result ≡ opened_standing calendar.now standing }
 {
     Standing {
-        day: days::next_day(calendar, standing.day),
+        day: calendar.next_day(standing.day),
         phase: Phase::Trading,
         status: status::status_at_open(standing.status, standing.failed, standing.short),
         ..standing
@@ -39,12 +39,12 @@ fn turns_terminated(before: Standing, after: Standing) -> bool
 }
 
 // Art. 72: every trade is redeemed whole at its fallback price on the day opened.
-fn fallback_sum(calendar: &[u32], scalars: Scalars, table: &[u64], after: Standing) -> Fen
+fn fallback_sum(calendar: &Calendar, scalars: Scalars, table: &[u64], after: Standing) -> Fen
     requires { Opening calendar.now scalars (trades_of table.now) after }
     ensures { ((rows : Rows) → result ≡ fen (fallback_sum calendar.now (book_of scalars rows) (trades_of table.now)))
         × (result.0 ≤ amount_bound) }
 {
-    let payment = days::payment_day(calendar, after.day);
+    let payment = calendar.payment_day(after.day);
     let plan = redemption::termination_plan(table, scalars.trades, payment);
     plan.amount
 }
@@ -52,7 +52,7 @@ fn fallback_sum(calendar: &[u32], scalars: Scalars, table: &[u64], after: Standi
 // On turning terminated the table is emptied into the cleared net and U's cleared part, unless the net or U would leave its limit.
 #[tactic(auto, using(rules::proofs::FitParts::fit_parts), unfolding(rules::specs::Open::opened_table, money::specs::Causes::first_of))]
 fn terminated(
-    calendar: &[u32],
+    calendar: &Calendar,
     scalars: Scalars,
     table: &mut [u64],
     after: Standing,
@@ -87,7 +87,7 @@ fn terminated(
 
 // The day opened, with what was posted before.
 #[tactic(auto, unfolding(rules::specs::Open::opened_table, money::specs::Causes::first_of))]
-fn turned(calendar: &[u32], scalars: Scalars, table: &mut [u64]) -> Result<Done, Refusal>
+fn turned(calendar: &Calendar, scalars: Scalars, table: &mut [u64]) -> Result<Done, Refusal>
     requires { Fits calendar.now scalars (trades_of table.old) }
     ensures { let trades = trades_of table.old in
         ((rows : Rows) →
@@ -103,7 +103,7 @@ fn turned(calendar: &[u32], scalars: Scalars, table: &mut [u64]) -> Result<Done,
     }
     let day = standing.day;
     // before 14: that one does not apply where this one does
-    if !days::opens(calendar, day) {
+    if !calendar.opens(day) {
         return Err(Refusal::NoTradingDay);
     }
     let after = opened_standing(calendar, standing);
@@ -119,9 +119,9 @@ fn turned(calendar: &[u32], scalars: Scalars, table: &mut [u64]) -> Result<Done,
 // What was posted is forgotten, unless Open is refused.
 #[tactic(auto, using(crate::proofs::OpenLaws::forgotten))]
 pub fn open(
-    calendar: &[u32],
+    calendar: &Calendar,
     scalars: Scalars,
-    held: &mut [u64],
+    held: &mut Held,
     table: &mut [u64],
 ) -> Result<Done, Refusal>
     requires { FitsHeld calendar.now scalars held.old (trades_of table.old) }

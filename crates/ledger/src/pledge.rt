@@ -1,13 +1,14 @@
 // 6 Pledge: units arrive, and count from the next close.
-ghost use Rattle.std.specs.Prelude.{◌≡◌, ℕ, ◌+◌, ◌<◌, ◌≤◌, true, List, length, slice_set};
+ghost use Rattle.std.specs.Prelude.{◌≡◌, ℕ, ◌+◌, ◌<◌, ◌≤◌, true, List, slice_set};
 ghost use Rattle.money.specs.Limits.{cash_limit, unit_limit};
 ghost use Rattle.money.specs.Causes.{first_of, refusal_of};
 ghost use Rattle.money.specs.Collateral.{cash_kind};
 ghost use Rattle.rules.specs.Fit.{cash_fit, securities_fit};
 ghost use Rattle.rules.specs.Pledge.{pledge_causes, pledged, arrived, cash_arrived};
 ghost use Rattle.scalars.specs.Scalars.{done_by};
-ghost use Rattle.ledger.specs.Flat.{security_in, securities_of, postings_of, vault_of, rows_of, book_of, applied_by, applied_at, held_length};
+ghost use Rattle.ledger.specs.Flat.{security_in, securities_of, postings_of, vault_of, rows_of, book_of, applied_by, applied_at};
 
+use crate::layout::Held;
 use crate::held;
 use money::limits::{CASH_KIND, UNIT_LIMIT};
 use money::refusal::Refusal;
@@ -19,8 +20,8 @@ use scalars::state::Scalars;
 
 // The units of a security, effective and arriving together.
 #[tactic(auto, using(crate::proofs::HeldFit::row_fits))]
-fn units_of(held: &[u64], guarantee: Guarantee, kind: u8) -> u64
-    requires { (kind < cash_kind) × (length held.now ≡ held_length) × (securities_fit (vault_of guarantee (securities_of held.now)) ≡ true) }
+fn units_of(held: &Held, guarantee: Guarantee, kind: u8) -> u64
+    requires { (kind < cash_kind) × (securities_fit (vault_of guarantee (securities_of held.now)) ≡ true) }
     ensures { result ≡ (security_in held.now kind).effective + (security_in held.now kind).arriving }
 {
     let security = held::security_at(held, kind as usize);
@@ -28,8 +29,8 @@ fn units_of(held: &[u64], guarantee: Guarantee, kind: u8) -> u64
 }
 
 #[tactic(auto, unfolding(rules::specs::Pledge::pledge_causes, money::specs::Causes::first_of))]
-fn pledge_refusal(scalars: Scalars, held: &[u64], kind: u8, units: u64) -> Result<(), Refusal>
-    requires { (length held.now ≡ held_length) × (securities_fit (vault_of scalars.guarantee (securities_of held.now)) ≡ true) }
+fn pledge_refusal(scalars: Scalars, held: &Held, kind: u8, units: u64) -> Result<(), Refusal>
+    requires { securities_fit (vault_of scalars.guarantee (securities_of held.now)) ≡ true }
     ensures { (kinds amounts : List ℕ) →
         refusal_of result ≡ first_of (pledge_causes (book_of scalars (rows_of held.now kinds amounts)) kind units) }
 {
@@ -55,8 +56,8 @@ fn pledge_refusal(scalars: Scalars, held: &[u64], kind: u8, units: u64) -> Resul
     Ok(())
 }
 
-fn put_arrived(held: &mut [u64], kind: u8, units: u64)
-    requires { (kind < cash_kind) × (length held.old ≡ held_length) × ((security_in held.old kind).arriving + units ≤ unit_limit) }
+fn put_arrived(held: &mut Held, kind: u8, units: u64)
+    requires { (kind < cash_kind) × ((security_in held.old kind).arriving + units ≤ unit_limit) }
     ensures { (securities_of held.new
         ≡ slice_set (securities_of held.old) kind (arrived units (security_in held.old kind)))
         × (postings_of held.new ≡ postings_of held.old) }
@@ -84,9 +85,8 @@ fn cash_arrived(guarantee: Guarantee, amount: Fen) -> Guarantee
 }
 
 #[tactic(auto, using(crate::proofs::Refusing::turned_down, crate::proofs::Refusing::carried_out), unfolding(rules::specs::Step::event_causes, rules::specs::Pledge::pledged, money::specs::Causes::first_of))]
-pub fn pledge(scalars: Scalars, held: &mut [u64], kind: u8, units: u64) -> Result<Done, Refusal>
-    requires { (length held.old ≡ held_length)
-        × (securities_fit (vault_of scalars.guarantee (securities_of held.old)) ≡ true)
+pub fn pledge(scalars: Scalars, held: &mut Held, kind: u8, units: u64) -> Result<Done, Refusal>
+    requires { (securities_fit (vault_of scalars.guarantee (securities_of held.old)) ≡ true)
         × (cash_fit scalars.cash scalars.guarantee ≡ true) }
     ensures { (kinds amounts : List ℕ) →
         let book = book_of scalars (rows_of held.old kinds amounts) in

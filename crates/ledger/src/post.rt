@@ -1,10 +1,11 @@
 // 13 Post: gives a product its term and both prices for the day. (02, ask 4)
-ghost use Rattle.std.specs.Prelude.{◌≡◌, ℕ, List, length};
+ghost use Rattle.std.specs.Prelude.{◌≡◌, ℕ, List};
 ghost use Rattle.money.specs.Causes.{first_of, refusal_of};
 ghost use Rattle.rules.specs.Post.{bad_term, post_causes, posted};
 ghost use Rattle.scalars.specs.Scalars.{done_by};
-ghost use Rattle.ledger.specs.Flat.{Rows, rows_of, book_of, applied_by, applied_at, held_length};
+ghost use Rattle.ledger.specs.Flat.{Rows, rows_of, book_of, applied_by, applied_at};
 
+use crate::layout::Held;
 use crate::postings::LONGEST_TERM;
 use crate::{postings, prices};
 use money::refusal::Refusal;
@@ -47,11 +48,10 @@ fn post_refusal(scalars: Scalars, product: u8, posting: Posting) -> Result<(), R
 #[tactic(auto, using(crate::proofs::Refusing::turned_down, crate::proofs::Refusing::carried_out), unfolding(rules::specs::Post::post_causes, rules::specs::Post::posted, money::specs::Causes::first_of))]
 pub fn post(
     scalars: Scalars,
-    held: &mut [u64],
+    held: &mut Held,
     product: u8,
     posting: Posting,
 ) -> Result<Done, Refusal>
-    requires { length held.old ≡ held_length }
     ensures { (kinds units : List ℕ) →
         let book = book_of scalars (rows_of held.old kinds units) in
         let cause = first_of (post_causes book product posting) in

@@ -1,12 +1,12 @@
 // What is posted today, in the row of the securities behind these, two numbers a product: the term, and both prices. (02, ask 4)
-ghost use Rattle.std.specs.Prelude.{◌≡◌, ℕ, ◌<◌, ◌≤◌, false, length, slice_set};
+ghost use Rattle.std.specs.Prelude.{◌≡◌, ℕ, ◌<◌, ◌≤◌, false, slice_set};
 ghost use Rattle.rules.specs.Limits.{product_limit};
 ghost use Rattle.rules.specs.Book.{is_posted, no_postings, posting_at};
 ghost use Rattle.rules.specs.Fit.{posting_fit, postings_fit};
-ghost use Rattle.ledger.specs.Flat.{posting_in, securities_of, postings_of, held_length};
+ghost use Rattle.ledger.specs.Flat.{posting_in, securities_of, postings_of};
 
 use crate::flat;
-use crate::layout::{HELD_LENGTH, POSTING_WIDTH, POSTINGS_FROM};
+use crate::layout::{HELD_LENGTH, Held, POSTINGS_FROM, POSTING_WIDTH};
 use money::limits::PRICE_LIMIT;
 use money::units::Ticks;
 use rules::book::Posting;
@@ -16,8 +16,8 @@ pub const LONGEST_TERM: u64 = AHEAD_LIMIT as u64;
 
 // Its prices share a number, so it is read and written otherwise than a security, whose numbers stand alone.
 #[tactic(auto, unfolding(crate::specs::Flat::posting_in))]
-pub fn posting_at(held: &[u64], number: usize) -> Posting
-    requires { (number < product_limit) × (length held.now ≡ held_length) }
+pub fn posting_at(held: &Held, number: usize) -> Posting
+    requires { number < product_limit }
     ensures { result ≡ posting_in held.now number }
 {
     let at = POSTINGS_FROM + number * POSTING_WIDTH;
@@ -29,8 +29,8 @@ pub fn posting_at(held: &[u64], number: usize) -> Posting
 }
 
 // What is posted for a record's product, which is 0 for none, or the number plus 1.
-pub fn posting_of(held: &[u64], product: usize) -> Posting
-    requires { (product ≤ product_limit) × (length held.now ≡ held_length) }
+pub fn posting_of(held: &Held, product: usize) -> Posting
+    requires { product ≤ product_limit }
     ensures { result ≡ posting_at (postings_of held.now) product }
 {
     match product.checked_sub(1) {
@@ -44,15 +44,14 @@ pub fn posting_of(held: &[u64], product: usize) -> Posting
 }
 
 // Whether any product is posted today.
-pub fn any_posted(held: &[u64]) -> bool
-    requires { length held.now ≡ held_length }
+pub fn any_posted(held: &Held) -> bool
     ensures { result ≡ false → (number : ℕ) → number < product_limit → is_posted (posting_in held.now number) ≡ false }
 {
     (0..PRODUCT_LIMIT).any(|number| posting_at(held, number).term != 0)
 }
 
-pub fn put_posting(held: &mut [u64], number: usize, posting: Posting)
-    requires { (number < product_limit) × (length held.old ≡ held_length) }
+pub fn put_posting(held: &mut Held, number: usize, posting: Posting)
+    requires { number < product_limit }
     ensures { (postings_of held.new ≡ slice_set (postings_of held.old) number posting)
         × (securities_of held.new ≡ securities_of held.old) }
 {
@@ -63,8 +62,7 @@ pub fn put_posting(held: &mut [u64], number: usize, posting: Posting)
 }
 
 // Open forgets what was posted.
-pub fn forget(held: &mut [u64])
-    requires { length held.old ≡ held_length }
+pub fn forget(held: &mut Held)
     ensures { (postings_of held.new ≡ no_postings) × (securities_of held.new ≡ securities_of held.old) }
 {
     held[POSTINGS_FROM..HELD_LENGTH].fill(0);
@@ -78,8 +76,7 @@ fn posting_fit(posting: Posting) -> bool
         && posting.fallback.0 <= PRICE_LIMIT
 }
 
-pub fn postings_fit(held: &[u64]) -> bool
-    requires { length held.now ≡ held_length }
+pub fn postings_fit(held: &Held) -> bool
     ensures { result ≡ postings_fit (postings_of held.now) }
 {
     (0..PRODUCT_LIMIT).all(|number| posting_fit(posting_at(held, number)))

@@ -1,10 +1,11 @@
 // 5 Rate: sets a security's rate.
-ghost use Rattle.std.specs.Prelude.{◌≡◌, ℕ, List, length};
+ghost use Rattle.std.specs.Prelude.{◌≡◌, ℕ, List};
 ghost use Rattle.money.specs.Causes.{first_of, refusal_of};
 ghost use Rattle.rules.specs.Rate.{rate_causes, rated};
 ghost use Rattle.scalars.specs.Scalars.{done_by};
-ghost use Rattle.ledger.specs.Flat.{rows_of, book_of, applied_by, applied_at, held_length};
+ghost use Rattle.ledger.specs.Flat.{rows_of, book_of, applied_by, applied_at};
 
+use crate::layout::Held;
 use crate::held;
 use money::limits::{CASH_KIND, RATE_LIMIT};
 use money::refusal::Refusal;
@@ -27,8 +28,7 @@ fn rate_refusal(kind: u8, rate: u64) -> Result<(), Refusal>
 }
 
 #[tactic(auto, using(crate::proofs::Refusing::turned_down, crate::proofs::Refusing::carried_out), unfolding(rules::specs::Step::event_causes, rules::specs::Rate::rate_causes, rules::specs::Rate::rated, money::specs::Causes::first_of))]
-pub fn set_rate(scalars: Scalars, held: &mut [u64], kind: u8, rate: u64) -> Result<Done, Refusal>
-    requires { length held.old ≡ held_length }
+pub fn set_rate(scalars: Scalars, held: &mut Held, kind: u8, rate: u64) -> Result<Done, Refusal>
     ensures { let cause = first_of (rate_causes kind rate) in
         ((kinds units : List ℕ) →
         let book = book_of scalars (rows_of held.old kinds units) in

@@ -7,6 +7,8 @@ ghost use Rattle.rules.specs.Listing.{line_numbers, line_of, run_done};
 ghost use Rattle.ledger.specs.Flat.{FitsWhole, rows_of, book_of, trades_of};
 ghost use Rattle.ledger.specs.Figures.{figures_at};
 
+use crate::days::Calendar;
+use crate::layout::{Held, Kinds, Units};
 use crate::figures::{Figures, KnownFigures};
 use crate::{dispatch, figures, line};
 use rules::limits::{EVENT_BYTES, LINE_NUMBERS};
@@ -22,12 +24,12 @@ struct Turn {
 // One event's bytes on a book, and the line of what it leaves.
 #[tactic(auto, using(rules::proofs::FitParts::fit_parts))]
 fn run_event(
-    calendar: &[u32],
+    calendar: &Calendar,
     bytes: &[u8],
     scalars: Scalars,
-    held: &mut [u64],
-    kinds: &mut [u8],
-    units: &mut [u64],
+    held: &mut Held,
+    kinds: &mut Kinds,
+    units: &mut Units,
     table: &mut [u64],
     figures: Figures,
     lines: &mut [u64],
@@ -87,11 +89,11 @@ fn run_event(
 
 // The events in order on a fit book.
 pub fn run_events(
-    calendar: &[u32],
+    calendar: &Calendar,
     scalars: Scalars,
-    held: &mut [u64],
-    kinds: &mut [u8],
-    units: &mut [u64],
+    held: &mut Held,
+    kinds: &mut Kinds,
+    units: &mut Units,
     table: &mut [u64],
     events: &[u8],
     lines: &mut [u64],

@@ -1,14 +1,14 @@
 // The vault: what is pledged, its value V, what is applied for, and the tests of a fit book on them.
-ghost use Rattle.std.specs.Prelude.{◌≡◌, ◌<◌, ◌≤◌, true, length};
+ghost use Rattle.std.specs.Prelude.{◌≡◌, ◌<◌, ◌≤◌, true};
 ghost use Rattle.money.specs.Limits.{cash_limit, rate_limit};
 ghost use Rattle.money.specs.Collateral.{cash_kind, unit_limit_of, rate_of, kind_value};
-ghost use Rattle.rules.specs.Limits.{application_limit};
 ghost use Rattle.rules.specs.Vault.{security_at, effective_of, frozen_of, value};
 ghost use Rattle.rules.specs.Fit.{security_fit, securities_fit, cash_fit, application_fit, withdrawals_fit};
 ghost use Rattle.rules.specs.Withdraw.{applied};
 ghost use Rattle.ledger.specs.Types.{Guarantee};
-ghost use Rattle.ledger.specs.Flat.{security_in, vault_of, securities_of, held_length};
+ghost use Rattle.ledger.specs.Flat.{security_in, vault_of, securities_of};
 
+use crate::layout::{Held, Kinds, Units};
 use crate::held;
 use money::limits::{CASH_KIND, CASH_LIMIT, RATE_LIMIT, SECURITIES, UNIT_LIMIT};
 use money::units::Sheets;
@@ -24,8 +24,7 @@ fn security_fit(security: Security) -> bool
         && security.frozen <= security.effective
 }
 
-pub fn securities_fit(held: &[u64]) -> bool
-    requires { length held.now ≡ held_length }
+pub fn securities_fit(held: &Held) -> bool
     ensures { (guarantee : Guarantee) → result ≡ securities_fit (vault_of guarantee (securities_of held.now)) }
 {
     (0..SECURITIES).all(|kind| security_fit(held::security_at(held, kind)))
@@ -46,16 +45,15 @@ fn application_fit(kind: u8, units: u64) -> bool
 }
 
 #[tactic(auto, using(crate::proofs::VaultLaws::too_many))]
-pub fn withdrawals_fit(kinds: &[u8], units: &[u64], count: usize) -> bool
-    requires { (length kinds.now ≡ application_limit) × (length units.now ≡ application_limit) }
+pub fn withdrawals_fit(kinds: &Kinds, units: &Units, count: usize) -> bool
     ensures { result ≡ withdrawals_fit (record { kinds = kinds.entry.now; units = units.now; count = count }) }
 {
     count <= APPLICATION_LIMIT && (0..count).all(|i| application_fit(kinds[i], units[i]))
 }
 
 // What is had of a kind: a security as its row has it, or guarantee cash as one. The rate of cash is not looked at.
-pub fn had_of(held: &[u64], guarantee: Guarantee, kind: u8) -> Security
-    requires { (kind ≤ cash_kind) × (length held.now ≡ held_length) }
+pub fn had_of(held: &Held, guarantee: Guarantee, kind: u8) -> Security
+    requires { kind ≤ cash_kind }
     ensures units { let vault = vault_of guarantee (securities_of held.now) in
         (result.effective ≡ effective_of vault kind) × (result.frozen ≡ frozen_of vault kind) }
     ensures rate { result.rate ≡ (security_at (vault_of guarantee (securities_of held.now)) kind).rate }
@@ -84,9 +82,8 @@ pub fn worth(kind: u8, had: Security) -> Sheets
 }
 
 // A kind's part of V.
-fn value_at(held: &[u64], guarantee: Guarantee, kind: u8) -> Sheets
+fn value_at(held: &Held, guarantee: Guarantee, kind: u8) -> Sheets
     requires { (kind ≤ cash_kind)
-        × (length held.now ≡ held_length)
         × (securities_fit (vault_of guarantee (securities_of held.now)) ≡ true)
         × (guarantee.frozen.0 ≤ guarantee.effective.0)
         × (guarantee.effective.0 ≤ cash_limit) }
@@ -97,9 +94,8 @@ fn value_at(held: &[u64], guarantee: Guarantee, kind: u8) -> Sheets
 }
 
 // V: the value of the 32 securities, and of the guarantee cash.
-pub fn value_of(held: &[u64], guarantee: Guarantee) -> Sheets
-    requires { (length held.now ≡ held_length)
-        × (securities_fit (vault_of guarantee (securities_of held.now)) ≡ true)
+pub fn value_of(held: &Held, guarantee: Guarantee) -> Sheets
+    requires { (securities_fit (vault_of guarantee (securities_of held.now)) ≡ true)
         × (guarantee.frozen.0 ≤ guarantee.effective.0)
         × (guarantee.effective.0 ≤ cash_limit) }
     ensures { result.0 ≡ value (vault_of guarantee (securities_of held.now)) }
@@ -113,10 +109,8 @@ pub fn value_of(held: &[u64], guarantee: Guarantee) -> Sheets
 }
 
 // The units of a kind that stand applied for.
-pub fn applied_of(kinds: &[u8], units: &[u64], count: usize, kind: u8) -> u64
-    requires { (length kinds.now ≡ application_limit)
-        × (length units.now ≡ application_limit)
-        × (withdrawals_fit (record { kinds = kinds.now; units = units.now; count = count }) ≡ true) }
+pub fn applied_of(kinds: &Kinds, units: &Units, count: usize, kind: u8) -> u64
+    requires { withdrawals_fit (record { kinds = kinds.now; units = units.now; count = count }) ≡ true }
     ensures { result ≡ applied (record { kinds = kinds.entry.now; units = units.now; count = count }) kind }
 {
     kinds[..count]

@@ -7,6 +7,7 @@ ghost use Rattle.rules.specs.Withdraw.{applied, withdraw_causes, withdrawn};
 ghost use Rattle.scalars.specs.Scalars.{done_by};
 ghost use Rattle.ledger.specs.Flat.{RowsFit, rows_of, book_of, applied_by, applied_at};
 
+use crate::layout::{Held, Kinds, Units};
 use crate::vault;
 use money::limits::CASH_KIND;
 use money::refusal::Refusal;
@@ -18,7 +19,7 @@ use scalars::state::Scalars;
 // Whether the units, with those frozen and applied for, are above the effective. The units are tested first: any number may be applied for,
 // and the sum of the three is then below 2^64.
 #[tactic(auto, using(crate::proofs::VaultLaws::kind_fits))]
-fn lacks(scalars: Scalars, held: &[u64], kinds: &[u8], units: &[u64], kind: u8, count: u64) -> bool
+fn lacks(scalars: Scalars, held: &Held, kinds: &Kinds, units: &Units, kind: u8, count: u64) -> bool
     requires { (RowsFit scalars held.now kinds.now units.now) × (kind ≤ cash_kind) }
     ensures { let book = book_of scalars (rows_of held.now kinds.now units.now) in
         result ≡ nat_lt (effective_of book.vault kind) (count + frozen_of book.vault kind + applied book.withdrawals kind) }
@@ -34,9 +35,9 @@ fn lacks(scalars: Scalars, held: &[u64], kinds: &[u8], units: &[u64], kind: u8, 
 #[tactic(auto, unfolding(rules::specs::Withdraw::withdraw_causes, money::specs::Causes::first_of))]
 fn withdraw_refusal(
     scalars: Scalars,
-    held: &[u64],
-    kinds: &[u8],
-    units: &[u64],
+    held: &Held,
+    kinds: &Kinds,
+    units: &Units,
     kind: u8,
     count: u64,
 ) -> Result<(), Refusal>
@@ -70,9 +71,9 @@ fn withdraw_refusal(
 #[tactic(auto, using(crate::proofs::Refusing::turned_down, crate::proofs::Refusing::carried_out), unfolding(rules::specs::Step::event_causes, rules::specs::Withdraw::withdraw_causes, rules::specs::Withdraw::withdrawn, money::specs::Causes::first_of))]
 pub fn withdraw(
     scalars: Scalars,
-    held: &[u64],
-    kinds: &mut [u8],
-    units: &mut [u64],
+    held: &Held,
+    kinds: &mut Kinds,
+    units: &mut Units,
     kind: u8,
     count: u64,
 ) -> Result<Done, Refusal>
