@@ -2,10 +2,9 @@
 ghost use Rattle.std.specs.Prelude.{◌≡◌, ◌≤◌, ◌↔◌, List, ℕ, length, IfSome, IsSome};
 ghost use Rattle.std.proofs.Math.Option.{some};
 ghost use Rattle.money.specs.Limits.{calendar_limit};
-ghost use Rattle.money.specs.Days.{trades, at_or_after, found_of, search_result};
+ghost use Rattle.money.specs.Days.{trades, at_or_after};
 ghost use Rattle.rules.specs.Days.{following, to_day, day_number, payment_day, followed};
 
-use money::refusal::Refusal;
 use scalars::state;
 use std::marker::Model;
 
@@ -40,22 +39,15 @@ impl<'a> Calendar<'a> {
         money::days::trades_on(self.words, day)
     }
 
-    // The next day to open.
-    #[tactic(auto, unfolding(rules::specs::Days::following))]
-    fn next_found(&self, day: Option<u32>) -> Result<u32, Refusal>
-        ensures { found_of result ≡ search_result self.now (following self.now day) }
-    {
-        match day {
-            None => money::days::earliest_day(self.words),
-            Some(today) => money::days::next_after(self.words, today),
-        }
-    }
-
     // The day to open, or never.
     pub fn next_day(&self, day: Option<u32>) -> Option<u32>
         ensures { result ≡ to_day (following self.now day) }
     {
-        self.next_found(day).ok()
+        let found = match day {
+            None => money::days::earliest_day(self.words),
+            Some(today) => money::days::next_after(self.words, today),
+        };
+        found.ok()
     }
 
     fn at_or_after(&self, due: u32) -> Option<u32>
@@ -82,14 +74,20 @@ impl<'a> Calendar<'a> {
     pub fn matures(&self, due: u32) -> bool
         ensures { result ≡ followed self.now (at_or_after self.now due) }
     {
-        self.at_or_after(due).is_some_and(|day| self.has_next(day))
+        let Some(day) = self.at_or_after(due) else {
+            return false;
+        };
+        self.has_next(day)
     }
 
     // Whether there is a day to open with another following.
     pub fn opens(&self, day: Option<u32>) -> bool
         ensures { result ≡ followed self.now (following self.now day) }
     {
-        self.next_day(day).is_some_and(|next| self.has_next(next))
+        let Some(next) = self.next_day(day) else {
+            return false;
+        };
+        self.has_next(next)
     }
 }
 
