@@ -57,14 +57,11 @@ closed-requires c =
     let plan = c.plan_of-plan.ensures in
     let fits = fit_parts c.args.calendar.now book (trades_of c.args.table.now) c.requires.book.fits in (
       record {
-        held-long = c.requires.book.held-long;
-        kinds-long = c.requires.book.kinds-long;
-        units-long = c.requires.book.units-long;
         withdrawals = fit-withdrawals book.withdrawals fits.withdrawals;
         securities = fit-securities book.vault fits.securities;
         cash = fits-cash c.args.scalars.cash c.args.scalars.guarantee fits.cash;
       },
-      renewable-where _ book _ _ plan.0.met c.requires.book.few c.requires.book.held-long (fit-postings book.postings fits.postings) (omega (arith, plan.0.today, plan.1.day)),
+      renewable-where _ book _ _ plan.0.met c.requires.book.few (fit-postings book.postings fits.postings) (omega (arith, plan.0.today, plan.1.day)),
       fit-keeps c.args.calendar.now book c.args.table.now c.requires.book.fits,
       plan.1.outstanding,
     )

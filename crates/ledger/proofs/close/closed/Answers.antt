@@ -13,10 +13,6 @@ pub pack-kept-requires : goal.pack-kept-requires
 pack-kept-requires c =
     omega (arith, c.requires.2.room, c.settle.auto.table)
 
-pub clear-requires : goal.clear-requires
-clear-requires c =
-    (c.requires.0.kinds-long, c.requires.0.units-long)
-
 pub returns : goal.returns
 returns c plan nets unpaid =
     let a = c.args in

@@ -16,7 +16,7 @@ unfolding all_arrived
 value_of-requires c =
     let sound = sound-of (begun (book_of c.args.scalars (rows_of c.args.held.now c.args.kinds.now c.args.units.now))) (evening-begins (book_of c.args.scalars (rows_of c.args.held.now c.args.kinds.now c.args.units.now)) c.requires.securities c.requires.cash) in
     rw (c.guarantee_arrived-arrived.ensures, c.all_arrived.ensures.0)
-    (c.all_arrived.auto.held ∙ c.requires.held-long, sound.0, sound.1, sound.2)
+    (sound.0, sound.1, sound.2)
 
 pub applications-requires : goal.applications-requires
 unfolding all_arrived
@@ -26,7 +26,7 @@ applications-requires c =
     let sound = sound-of (begun (book_of c.args.scalars (rows_of c.args.held.now c.args.kinds.now c.args.units.now))) kept in
     let cash = c.guarantee_arrived-arrived.ensures in
     record {
-      kinds_len = (c.requires.kinds-long, c.requires.units-long, arrived.auto.held ∙ c.requires.held-long, c.requires.withdrawals);
+      kinds_len = c.requires.withdrawals;
       held_value = (rw (cash, arrived.ensures.0) sound.0, rw cash sound.1, rw cash sound.2, rw cash kept.cash, c.value_of.ensures, refl, refl);
     }
 

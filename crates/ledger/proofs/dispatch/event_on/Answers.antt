@@ -10,7 +10,7 @@ use Rattle.ledger.proofs.dispatch.event_on.Goals as goal
 
 pub open-requires : goal.open-requires
 open-requires c =
-    record { kinds = c.args.kinds.now; units = c.args.units.now; held-long = c.requires.book.held-long; few = c.requires.book.few; fits = c.requires.book.fits }
+    record { kinds = c.args.kinds.now; units = c.args.units.now; few = c.requires.book.few; fits = c.requires.book.fits }
 
 pub fund_in-requires : goal.fund_in-requires
 fund_in-requires c =
@@ -20,10 +20,6 @@ fund_in-requires c =
     let cash : cash_fit book.cash book.vault.guarantee ≡ true = fits-cash _ _ parts.cash in
     cash
 
-pub set_rate-requires : goal.set_rate-requires
-set_rate-requires c =
-    c.requires.book.held-long
-
 pub pledge-requires : goal.pledge-requires
 pledge-requires c =
     let rows : Rows = rows_of c.args.held.now c.args.kinds.now c.args.units.now in
@@ -31,11 +27,7 @@ pledge-requires c =
     let parts : Fit c.args.calendar.now book (trades_of c.args.table.now) = fit_parts _ _ _ c.requires.book.fits in
     let cash : cash_fit book.cash book.vault.guarantee ≡ true = fits-cash _ _ parts.cash in
     let securities : securities_fit book.vault ≡ true = fit-securities _ parts.securities in
-    (c.requires.book.held-long, securities, cash)
-
-pub freeze-requires : goal.freeze-requires
-freeze-requires c =
-    c.requires.book.held-long
+    (securities, cash)
 
 pub withdraw-requires : goal.withdraw-requires
 withdraw-requires c =
@@ -46,10 +38,7 @@ withdraw-requires c =
     let securities : securities_fit book.vault ≡ true = fit-securities _ parts.securities in
     let withdrawals : withdrawals_fit book.withdrawals ≡ true = fit-withdrawals _ parts.withdrawals in
     record {
-      held-long = c.requires.book.held-long;
-      kinds-long = c.requires.book.kinds-long;
-      units-long = c.requires.book.units-long;
-      withdrawals = withdrawals;
+       withdrawals = withdrawals;
       securities = securities;
       cash = cash;
     }
@@ -59,7 +48,7 @@ initial-requires c =
     let rows : Rows = rows_of c.args.held.now c.args.kinds.now c.args.units.now in
     let book : Book = book_of c.args.scalars rows in
     record {
-      book = record { kinds = c.args.kinds.now; units = c.args.units.now; held-long = c.requires.book.held-long; few = c.requires.book.few; fits = c.requires.book.fits };
+      book = record { kinds = c.args.kinds.now; units = c.args.units.now; few = c.requires.book.few; fits = c.requires.book.fits };
       sheets = c.requires.sheets;
       value = c.requires.value;
     }
@@ -81,10 +70,6 @@ pay-requires c =
 pub close-requires : goal.close-requires
 close-requires c =
     c.requires
-
-pub post-requires : goal.post-requires
-post-requires c =
-    c.requires.book.held-long
 
 pub returns-in-Open : goal.returns-in-Open
 unfolding event_causes act

@@ -12,7 +12,7 @@ outstanding_of-requires c =
 pub value_of-requires : goal.value_of-requires
 value_of-requires c =
     let parts = fit_parts _ _ _ c.requires.fits in
-    (c.requires.held-long, fit-securities _ parts.securities, parts.cash.free, omega (arith, parts.cash.sum))
+    (fit-securities _ parts.securities, parts.cash.free, omega (arith, parts.cash.sum))
 
 pub returns : goal.returns
 returns c =

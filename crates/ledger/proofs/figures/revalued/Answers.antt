@@ -6,7 +6,7 @@ use Rattle.ledger.proofs.figures.revalued.Goals as goal
 pub value_of-requires : goal.value_of-requires
 value_of-requires c =
     let parts = fit_parts _ _ _ c.requires.0.fits in
-    (c.requires.0.held-long, fit-securities _ parts.securities, parts.cash.free, omega (arith, parts.cash.sum))
+    (fit-securities _ parts.securities, parts.cash.free, omega (arith, parts.cash.sum))
 
 pub returns : goal.returns
 returns c =

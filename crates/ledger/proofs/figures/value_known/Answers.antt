@@ -4,5 +4,5 @@ use Rattle.ledger.proofs.figures.value_known.Goals as goal
 
 pub value_of-requires : goal.value_of-requires
 value_of-requires c =
-    let cash = cash-fits _ _ c.requires.2 in
-    (c.requires.0, c.requires.1, cash.free, omega (arith, cash.sum))
+    let cash = cash-fits _ _ c.requires.1 in
+    (c.requires.0, cash.free, omega (arith, cash.sum))

@@ -26,7 +26,7 @@ returns-in_err-summary c =
 
 pub is_fit-requires : goal.is_fit-requires
 is_fit-requires c =
-    (c.requires, upheld c.capacity_fit.ensures (ap not c.if-not-capacity_fit.false), sym c.summary_of.ensures ∙ c.in_ok-summary.was)
+    (upheld c.capacity_fit.ensures (ap not c.if-not-capacity_fit.false), sym c.summary_of.ensures ∙ c.in_ok-summary.was)
 
 pub returns : goal.returns
 returns c =

@@ -9,38 +9,34 @@ use Rattle.ledger.proofs.fit.is_fit.Goals as goal
 
 pub returns-then-not-securities_fit : goal.returns-then-not-securities_fit
 returns-then-not-securities_fit c =
-    let capacity = c.requires.1 in
+    let capacity = c.requires.0 in
     let row = c.securities_fit.ensures c.args.scalars.guarantee in
     by-flat-tests _ _ _ _ (search fitting depth 12)
 
 pub returns-then-not-cash_fit : goal.returns-then-not-cash_fit
 returns-then-not-cash_fit c =
-    let capacity = c.requires.1 in
+    let capacity = c.requires.0 in
     let row = c.securities_fit.ensures c.args.scalars.guarantee in
     by-flat-tests _ _ _ _ (search fitting depth 12)
 
 pub returns-then-not-size_fit : goal.returns-then-not-size_fit
 returns-then-not-size_fit c =
-    let capacity = c.requires.1 in
+    let capacity = c.requires.0 in
     let row = c.securities_fit.ensures c.args.scalars.guarantee in
-    let summary = summary-where _ _ c.requires.2 in
+    let summary = summary-where _ _ c.requires.1 in
     let each = summary.0 in
     let size = rw summary.1 at c.size_fit.ensures in
     by-flat-tests _ _ _ _ (search fitting depth 12)
 
-pub postings_fit-requires : goal.postings_fit-requires
-postings_fit-requires c =
-    c.requires.0.held-long
-
 pub returns-then-not-postings_fit : goal.returns-then-not-postings_fit
 returns-then-not-postings_fit c =
-    let summary = summary-where _ _ c.requires.2 in
+    let summary = summary-where _ _ c.requires.1 in
     let securities = upheld (c.securities_fit.ensures c.args.scalars.guarantee) (ap not c.if-not-securities_fit.false) in
     let cash = upheld c.cash_fit.ensures (ap not c.if-not-cash_fit.false) in
     let each = summary.0 in
     let size = upheld (c.size_fit.ensures ∙ ap (size_fit _) summary.1) (ap not c.if-not-size_fit.false) in
     by-flat-tests _ _ _ _
-    (test-holds _ _ _ c.requires.1
+    (test-holds _ _ _ c.requires.0
     (test-holds _ _ _ securities
     (test-holds _ _ _ cash
     (test-holds _ _ _ each
@@ -48,19 +44,19 @@ returns-then-not-postings_fit c =
 
 pub others_fit-requires : goal.others_fit-requires
 others_fit-requires c =
-    let summary = summary-where _ _ c.requires.2 in
+    let summary = summary-where _ _ c.requires.1 in
     let each = summary.0 in
-    (c.requires.0.few, c.requires.0.kinds-long, c.requires.0.units-long, kept-where-fit _ _ c.requires.1 each, summary.2)
+    (kept-where-fit _ _ c.requires.0 each, summary.2)
 
 pub returns : goal.returns
 returns c =
-    let summary = summary-where _ _ c.requires.2 in
+    let summary = summary-where _ _ c.requires.1 in
     let securities = upheld (c.securities_fit.ensures c.args.scalars.guarantee) (ap not c.if-not-securities_fit.false) in
     let cash = upheld c.cash_fit.ensures (ap not c.if-not-cash_fit.false) in
     let each = summary.0 in
     let size = upheld (c.size_fit.ensures ∙ ap (size_fit _) summary.1) (ap not c.if-not-size_fit.false) in
     by-flat-tests _ _ _ _
-    (test-holds _ _ _ c.requires.1
+    (test-holds _ _ _ c.requires.0
     (test-holds _ _ _ securities
     (test-holds _ _ _ cash
     (test-holds _ _ _ each

@@ -22,4 +22,4 @@ returns-then-not-withdrawals_fit c =
 pub returns : goal.returns
 returns c =
     let nets = upheld c.nets_fit.ensures (ap not c.if-not-nets_fit.false) in
-    let day = c.day_fit.ensures _ c.requires.4 in search fitting depth 12
+    let day = c.day_fit.ensures _ c.requires.1 in search fitting depth 12

@@ -19,9 +19,8 @@ figures_after-next-requires c =
     let called = c.entry_on-done in
     let lent = called.new in
     let applied = applied_at called.result (rows_of lent.held lent.kinds lent.units) in
-    let still-fit = fit-after _ _ _ _ c.requires.0.fits applied _ called.ensures.0 called.ensures.1 in
-    let still-long : length lent.held ≡ 160 = called.auto.held ∙ c.requires.0.held-long in (
-      record { kinds = lent.kinds; units = lent.units; held-long = still-long; few = c.requires.0.few; fits = still-fit },
+    let still-fit = fit-after _ _ _ _ c.requires.0.fits applied _ called.ensures.0 called.ensures.1 in (
+      record { kinds = lent.kinds; units = lent.units; few = c.requires.0.few; fits = still-fit },
       moved-after _ _ _ _ c.requires.0.fits _ c.requires.1 applied _ called.ensures.0 called.ensures.1,
     )
 
