@@ -35,6 +35,9 @@ pub all_whole : (l : Lent) → Lengths l → is_whole l ≡ true
 unfolding is_whole
 all_whole l long = every_of _ (eq-eqb _ _ long.held, (eq-eqb _ _ long.kinds, (eq-eqb _ _ long.units, (eq-eqb _ _ long.table, tt))))
 
+pub not-whole : (l : Lent) → (Lengths l → ⊥) → is_whole l ≡ false
+not-whole l short = by-test (λ x. x ≡ false) (is_whole l) (λ w. absurd (short (lengths l w))) (λ w. refl)
+
 -- an outcome from its parts
 pub step-parts : (left : Outcome) (applied : Applied) (table : List Trade) → applied ≡ applied_of left → table ≡ left.table → outcome applied.answer applied.book table ≡ left
 step-parts left applied table e t = rw (e, t) refl
@@ -51,9 +54,9 @@ module _ (calendar : Calendar) (l : Lent) where
     pub few : length calendar ≤ 1200
     pub fits : fit calendar (book_in l) (table_in l) ≡ true
 
-  pub not-whole : is_whole l ≡ false → fit_in calendar l ≡ false
+  pub unless-whole : (Lengths l → ⊥) → fit_in calendar l ≡ false
   unfolding fit_in
-  not-whole e = rw e refl
+  unless-whole short = rw (not-whole l short) refl
 
   of-unfit : unfit calendar (book_in l) (table_in l) ≡ true → fit_in calendar l ≡ false
   unfolding fit_in

@@ -1,33 +1,33 @@
 -- A listing that is not refused, and the empty table that it starts on.
 -- For the proofs of listing.rt. Assumes nothing.
 use Rattle.std.specs.Prelude.{◌≡◌, ℕ, zero, suc, ◌+◌, ◌*◌, ◌<◌, ◌≤◌, true, List, get_or, replicate}
-use mathlib.Core.Path.{refl, sym}
-use mathlib.Core.Option.{none}
+use mathlib.Core.Path.{refl}
+use mathlib.Core.Option.{none, some}
 use native.Mathlib.Numerals.{add-one}
 use native.Mathlib.Omega.{arith}
-use borrow.Author.Tests.{ltb-false}
+use borrow.Author.Tests.{lt-ltb, le-ltb}
 use lib.ListN.{length-replicate, get_or-replicate, replicate-append-replicate}
 use Rattle.money.specs.Causes.{first_of}
-use Rattle.money.proofs.Refusals.{failed}
+use Rattle.money.proofs.Refusals.{hit, skip}
 use Rattle.money.specs.Days.{Calendar}
 use Rattle.rules.specs.Trades.{no_trade}
 use Rattle.rules.specs.Book.{fresh_book}
 use Rattle.rules.specs.Limits.{application_limit}
 use Rattle.rules.specs.Fit.{fit}
 use Rattle.rules.specs.Listing.{journal_capacity, journal_table, listing_of, length_causes, listing_causes, written_by, run_done}
-use Rattle.rules.proofs.StaysFit.{others-clear, fresh-is-fit}
+use Rattle.rules.proofs.StaysFit.{fresh-is-fit}
 use Rattle.ledger.specs.Flat.{width, held_length, trade_at, trades_to, capacity, trades_of, security_in, posting_in, up_to, rows_of, book_of, scalars_of}
 
 -- ---- a listing that is not refused
 
 module _ (words bytes room : ℕ) where
-  pub words-within : none ≡ first_of (listing_causes words bytes room) → words ≤ 1200
+  pub words-past : 1200 < words → first_of (listing_causes words bytes room) ≡ some 1
   unfolding listing_causes
-  words-within e = ltb-false 1200 words ((failed _ (sym e) 1).0 refl)
+  words-past h = hit 1 _ (lt-ltb _ _ h)
 
-  pub lengths_none : none ≡ first_of (listing_causes words bytes room) → none ≡ first_of (length_causes bytes room)
+  pub words-within : words ≤ 1200 → first_of (listing_causes words bytes room) ≡ first_of (length_causes bytes room)
   unfolding listing_causes
-  lengths_none e = sym (others-clear _ (length_causes bytes room) (sym e))
+  words-within h = skip 1 _ (le-ltb _ _ h) refl
 
 -- ---- the empty table
 

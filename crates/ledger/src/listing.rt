@@ -19,7 +19,6 @@ fn fresh_scalars() -> Scalars
 }
 
 // On a fresh book over rows and a table of its own; that book is fit, so fitness is not tested.
-#[tactic(auto, using(crate::proofs::RunLaws::lines_fit, crate::proofs::ListingLaws::lengths_none, crate::proofs::Refusing::turned_down, crate::proofs::Refusing::carried_out))]
 pub fn run_listing(calendar: &[u32], events: &[u8], lines: &mut [u64]) -> Result<(), Refusal>
     ensures { let cause = first_of (listing_causes (length calendar.now) (length events.now) (length lines.old)) in
         (refusal_of result ≡ cause)

@@ -1,24 +1,26 @@
-use Rattle.std.specs.Prelude.{◌≤◌, not, length}
-use mathlib.Core.Path.{sym, ap, ◌∙◌}
-use borrow.Author.Tests.{ltb-true, ltb-false}
-use Rattle.ledger.proofs.Fitting.{refuted, upheld}
-use Rattle.ledger.proofs.LentLaws.{lengths, not-whole, too_long, by-fitness}
+use mathlib.Core.Path.{refl}
+use Rattle.ledger.specs.Lent.{lent}
+use Rattle.ledger.proofs.LentLaws.{all_whole, unless-whole, by-fitness}
 use Rattle.ledger.proofs.lent.fitness_in.Goals as goal
 
-pub returns-then-not-is_whole : goal.returns-then-not-is_whole
-returns-then-not-is_whole c = not-whole _ _ (refuted c.is_whole.ensures (ap not c.if-not-is_whole.true))
+pub returns-in_err-held : goal.returns-in_err-held
+returns-in_err-held c = rw c.from_residual.ensures (unless-whole _ _ (λ long. c.in_err-held.ensures.cases long.held))
 
-pub returns-then-is_too_long : goal.returns-then-is_too_long
-returns-then-is_too_long c = too_long _ _ (ltb-true _ _ (sym c.is_too_long.ensures ∙ c.if-is_too_long.true))
+pub returns-in_err-kinds : goal.returns-in_err-kinds
+returns-in_err-kinds c = rw c.from_residual-in_err-kinds.ensures (unless-whole _ _ (λ long. c.in_err-kinds.ensures.cases long.kinds))
 
-pub fitness_of-requires : goal.fitness_of-requires
-fitness_of-requires c =
-    let few : length c.args.calendar.now ≤ 1200 = ltb-false _ _ (sym c.is_too_long.ensures ∙ c.if-is_too_long.false) in
-    let long = lengths _ (upheld c.is_whole.ensures (ap not c.if-not-is_whole.false)) in
-    record { held-long = long.held; kinds-long = long.kinds; units-long = long.units; few = few }
+pub returns-in_err-units : goal.returns-in_err-units
+returns-in_err-units c = rw c.from_residual-in_err-units.ensures (unless-whole _ _ (λ long. c.in_err-units.ensures.cases long.units))
+
+pub returns-then-table-ne0 : goal.returns-then-table-ne0
+returns-then-table-ne0 c = unless-whole _ _ (λ long. c.if-table-ne0.true long.table)
 
 pub returns : goal.returns
 returns c =
-    let few : length c.args.calendar.now ≤ 1200 = ltb-false _ _ (sym c.is_too_long.ensures ∙ c.if-is_too_long.false) in
-    let whole = upheld c.is_whole.ensures (ap not c.if-not-is_whole.false) in
-    rw (← by-fitness _ _ whole few) c.fitness_of.ensures
+    let held = c.in_ok-held.ensures.cases in
+    let kinds = c.in_ok-kinds.ensures.cases in
+    let units = c.in_ok-units.ensures.cases in
+    let calendar = c.in_ok-calendar.ensures in
+    let before = lent c.args.scalars c.args.held.now c.args.kinds.now c.args.units.now c.args.table.now in
+    let whole = all_whole before (record { held = held.long; kinds = kinds.long; units = units.long; table = c.if-table-ne0.false }) in
+    rw (held.same, kinds.same, units.same, calendar.value, by-fitness _ _ whole (calendar.variant.0 refl)) at c.fitness_of.ensures

@@ -14,18 +14,15 @@ loop-k-preserved c =
     let k = enumerate_count c.loop-k.k-iterator in
     let events = c.args.events.now in
     let rest = chunks_exact_rest (enumerate_source c.next.new.self) in
-    let cut : drop (k * 40) events ≡ c.in-Some.bytes.now ++ rest = sym inv.6 ∙ step.0.1.0 in
-    let whole : length c.in-Some.bytes.now ≡ 40 = step.0.1.1 ∙ inv.5 in
+    let cut : drop (k * 40) events ≡ c.in-Some.bytes.now ++ rest = sym inv.3 ∙ step.0.1.0 in
+    let whole : length c.in-Some.bytes.now ≡ 40 = step.0.1.1 ∙ inv.2 in
     let lines = rw step.1 at called.ensures.2 in
     rw step.2 (
       next-run _ _ _ _ _ _ _ _ _ _ inv.0 (one-more-whole events k _ _ cut whole) (omega (arith, c.requires.1)) _
           (part-taken events k _ _ cut whole)
           _ _ _ called.auto.table called.ensures.0 called.ensures.1 lines,
-      called.auto.held ∙ inv.1,
-      called.auto.kinds ∙ inv.2,
-      called.auto.units ∙ inv.3,
       called.ensures.3,
-      step.0.0 ∙ inv.5,
+      step.0.0 ∙ inv.2,
       rest-dropped events k _ _ cut whole,
     )
 
@@ -33,4 +30,4 @@ pub returns : goal.returns
 returns c =
     let inv = c.loop-k.invariant in
     let step = c.in-None.ensures.steps in
-    all-run _ _ _ _ _ _ _ _ _ _ refl inv.0 (none-whole _ _ (omega (arith, step.0.1.0, inv.5, ap length inv.6))) (omega (arith, c.requires.1))
+    all-run _ _ _ _ _ _ _ _ _ _ refl inv.0 (none-whole _ _ (omega (arith, step.0.1.0, inv.2, ap length inv.3))) (omega (arith, c.requires.1))

@@ -9,6 +9,6 @@ use Rattle.ledger.proofs.run.run_events.Given as goal
 abbrev pub invariant-loop-k : goal.invariant-loop-k
 invariant-loop-k l =
     RunTo l.calendar (book_of l.initial.turn.scalars (rows_of l.initial.held l.initial.kinds l.initial.units)) l.events l.initial.table l.initial.lines (length l.events / 40) l.table l.lines (book_of l.turn.scalars (rows_of l.held l.kinds l.units)) (enumerate_count l.k-iterator)
-    × (length l.held ≡ 160) × (length l.kinds ≡ 128) × (length l.units ≡ 128) × (l.turn.figures ≡ figures_at l.turn.scalars l.held (trades_of l.table))
+    × (l.turn.figures ≡ figures_at l.turn.scalars l.held (trades_of l.table))
     × (chunks_exact_size (enumerate_source l.k-iterator) ≡ 40)
     × (chunks_exact_rest (enumerate_source l.k-iterator) ≡ drop (enumerate_count l.k-iterator * 40) l.events)
