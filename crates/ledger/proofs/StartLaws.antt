@@ -25,7 +25,7 @@ use Rattle.rules.proofs.KeepsFit.{none-posted-fits}
 use Rattle.rules.proofs.TradeLaws.{maturing-le}
 use Rattle.rules.proofs.NextTermTurns.{left-more, outstanding-more, left-matured}
 use Rattle.ledger.specs.Types.{Book, Posting, Contract, Trade, Some, None}
-use Rattle.ledger.specs.Flat.{trade_at, trades_to, capacity, trades_of, posting_in, postings_of, held_length}
+use Rattle.ledger.specs.Flat.{trade_at, trades_to, capacity, trades_of, posting_in, postings_of}
 use Rattle.ledger.specs.NextTerm.{Closing, Meets, MeetsWhere, RenewableWhere}
 use Rattle.ledger.proofs.SumLaws.{test-fails, test-holds}
 use Rattle.ledger.proofs.Fitting.{last-test}
@@ -203,10 +203,10 @@ module _ (calendar : Calendar) (book : Book) (o : ℕ) (s t : List ℕ) (place :
 
 -- what may be relied on of a Close, from a fit book
 pub renewable-where : (calendar : Calendar) (book : Book) (held : List ℕ) (closing : Option Closing) → MeetsWhere calendar book closing held
-    → length calendar ≤ calendar_limit → length held ≡ held_length → postings_fit (postings_of held) ≡ true → today book < term_limit → RenewableWhere calendar closing held
-renewable-where calendar book held (Some closing) met few long posted day =
-    record { book = book; met = met; few = few; held-long = long; posted = posted; day = omega (arith, met.today, day) }
-renewable-where calendar book held None met few long posted day = record {}
+    → length calendar ≤ calendar_limit → postings_fit (postings_of held) ≡ true → today book < term_limit → RenewableWhere calendar closing held
+renewable-where calendar book held (Some closing) met few posted day =
+    record { book = book; met = met; few = few; posted = posted; day = omega (arith, met.today, day) }
+renewable-where calendar book held None met few posted day = record {}
 
 -- where none may start, none does, and the trades stay matured
 module _ (calendar : Calendar) (book : Book) (none : (o : ℕ) (trade : Trade) → trade.product ≤ product_limit → starts calendar book o trade ≡ false) where
