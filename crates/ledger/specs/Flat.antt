@@ -7,7 +7,7 @@ use Rattle.money.specs.Limits.{calendar_limit, price_limit, term_limit}
 use Rattle.money.specs.declared.units.Ticks.{Ticks}
 use Rattle.money.specs.Units.{sheets, ticks}
 use Rattle.money.specs.Days.{Calendar}
-use Rattle.rules.specs.Limits.{capacity_limit, application_limit, product_limit}
+use Rattle.rules.specs.Limits.{capacity_limit, product_limit}
 use Rattle.rules.specs.Book.{answer, is_closed}
 use Rattle.rules.specs.Days.{following, followed}
 use Rattle.rules.specs.Open.{turns_terminated, opened_standing}

@@ -12,8 +12,8 @@ ghost use Rattle.ledger.specs.Flat.{HasSlots, Rows, rows_of, book_of, applied_at
 ghost use Rattle.ledger.specs.Figures.{CountedHeld};
 
 use crate::days::Calendar;
-use crate::layout::Held;
 use crate::figures::KnownFigures;
+use crate::layout::Held;
 use crate::{days, figures, flat, nets, postings, prices, trades};
 use money::limits::TRADE_LIMIT;
 use money::refusal::Refusal;

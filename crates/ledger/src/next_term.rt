@@ -14,8 +14,8 @@ ghost use Rattle.ledger.specs.Figures.{CountedWhole, IsValue};
 ghost use Rattle.ledger.specs.NextTerm.{Planned, PlanWithin, Meets, MeetsWhere, Renewable, RenewableWhere, FitAt, most_matured, most_started};
 
 use crate::days::Calendar;
-use crate::layout::{Held, Kinds, Units};
 use crate::figures::KnownFigures;
+use crate::layout::{Held, Kinds, Units};
 use crate::{days, figures, flat, postings, redemption};
 use money::units::{Fen, SHEET_FEN, Sheets};
 use rules::trade::Trade;
@@ -108,7 +108,13 @@ fn starts(
 
 // The record that takes the old one's slot.
 #[tactic(auto, using(crate::proofs::RedemptionLaws::within_of))]
-fn next_term(calendar: &Calendar, held: &Held, table: &[u64], place: usize, closing: Closing) -> Trade
+fn next_term(
+    calendar: &Calendar,
+    held: &Held,
+    table: &[u64],
+    place: usize,
+    closing: Closing,
+) -> Trade
     requires { (Renewable calendar.now closing held.now) × (FitAt table.now place) }
     ensures { (book : Book) →
         Meets calendar.now book closing held.now

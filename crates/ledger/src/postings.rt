@@ -6,7 +6,7 @@ ghost use Rattle.rules.specs.Fit.{posting_fit, postings_fit};
 ghost use Rattle.ledger.specs.Flat.{posting_in, securities_of, postings_of};
 
 use crate::flat;
-use crate::layout::{HELD_LENGTH, Held, POSTINGS_FROM, POSTING_WIDTH};
+use crate::layout::{HELD_LENGTH, Held, POSTING_WIDTH, POSTINGS_FROM};
 use money::limits::PRICE_LIMIT;
 use money::units::Ticks;
 use rules::book::Posting;

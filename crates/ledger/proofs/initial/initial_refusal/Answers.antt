@@ -6,13 +6,9 @@ use Rattle.ledger.proofs.FitFacts.{fit-keeps}
 use Rattle.ledger.proofs.InitialLaws.{today-within, count-within}
 use Rattle.ledger.proofs.initial.initial_refusal.Goals as goal
 
-pub product_refusal-requires : goal.product_refusal-requires
-product_refusal-requires c =
-    c.requires.book.held-long
-
 pub term_refusal-requires : goal.term_refusal-requires
 term_refusal-requires c =
-    (c.requires.book.few, today-within _ _ _ c.requires.book.fits c.requires.book.few)
+    today-within _ _ _ c.requires.book.fits c.requires.book.few
 
 pub slot_refusal-requires : goal.slot_refusal-requires
 slot_refusal-requires c =

@@ -38,7 +38,7 @@ maturity_plan-redeemed-requires c =
 pub closing_of-closing-requires : goal.closing_of-closing-requires
 closing_of-closing-requires c =
     let parts = fit_parts _ _ _ c.requires.book.fits in
-    (c.requires.book.held-long, fit-securities _ parts.securities, fits-cash _ _ parts.cash, c.requires.value)
+    (fit-securities _ parts.securities, fits-cash _ _ parts.cash, c.requires.value)
 
 pub overflow_sub-outstanding : goal.overflow_sub-outstanding
 overflow_sub-outstanding c =
@@ -54,7 +54,7 @@ outstanding_after-left-requires c =
     let parts = fit_parts _ _ _ fits in
     let matured = sheets-planned _ _ a.table.now fits _ _ c.day_number-today.ensures c.payment_day-payment.ensures _ c.maturity_plan-redeemed.ensures in
     let met = c.closing_of-closing.ensures a.calendar.now a.kinds.now a.units.now c.day_number-today.ensures c.payment_day-payment.ensures in (
-      renewable-where _ book _ _ met c.requires.book.few c.requires.book.held-long (fit-postings _ parts.postings) (today-within _ _ _ fits c.requires.book.few),
+      renewable-where _ book _ _ met c.requires.book.few (fit-postings _ parts.postings) (today-within _ _ _ fits c.requires.book.few),
       fit-keeps a.calendar.now book a.table.now fits,
       omega (arith, rest-within _ _ a.table.now fits _ _ c.requires.sheets matured),
     )

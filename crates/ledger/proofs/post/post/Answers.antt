@@ -22,7 +22,7 @@ returns-in_err-post_refusal c kinds units =
 
 pub put_posting-requires : goal.put_posting-requires
 put_posting-requires c =
-    (product-listed (book_of c.args.scalars no_rows) _ _ (c.in_ok-post_refusal.ensures no_rows), c.requires)
+    product-listed (book_of c.args.scalars no_rows) _ _ (c.in_ok-post_refusal.ensures no_rows)
 
 pub returns : goal.returns
 unfolding posted

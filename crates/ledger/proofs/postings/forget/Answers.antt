@@ -4,4 +4,4 @@ use Rattle.ledger.proofs.postings.forget.Goals as goal
 
 pub returns : goal.returns
 returns c =
-    forgotten _ _ c.requires (search rules)
+    forgotten _ _ c.told-held (search rules)
