@@ -35,9 +35,6 @@ pub all_whole : (l : Lent) → Lengths l → is_whole l ≡ true
 unfolding is_whole
 all_whole l long = every_of _ (eq-eqb _ _ long.held, (eq-eqb _ _ long.kinds, (eq-eqb _ _ long.units, (eq-eqb _ _ long.table, tt))))
 
-pub not-whole : (l : Lent) → (Lengths l → ⊥) → is_whole l ≡ false
-not-whole l short = by-test (λ x. x ≡ false) (is_whole l) (λ w. absurd (short (lengths l w))) (λ w. refl)
-
 -- an outcome from its parts
 pub step-parts : (left : Outcome) (applied : Applied) (table : List Trade) → applied ≡ applied_of left → table ≡ left.table → outcome applied.answer applied.book table ≡ left
 step-parts left applied table e t = rw (e, t) refl
@@ -54,9 +51,12 @@ module _ (calendar : Calendar) (l : Lent) where
     pub few : length calendar ≤ 1200
     pub fits : fit calendar (book_in l) (table_in l) ≡ true
 
-  pub unless-whole : (Lengths l → ⊥) → fit_in calendar l ≡ false
+  pub not-whole : is_whole l ≡ false → fit_in calendar l ≡ false
   unfolding fit_in
-  unless-whole short = rw (not-whole l short) refl
+  not-whole e = rw e refl
+
+  pub unless-whole : (Lengths l → ⊥) → fit_in calendar l ≡ false
+  unless-whole short = not-whole (by-test (λ x. x ≡ false) (is_whole l) (λ w. absurd (short (lengths l w))) (λ w. refl))
 
   of-unfit : unfit calendar (book_in l) (table_in l) ≡ true → fit_in calendar l ≡ false
   unfolding fit_in
