@@ -8,8 +8,8 @@ ghost use Rattle.rules.specs.Pledge.{pledge_causes, pledged, arrived, cash_arriv
 ghost use Rattle.scalars.specs.Scalars.{done_by};
 ghost use Rattle.ledger.specs.Flat.{security_in, securities_of, postings_of, vault_of, rows_of, book_of, applied_by, applied_at};
 
-use crate::layout::Held;
 use crate::held;
+use crate::layout::Held;
 use money::limits::{CASH_KIND, UNIT_LIMIT};
 use money::refusal::Refusal;
 use money::units::Fen;

@@ -5,8 +5,8 @@ ghost use Rattle.rules.specs.Rate.{rate_causes, rated};
 ghost use Rattle.scalars.specs.Scalars.{done_by};
 ghost use Rattle.ledger.specs.Flat.{rows_of, book_of, applied_by, applied_at};
 
-use crate::layout::Held;
 use crate::held;
+use crate::layout::Held;
 use money::limits::{CASH_KIND, RATE_LIMIT};
 use money::refusal::Refusal;
 use rules::book::Security;

@@ -8,8 +8,8 @@ ghost use Rattle.rules.specs.Withdraw.{applied};
 ghost use Rattle.ledger.specs.Types.{Guarantee};
 ghost use Rattle.ledger.specs.Flat.{security_in, vault_of, securities_of};
 
-use crate::layout::{Held, Kinds, Units};
 use crate::held;
+use crate::layout::{Held, Kinds, Units};
 use money::limits::{CASH_KIND, CASH_LIMIT, RATE_LIMIT, SECURITIES, UNIT_LIMIT};
 use money::units::Sheets;
 use rules::book::{Cash, Guarantee, Security};

@@ -20,7 +20,7 @@ loop-kind-init c = (sym (map-none security_arrived _), refl)
 pub security_arrived-requires : goal.security_arrived-requires
 security_arrived-requires c =
     let loop = c.loop-kind in
-    rw (as-before loop.held _ loop.kind _ c.loop-kind-test.true loop.invariant.0 c.security_at-security.ensures) (securities-fit _ c.requires.1 loop.kind c.loop-kind-test.true).units
+    rw (as-before loop.held _ loop.kind _ c.loop-kind-test.true loop.invariant.0 c.security_at-security.ensures) (securities-fit _ c.requires loop.kind c.loop-kind-test.true).units
 
 pub loop-kind-preserved : goal.loop-kind-preserved
 loop-kind-preserved c =

@@ -16,7 +16,7 @@ use Rattle.ledger.proofs.SumLaws.{turn-none, turn_more}
 use Rattle.ledger.proofs.HeldLaws.{length-securities, security-at-row}
 use Rattle.ledger.proofs.EveningLaws.{asked, made, Kept, Come, come, held_fits, security-taken, cash-taken, sound-of, turn, turns-keep, turns-count, unfrozen}
 use Rattle.ledger.proofs.evening.applications.Goals as goal
-use Rattle.ledger.proofs.evening.applications.Goals.{In-Some, After-had_of-had, In-Some-judged}
+use Rattle.ledger.proofs.evening.applications.Goals.{In-Some, In-Some-judged}
 
 -- the evening before a turn
 module _ (served : Bool) (claims : ℕ) (w : Withdrawals) (first e : Evening) (i : ℕ) (reached : e ≡ in_turn i (turn served claims w) first) where
@@ -46,11 +46,11 @@ one-more served claims count kind amount kinds units first e next ys y at reache
     let more : length (ys ++ (y ∷ [])) ≡ length ys + 1 = length-append ys (y ∷ []) in
     rw (more, turn_more turns first (length ys), ← reached, ← at.kind-is, ← at.amount-is) n
 
-pub slice_bounds-iter-end : goal.slice_bounds-iter-end
-slice_bounds-iter-end c = omega (arith, length-take {A = ℕ}, (withdrawals-fit _ c.requires.kinds_len.3).count, c.requires.kinds_len.0)
+pub shared_ref_as_front-iter : goal.shared_ref_as_front-iter
+shared_ref_as_front-iter c = (withdrawals-fit _ c.requires.kinds_len).count
 
-pub slice_bounds-zip-end : goal.slice_bounds-zip-end
-slice_bounds-zip-end c = omega (arith, length-take {A = ℕ}, (withdrawals-fit _ c.requires.kinds_len.3).count, c.requires.kinds_len.1)
+pub shared_ref_as_front-zip : goal.shared_ref_as_front-zip
+shared_ref_as_front-zip c = (withdrawals-fit _ c.requires.kinds_len).count
 
 pub loop-kind-init : goal.loop-kind-init
 loop-kind-init c = (sym (turn-none _ _), c.requires.held_value.4, refl)
@@ -66,15 +66,15 @@ module _ (c : In-Some) where
   at-hand : Come c.args.kinds.now c.args.units.now c.args.count (length c.loop-kind.yielded) c.in-Some.field-0-0.now c.in-Some.field-0-1.now
   at-hand =
       let a = c.args in
-      let few : a.count ≤ 128 = (withdrawals-fit _ c.requires.kinds_len.3).count in
+      let few : a.count ≤ 128 = (withdrawals-fit _ c.requires.kinds_len).count in
       let at =
       YieldsList-turn
       (YieldsList-from_zip {s = c.into_iter-kind-iterator.result} (YieldsList-from_slice (take a.count a.kinds.now) (cc)) (YieldsList-from_slice (take a.count a.units.now) (cc)))
       c.loop-kind.yielded c.loop-kind.kind-iterator c.loop-kind.yielded_by c.next.result c.next.new.self _ c.in-Some.is c.next.ensures.steps in
-      come a.kinds.now a.units.now a.count _ _ _ (omega (arith, few, c.requires.kinds_len.0)) (omega (arith, few, c.requires.kinds_len.1)) at.0 at.1
+      come a.kinds.now a.units.now a.count _ _ _ (omega (arith, few)) (omega (arith, few)) at.0 at.1
 
   fits : ApplicationFits c.in-Some.field-0-0.now c.in-Some.field-0-1.now
-  fits = rw (at-hand.kind-is, at-hand.amount-is) ((withdrawals-fit _ c.requires.kinds_len.3).each _ at-hand.below)
+  fits = rw (at-hand.kind-is, at-hand.amount-is) ((withdrawals-fit _ c.requires.kinds_len).each _ at-hand.below)
 
   kept : Kept before
   kept =
@@ -87,11 +87,11 @@ module _ (c : In-Some) where
         arith,
         seen-of c.args.served claims (asked c.args.kinds.now c.args.units.now c.args.count) _ before _ c.loop-kind.invariant.0 c.requires.held_value.5 c.requires.held_value.6,
         at-hand.below,
-        (withdrawals-fit _ c.requires.kinds_len.3).count,
+        (withdrawals-fit _ c.requires.kinds_len).count,
       )
 
 pub had_of-had-requires : goal.had_of-had-requires
-had_of-had-requires c = ((fits (goal.at.had_of-had-requires c).In-Some).known, c.loop-kind.auto.held ∙ c.requires.kinds_len.2)
+had_of-had-requires c = (fits (goal.at.had_of-had-requires c).In-Some).known
 
 pub judged-requires : goal.judged-requires
 judged-requires c =
@@ -175,11 +175,11 @@ pub returns : goal.returns
 unfolding applications
 returns c =
     let a = c.args in
-    let few : a.count ≤ 128 = (withdrawals-fit _ c.requires.kinds_len.3).count in
+    let few : a.count ≤ 128 = (withdrawals-fit _ c.requires.kinds_len).count in
     let end =
     YieldsList-end (YieldsList-from_zip {s = c.into_iter-kind-iterator.result} (YieldsList-from_slice (take a.count a.kinds.now) (cc)) (YieldsList-from_slice (take a.count a.units.now) (cc)))
     c.loop-kind.yielded c.loop-kind.kind-iterator c.loop-kind.yielded_by c.next.result c.next.new.self c.in-None.is c.next.ensures.steps in
-    let e : length c.loop-kind.yielded ≡ a.count = omega (arith, end.1, few, c.requires.kinds_len.0, c.requires.kinds_len.1, length-zip (take a.count a.kinds.now) (take a.count a.units.now), length-take {A = ℕ}) in (
+    let e : length c.loop-kind.yielded ≡ a.count = omega (arith, end.1, few, length-zip (take a.count a.kinds.now) (take a.count a.units.now), length-take {A = ℕ}) in (
       c.loop-kind.invariant.0 ∙ ap (λ n. in_turn n (turn a.served (claims_of a.outstanding.0 a.unpaid.0) (asked a.kinds.now a.units.now a.count)) (evening_at a.begun (securities_of a.held.now))) e,
       c.loop-kind.invariant.1,
       c.loop-kind.invariant.2,

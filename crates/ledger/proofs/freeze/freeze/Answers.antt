@@ -27,7 +27,7 @@ returns-then-kind-eq-CASH_KIND c kinds amounts =
 
 pub put_frozen-requires : goal.put_frozen-requires
 put_frozen-requires c =
-    (security-kind (book_of c.args.scalars (rows_of c.args.held.now [] [])) _ _ (c.in_ok-freeze_refusal.ensures [] []) c.if-kind-eq-CASH_KIND.false, c.requires)
+    security-kind (book_of c.args.scalars (rows_of c.args.held.now [] [])) _ _ (c.in_ok-freeze_refusal.ensures [] []) c.if-kind-eq-CASH_KIND.false
 
 pub returns : goal.returns
 unfolding frozen

@@ -3,4 +3,4 @@ use Rattle.ledger.proofs.held.put_security.Goals as goal
 
 pub returns : goal.returns
 returns c =
-    rw c.copy_from_slice.ensures.after (security-put _ _ c.args.security c.requires.0 c.requires.1)
+    rw c.copy_from_slice.ensures.after (security-put _ _ c.args.security c.requires c.told-held)

@@ -38,7 +38,7 @@ returns-in_err-pledge_refusal c kinds amounts =
 pub cash_arrived-requires : goal.cash_arrived-requires
 cash_arrived-requires c =
     let a = c.args in
-    omega (arith, owned (book_of a.scalars (rows_of a.held.now [] [])) a.kind a.units (c.in_ok-pledge_refusal.ensures [] []) c.if-kind-eq-CASH_KIND.true, (cash-fits _ _ c.requires.2).sum)
+    omega (arith, owned (book_of a.scalars (rows_of a.held.now [] [])) a.kind a.units (c.in_ok-pledge_refusal.ensures [] []) c.if-kind-eq-CASH_KIND.true, (cash-fits _ _ c.requires.1).sum)
 
 pub returns-then-kind-eq-CASH_KIND : goal.returns-then-kind-eq-CASH_KIND
 unfolding pledged
@@ -52,7 +52,7 @@ put_arrived-requires c =
     let known = security-kind book a.kind a.units (c.in_ok-pledge_refusal.ensures [] []) c.if-kind-eq-CASH_KIND.false in
     let row = security-at-row a.held.now a.scalars.guarantee a.kind known in
     let fits = rw row at (room book a.kind a.units (c.in_ok-pledge_refusal.ensures [] []) c.if-kind-eq-CASH_KIND.false) in
-    (known, c.requires.0, omega (arith, fits))
+    (known, omega (arith, fits))
 
 pub returns : goal.returns
 unfolding pledged

@@ -13,7 +13,7 @@ pub returns-then-units_of-units : goal.returns-then-units_of-units
 unfolding pledge_causes
 returns-then-units_of-units c kinds amounts =
     let within : c.units_of.result ≤ unit_limit = let known : c.args.kind < 32 = omega arith in
-    omega (arith, c.units_of.ensures, (row_fits c.args.held.now c.args.scalars.guarantee c.requires.1 c.args.kind known).units) in
+    omega (arith, c.units_of.ensures, (row_fits c.args.held.now c.args.scalars.guarantee c.requires c.args.kind known).units) in
     let a = c.args in
     let known : a.kind < 32 = omega arith in
     let row = security-at-row a.held.now a.scalars.guarantee a.kind known in
@@ -25,7 +25,7 @@ pub returns : goal.returns
 unfolding pledge_causes
 returns c kinds amounts =
     let within : c.units_of.result ≤ unit_limit = let known : c.args.kind < 32 = omega arith in
-    omega (arith, c.units_of.ensures, (row_fits c.args.held.now c.args.scalars.guarantee c.requires.1 c.args.kind known).units) in
+    omega (arith, c.units_of.ensures, (row_fits c.args.held.now c.args.scalars.guarantee c.requires c.args.kind known).units) in
     let a = c.args in
     let known : a.kind < 32 = omega arith in
     let row = security-at-row a.held.now a.scalars.guarantee a.kind known in
@@ -36,5 +36,5 @@ returns c kinds amounts =
 pub overflow_sub-units_of : goal.overflow_sub-units_of
 overflow_sub-units_of c =
     let within : c.units_of.result ≤ unit_limit = let known : c.args.kind < 32 = omega arith in
-    omega (arith, c.units_of.ensures, (row_fits c.args.held.now c.args.scalars.guarantee c.requires.1 c.args.kind known).units) in
+    omega (arith, c.units_of.ensures, (row_fits c.args.held.now c.args.scalars.guarantee c.requires c.args.kind known).units) in
     omega (arith, within)

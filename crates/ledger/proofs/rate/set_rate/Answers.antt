@@ -15,10 +15,10 @@ unfolding rate_causes
 security-kind kind rate e = leb-false 32 kind (all-clear (rate_causes kind rate) (sym e) 3)
 
 pub security_at-security-requires : goal.security_at-security-requires
-security_at-security-requires c = (security-kind _ c.args.rate c.in_ok-rate_refusal.ensures, c.requires)
+security_at-security-requires c = security-kind _ c.args.rate c.in_ok-rate_refusal.ensures
 
 pub put_security-requires : goal.put_security-requires
-put_security-requires c = (security-kind _ c.args.rate c.in_ok-rate_refusal.ensures, c.requires)
+put_security-requires c = security-kind _ c.args.rate c.in_ok-rate_refusal.ensures
 
 pub returns : goal.returns
 unfolding rated

@@ -5,6 +5,6 @@ use Rattle.ledger.proofs.vault.value_at.Goals as goal
 pub worth-requires : goal.worth-requires
 worth-requires c =
     let p = c.requires in
-    let fits = kind_fits (vault_of c.args.guarantee (securities_of c.args.held.now)) (p.2, p.3, p.4) c.args.kind p.0 in
+    let fits = kind_fits (vault_of c.args.guarantee (securities_of c.args.held.now)) (p.1, p.2, p.3) c.args.kind p.0 in
     let had = c.had_of.ensures in
     rw (had.units.0, had.units.1, had.rate) (p.0, fits.free, fits.within, fits.rate)

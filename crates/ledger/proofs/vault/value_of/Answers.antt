@@ -16,7 +16,7 @@ bounded : (c : Start) → sum_below 32 (value_at (vault_of c.args.guarantee (sec
 bounded c =
     let vault : Vault = vault_of c.args.guarantee (securities_of c.args.held.now) in
     let p = c.requires in
-    omega (arith, value-parts vault, value-bound-of vault (p.1, p.2, p.3))
+    omega (arith, value-parts vault, value-bound-of vault (p.0, p.1, p.2))
 
 pub sum-of_securities-requires-clause-fits : goal.sum-of_securities-requires-clause-fits
 sum-of_securities-requires-clause-fits c =

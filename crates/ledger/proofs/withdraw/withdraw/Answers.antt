@@ -21,10 +21,10 @@ returns-in_err-withdraw_refusal c =
     turned_down _ _ _ _ _ _ _ c.from_residual.ensures.1 c.in_err-withdraw_refusal.ensures refl
 
 pub bounds-kinds-at : goal.bounds-kinds-at
-bounds-kinds-at c = omega (arith, room-for-one _ _ _ c.in_ok-withdraw_refusal.ensures, c.requires.kinds-long)
+bounds-kinds-at c = omega (arith, room-for-one _ _ _ c.in_ok-withdraw_refusal.ensures)
 
 pub bounds-units-at : goal.bounds-units-at
-bounds-units-at c = omega (arith, room-for-one _ _ _ c.in_ok-withdraw_refusal.ensures, c.requires.units-long)
+bounds-units-at c = omega (arith, room-for-one _ _ _ c.in_ok-withdraw_refusal.ensures)
 
 pub returns : goal.returns
 unfolding withdrawn
