@@ -15,9 +15,9 @@ ghost use Rattle.scalars.specs.Scalars.{done_by};
 ghost use Rattle.ledger.specs.Flat.{RowsFit, Rows, vault_of, securities_of, postings_of, rows_of, book_of, evening_at, applied_at, trades_of, closed_by, table_by, Kept};
 
 use crate::days::Calendar;
-use crate::layout::{Held, Kinds, Units};
 use crate::evening::EveningScalars;
 use crate::figures::KnownFigures;
+use crate::layout::{Held, Kinds, Units};
 use crate::next_term::Plan;
 use crate::{evening, nets, next_term, packing, vault};
 use money::refusal::Refusal;
@@ -93,20 +93,17 @@ fn evening_end(
         × (result.value.0 ≡ value (vault_of result.guarantee (securities_of held.new)))
         × (postings_of held.new ≡ postings_of held.old) }
 {
-    let standing = scalars.standing;
-    let guarantee = scalars.guarantee;
-    evening::all_arrived(held, guarantee);
-    let arrived = evening::guarantee_arrived(guarantee);
-    let own = scalars.cash.own;
+    evening::all_arrived(held, scalars.guarantee);
+    let arrived = evening::guarantee_arrived(scalars.guarantee);
     let begun = EveningScalars {
-        own,
+        own: scalars.cash.own,
         guarantee: arrived,
-        value: vault::value_of(&*held, arrived),
+        value: vault::value_of(held, arrived),
         done: 0,
         dropped: 0,
     };
     evening::applications(
-        is_served(standing),
+        is_served(scalars.standing),
         left,
         unpaid,
         kinds,
@@ -180,10 +177,9 @@ fn closed(
         × (trades_of table.new ≡ closed_table book remains trades)) }
 {
     let count = scalars.trades;
-    let left = plan.left;
     next_term::settle(
         calendar,
-        &*held,
+        held,
         table,
         count,
         plan.closing,
@@ -191,9 +187,9 @@ fn closed(
         plan.outstanding,
     );
     let kept = packing::pack(table, count);
-    let ended = evening_end(scalars, held, &*kinds, &*units, left, unpaid.cleared);
+    let ended = evening_end(scalars, held, kinds, units, plan.left, unpaid.cleared);
     clear(kinds, units);
-    let next = closed_scalars(scalars, cleared, unpaid, ended, left, kept);
+    let next = closed_scalars(scalars, cleared, unpaid, ended, plan.left, kept);
     done::of_close(plan.matured, ended.done, ended.dropped, next)
 }
 
@@ -217,11 +213,10 @@ pub fn close(
         (applied_at (done_by scalars result) left ≡ closed_by cause calendar.now book remains trades)
         × (trades_of table.new ≡ table_by cause trades (closed_table book remains trades)) }
 {
-    let standing = scalars.standing;
-    if !may_close(standing) {
+    if !may_close(scalars.standing) {
         return Err(Refusal::WrongPhase);
     }
-    let plan = next_term::plan_of(calendar, scalars, &*held, &*kinds, &*units, &*table, known);
+    let plan = next_term::plan_of(calendar, scalars, held, kinds, units, table, known);
     let at_close = nets::today_at_close(scalars.nets, plan.amount, plan.started);
     if !nets::today_fit(at_close) {
         return Err(Refusal::PastLimit);
@@ -230,11 +225,10 @@ pub fn close(
     if !nets::cleared_fit(cleared) {
         return Err(Refusal::PastLimit);
     }
-    let sums = scalars.sums;
-    if unpaid::passes(sums.unpaid, plan.amount) {
+    if unpaid::passes(scalars.sums.unpaid, plan.amount) {
         return Err(Refusal::PastLimit);
     }
-    let unpaid = unpaid::joined_with(sums.unpaid, plan.amount);
+    let unpaid = unpaid::joined_with(scalars.sums.unpaid, plan.amount);
     Ok(closed(
         calendar, scalars, held, kinds, units, table, plan, cleared, unpaid,
     ))

@@ -6,8 +6,8 @@ ghost use Rattle.ledger.specs.Flat.{rows_of, book_of, applied_at, trades_of, app
 ghost use Rattle.ledger.specs.Figures.{CountedWhole};
 
 use crate::days::Calendar;
-use crate::layout::{Held, Kinds, Units};
 use crate::figures::KnownFigures;
+use crate::layout::{Held, Kinds, Units};
 use crate::{close, early, freeze, funds, initial, open, pay, pledge, post, rate, size, withdraw};
 use money::refusal::Refusal;
 use rules::event::Event;
@@ -43,9 +43,9 @@ fn event_on(
         Event::Pledge(kind, amount) => pledge::pledge(scalars, held, kind, amount),
         Event::Freeze(kind, amount) => freeze::freeze(scalars, held, kind, amount),
         Event::Withdraw(kind, amount) => withdraw::withdraw(
-            scalars, &*held, kinds, units, kind, amount,
+            scalars, held, kinds, units, kind, amount,
         ),
-        Event::Initial(terms) => initial::initial(calendar, scalars, &*held, table, known, terms),
+        Event::Initial(terms) => initial::initial(calendar, scalars, held, table, known, terms),
         Event::Early(contract, count, price) => early::early(
             calendar, scalars, table, contract, count, price,
         ),

@@ -53,8 +53,7 @@ fn nets_fit(nets: Nets) -> bool
 fn sums_fit(sums: Sums) -> bool
     ensures { result ≡ sums_fit sums }
 {
-    let unpaid = sums.unpaid;
-    !unpaid::passes(unpaid, Fen(0))
+    !unpaid::passes(sums.unpaid, Fen(0))
 }
 
 // A book with no day is Closed with an empty table.
@@ -86,8 +85,7 @@ fn day_fit(calendar: &Calendar, standing: Standing, count: usize, latest: u32) -
     ensures { (trades : List Trade) →
         latest ≡ latest_first trades → result ≡ day_fit calendar.now standing.day standing.phase trades count }
 {
-    let day = standing.day;
-    match day {
+    match standing.day {
         None => unopened_fit(standing, count),
         Some(today) => opened_fit(calendar, today, latest),
     }
@@ -114,12 +112,10 @@ fn others_fit(
         ∷ day_fit calendar.now scalars.standing.day scalars.standing.phase trades scalars.trades
         ∷ []) }
 {
-    let nets = scalars.nets;
-    if !nets_fit(nets) {
+    if !nets_fit(scalars.nets) {
         return false;
     }
-    let sums = scalars.sums;
-    if !sums_fit(sums) {
+    if !sums_fit(scalars.sums) {
         return false;
     }
     let count = scalars.trades;
@@ -129,8 +125,7 @@ fn others_fit(
     if !vault::withdrawals_fit(kinds, units, scalars.applications) {
         return false;
     }
-    let standing = scalars.standing;
-    day_fit(calendar, standing, count, latest)
+    day_fit(calendar, scalars.standing, count, latest)
 }
 
 // The tests of a table with room for its trades, each within its limits, from what one walk over these tells.

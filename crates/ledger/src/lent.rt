@@ -11,8 +11,8 @@ ghost use Rattle.ledger.specs.Flat.{width, capacity, trades_of};
 ghost use Rattle.ledger.specs.Figures.{outstanding_at, IsFitWith};
 ghost use Rattle.ledger.specs.Lent.{lent, book_in, table_in, fit_in, step_in, cover_in, run_in};
 
-use crate::figures::KnownFigures;
 use crate::days::Calendar;
+use crate::figures::KnownFigures;
 use crate::layout::{Held, Kinds, Units};
 use crate::{cover, dispatch, figures, fit, flat, layout, run};
 use money::refusal::Refusal;
@@ -64,7 +64,7 @@ pub fn apply(
         (outcome result.answer (book_in after) (table_in after) ≡ step_in calendar.now before entry)
         × (accepted result.answer.number ≡ false → after ≡ before) }
 {
-    let fitness = fitness_in(calendar, scalars, &*held, &*kinds, &*units, &*table);
+    let fitness = fitness_in(calendar, scalars, held, kinds, units, table);
     let Some(outstanding) = fitness else {
         return done::refused(Refusal::NotFit, scalars);
     };
@@ -141,7 +141,7 @@ pub fn run(
         ≡ run_in calendar.now before events.now lines.old)
         × (IsErr result → after ≡ before) }
 {
-    let fitness = fitness_in(calendar, scalars, &*held, &*kinds, &*units, &*table);
+    let fitness = fitness_in(calendar, scalars, held, kinds, units, table);
     let Some(_) = fitness else {
         return Err(Refusal::NotFit);
     };

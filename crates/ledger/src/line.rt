@@ -36,12 +36,12 @@ pub fn write_line(
         ∷ []) }
 {
     let covered = headroom::smaller(size, figures.value);
-    let outstanding = figures.outstanding;
+    let outstanding = figures.outstanding.0;
     let line = [
-        number as u64,
-        u64::from(covered.0 < outstanding.0),
-        covered.0.abs_diff(outstanding.0),
-        outstanding.0,
+        u64::from(number),
+        u64::from(covered.0 < outstanding),
+        covered.0.abs_diff(outstanding),
+        outstanding,
         cash.own.0,
         cash.client.0,
         guarantee.effective.0 + guarantee.arriving.0,

@@ -125,9 +125,7 @@ pub fn pay(scalars: Scalars) -> Result<Done, Refusal>
     ensures { (rows : Rows) → applied_at (done_by scalars result) rows ≡ paid_by (first_of (pay_causes (book_of scalars rows))) (book_of scalars rows) }
 {
     pay_refusal(scalars)?;
-    let nets = scalars.nets;
-    let cash = scalars.cash;
-    if falls_short(nets, cash) {
+    if falls_short(scalars.nets, scalars.cash) {
         return Ok(done::not_paid(not_made(scalars)));
     }
     Ok(done::accepted(paid(scalars)))

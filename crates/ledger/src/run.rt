@@ -8,8 +8,8 @@ ghost use Rattle.ledger.specs.Flat.{FitsWhole, rows_of, book_of, trades_of};
 ghost use Rattle.ledger.specs.Figures.{figures_at};
 
 use crate::days::Calendar;
-use crate::layout::{Held, Kinds, Units};
 use crate::figures::{Figures, KnownFigures};
+use crate::layout::{Held, Kinds, Units};
 use crate::{dispatch, figures, line};
 use rules::limits::{EVENT_BYTES, LINE_NUMBERS};
 use scalars::state::Scalars;
@@ -63,15 +63,7 @@ fn run_event(
     );
     let answer = done.answer;
     let after = done.scalars;
-    let next = figures::figures_after(
-        calendar,
-        figures,
-        entry,
-        answer.number,
-        after,
-        &*held,
-        &*table,
-    );
+    let next = figures::figures_after(calendar, figures, entry, answer.number, after, held, table);
     line::write_line(
         lines,
         at,
@@ -107,7 +99,7 @@ pub fn run_events(
         × (trades_of table.new ≡ ended.table)
         × (lines.new ≡ ended.lines) }
 {
-    let figures = figures::figures_of(calendar, scalars, &*held, &*table);
+    let figures = figures::figures_of(calendar, scalars, held, table);
     let mut turn = Turn { scalars, figures };
     for (k, bytes) in events.chunks_exact(EVENT_BYTES).enumerate() {
         turn = run_event(

@@ -38,7 +38,7 @@ withdraw-requires c =
     let securities : securities_fit book.vault ≡ true = fit-securities _ parts.securities in
     let withdrawals : withdrawals_fit book.withdrawals ≡ true = fit-withdrawals _ parts.withdrawals in
     record {
-       withdrawals = withdrawals;
+      withdrawals = withdrawals;
       securities = securities;
       cash = cash;
     }
