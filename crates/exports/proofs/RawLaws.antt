@@ -1,9 +1,9 @@
--- Scalars that go out and come back are as they were: first a book's, then what is well-formed.
+-- Scalars that go out and come back are as they were: first a book's, then what is well-formed; between them, what any code reads as.
 -- For the calls on a book in lent numbers. Assumes nothing.
 use Rattle.std.proofs.lemmas.Option.{none-some, same_Some}
 use Rattle.std.proofs.Common.{◌≡◌, ℕ, zero, suc, ◌≤◌, Bool, true, false, ◌||◌, eqb, sym, refl, arith, eqb-true, leb-true}
 use Rattle.rules.specs.Book.{Day}
-use Rattle.std.specs.Prelude.{None, Some, Result, Ok, Err, is_err, if◌then◌else◌, ◌==◌}
+use Rattle.std.specs.Prelude.{None, Some, Result, Ok, Err, is_err, if◌then◌else◌, ◌==◌, nat_le, unwrap_or}
 use mathlib.Core.Bool.{false≢true}
 use Rattle.money.specs.declared.refusal.Refusal.{Refusal}
 use Rattle.money.specs.Causes.{number_of, refusal_of}
@@ -17,10 +17,12 @@ use Rattle.rules.specs.declared.book.ShortRun.{ShortRun}
 use Rattle.rules.specs.declared.book.ShortRun.TheVariants.{NotShort, ShortOnce, ShortTwice, ShortThrice}
 use Rattle.scalars.specs.declared.state.Scalars.{Scalars}
 use Rattle.rules.specs.Days.{day_number}
+use Rattle.rules.specs.Folds.{every}
+use Rattle.std.proofs.lemmas.Bool.Decides.{nat_tests}
 use Rattle.rules.proofs.FoldLaws.{every_holds}
 use Rattle.exports.specs.declared.codes.Codes.{Codes}
 use Rattle.exports.specs.declared.raw.RawScalars.{RawScalars}
-use Rattle.exports.specs.Codes.{is_well_formed, day_at, phase_at, status_at, failed_at, short_at, standing_at, dated_number, phase_number, status_number, failed_number, short_number, codes_of}
+use Rattle.exports.specs.Codes.{is_dated, is_well_formed, day_at, phase_at, status_at, failed_at, short_at, standing_at, dated_number, phase_number, status_number, failed_number, short_number, codes_of}
 use Rattle.exports.specs.Raw.{scalars_from, raw_of}
 
 -- ---- a book's scalars
@@ -74,6 +76,30 @@ none_if false y e = refl
 pub refused-by-number : {A : Type 0} (ended : Result A Refusal) → (number_of (refusal_of ended) == 0) ≡ false → is_err ended ≡ true
 refused-by-number (Ok x) e = absurd (false≢true (sym e))
 refused-by-number (Err refusal) e = refl
+
+-- ---- what any code reads as: one past the last case as the last, and a day that is not dated as none
+
+pub day_or_none : (dated day : ℕ) → unwrap_or (if is_dated dated day then Some (day_at dated day) else None) None ≡ day_at dated day
+unfolding day_at every
+day_or_none dated day = grind (arith, nat_tests)
+
+pub phase_or_paid : (code : ℕ) → unwrap_or (if nat_le code 2 then Some (phase_at code) else None) Paid ≡ phase_at code
+unfolding phase_at
+phase_or_paid code = grind (arith, nat_tests)
+
+pub status_or_terminated : (code : ℕ) → unwrap_or (if nat_le code 2 then Some (status_at code) else None) Terminated ≡ status_at code
+unfolding status_at
+status_or_terminated code = grind (arith, nat_tests)
+
+pub failed_or_twice : (code : ℕ) → unwrap_or (if nat_le code 2 then Some (failed_at code) else None) FailedTwice ≡ failed_at code
+unfolding failed_at
+failed_or_twice code = grind (arith, nat_tests)
+
+pub short_or_thrice : (code : ℕ) → unwrap_or (if nat_le code 3 then Some (short_at code) else None) ShortThrice ≡ short_at code
+unfolding short_at
+short_or_thrice code = grind (arith, nat_tests)
+
+pub ruleset or_last = (day_or_none, phase_or_paid, status_or_terminated, failed_or_twice, short_or_thrice)
 
 -- ---- what is well-formed: shows what the promises mean, and no proof cites it
 

@@ -79,7 +79,7 @@ fn short_at(code: u8) -> Option<ShortRun>
 
 // Where the firm stands, if each is the code of a case.
 #[tactic(auto, unfolding(crate::specs::Codes::is_well_formed, rules::specs::Folds::every))]
-pub fn standing_at(codes: Codes) -> Option<Standing>
+pub fn read(codes: Codes) -> Option<Standing>
     ensures { result ≡ (if is_well_formed codes then Some (standing_at codes) else None) }
 {
     let phase = phase_at(codes.phase)?;
@@ -94,6 +94,27 @@ pub fn standing_at(codes: Codes) -> Option<Standing>
         failed,
         short,
     })
+}
+
+// Whether each is the code of a case, and a day has its number only where there is one.
+pub fn is_well_formed(codes: Codes) -> bool
+    ensures { result ≡ is_well_formed codes }
+{
+    read(codes).is_some()
+}
+
+// Where the firm stands, whatever the codes: from C every byte is a number, so one past the last case reads as the last.
+#[tactic(auto, using(crate::proofs::RawLaws::or_last))]
+pub fn standing_at(codes: Codes) -> Standing
+    ensures { result ≡ standing_at codes }
+{
+    Standing {
+        day: day_at(codes.dated, codes.day).unwrap_or(None),
+        phase: phase_at(codes.phase).unwrap_or(Phase::Paid),
+        status: status_at(codes.status).unwrap_or(Status::Terminated),
+        failed: failed_at(codes.failed).unwrap_or(FailedRun::FailedTwice),
+        short: short_at(codes.short).unwrap_or(ShortRun::ShortThrice),
+    }
 }
 
 pub fn codes_of(standing: Standing) -> Codes

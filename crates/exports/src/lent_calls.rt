@@ -31,7 +31,7 @@ pub extern "C" fn lent_apply(
         × (accepted result.answer.number ≡ false → after ≡ before))
         × (is_well_formed raw.codes ≡ false → (result ≡ refused raw) × (after ≡ before)) }
 {
-    let Some(scalars) = raw::scalars_from(raw) else {
+    let Some(scalars) = raw::read(raw) else {
         return raw::refused(raw);
     };
     let entry = decoder::entry::decode(event);
@@ -52,7 +52,7 @@ pub extern "C" fn lent_cover(
     ensures { let before = lent (scalars_from raw) held.now kinds.now units.now table.now in
         result ≡ (if is_well_formed raw.codes then cover_in calendar.now before else cover_refused) }
 {
-    let Some(scalars) = raw::scalars_from(raw) else {
+    let Some(scalars) = raw::read(raw) else {
         return Err(Refusal::NotFit).into();
     };
     ledger::lent::cover(calendar, scalars, held, kinds, units, table).into()
@@ -79,7 +79,7 @@ pub extern "C" fn lent_run(
         × ((result.number == 0) ≡ false → after ≡ before))
         × (is_well_formed raw.codes ≡ false → (result ≡ refused_run raw) × (after ≡ before) × (lines.new ≡ lines.old)) }
 {
-    let Some(scalars) = raw::scalars_from(raw) else {
+    let Some(scalars) = raw::read(raw) else {
         return raw::refused_run(raw);
     };
     let ended = ledger::lent::run(calendar, scalars, held, kinds, units, table, events, lines);

@@ -45,22 +45,28 @@ pub struct RawEnded {
     pub raw: RawScalars,
 }
 
-// A book's scalars, if their codes are well-formed.
+// A book's scalars, whatever their codes: each reads as a case.
 #[tactic(auto, unfolding(crate::specs::Raw::scalars_from))]
-pub fn scalars_from(raw: RawScalars) -> Option<Scalars>
-    ensures { result ≡ (if is_well_formed raw.codes then Some (scalars_from raw) else None) }
+pub fn scalars_from(raw: RawScalars) -> Scalars
+    ensures { result ≡ scalars_from raw }
 {
-    let standing = codes::standing_at(raw.codes)?;
-    Some(Scalars {
+    Scalars {
         nets: raw.nets,
         sums: raw.sums,
         cash: raw.cash,
         guarantee: raw.guarantee,
         size: raw.size,
-        standing,
+        standing: codes::standing_at(raw.codes),
         applications: raw.applications,
         trades: raw.trades,
-    })
+    }
+}
+
+// The same, if their codes are well-formed.
+pub fn read(raw: RawScalars) -> Option<Scalars>
+    ensures { result ≡ (if is_well_formed raw.codes then Some (scalars_from raw) else None) }
+{
+    codes::is_well_formed(raw.codes).then(|| scalars_from(raw))
 }
 
 #[tactic(auto, unfolding(crate::specs::Raw::raw_of))]

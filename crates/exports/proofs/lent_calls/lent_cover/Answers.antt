@@ -4,7 +4,7 @@ use Rattle.exports.proofs.lent_calls.lent_cover.Goals as goal
 
 pub returns-in_default : goal.returns-in_default
 returns-in_default c =
-    rw (none_if _ _ (rw c.in_default.is at c.scalars_from.ensures)) c.into.ensures
+    rw (none_if _ _ (rw c.in_default.is at c.read.ensures)) c.into.ensures
 
 pub returns : goal.returns
 returns c =

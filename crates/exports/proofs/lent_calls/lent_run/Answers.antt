@@ -5,7 +5,7 @@ use Rattle.exports.proofs.lent_calls.lent_run.Goals as goal
 
 pub returns-in_default : goal.returns-in_default
 returns-in_default c =
-    let malformed = none_if _ _ (rw c.in_default.is at c.scalars_from.ensures) in
+    let malformed = none_if _ _ (rw c.in_default.is at c.read.ensures) in
     (λ z. absurd (false≢true (sym malformed ∙ z)), λ z. rw c.refused_run.ensures (refl, refl, refl))
 
 pub returns : goal.returns

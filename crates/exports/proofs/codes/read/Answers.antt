@@ -2,7 +2,7 @@ use Rattle.std.proofs.Common.{refl}
 use Rattle.rules.specs.Folds.{every}
 use Rattle.exports.specs.Codes.{is_well_formed}
 use Rattle.exports.proofs.RawLaws.{some_if, none_if}
-use Rattle.exports.proofs.codes.standing_at.Goals as goal
+use Rattle.exports.proofs.codes.read.Goals as goal
 
 pub returns-in_err-phase : goal.returns-in_err-phase
 unfolding is_well_formed every
