@@ -17,7 +17,7 @@ fn number4(bytes: &[u8], at: usize) -> u32
     u32::from_le_bytes([bytes[at], bytes[at + 1], bytes[at + 2], bytes[at + 3]])
 }
 
-// The number of 8 bytes, from its two halves.
+// The number of 8 bytes, from its two halves: `from_le_bytes` of 8 bytes is not proved to be the number that the rules read.
 fn number8(bytes: &[u8], at: usize) -> u64
     requires { at + 8 ≤ length bytes.now }
     ensures { result ≡ number_at at 8 bytes.now }
@@ -51,12 +51,7 @@ fn fields_of(bytes: &[u8]) -> Fields
 fn unless(event: Event, unused: &[u64]) -> Option<Event>
     ensures { result ≡ unless event unused.now }
 {
-    for field in unused {
-        if *field != 0 {
-            return None;
-        }
-    }
-    Some(event)
+    unused.iter().all(|field| *field == 0).then_some(event)
 }
 
 // All but code, kind and amount.

@@ -9,7 +9,7 @@ pub const COUNT_BYTES: usize = 4;
 // "words of 32 bits"
 pub const WORD_BYTES: usize = 4;
 
-// The number of 4 bytes, the least byte first.
+// The number of 4 bytes, the least byte first; the decoder has its own, since to share it would make it public.
 #[tactic(auto, using(crate::proofs::WordLaws::four_bytes))]
 pub(crate) fn number4(bytes: &[u8], at: usize) -> u32
     requires { at + 4 ≤ length bytes.now }

@@ -36,7 +36,7 @@ fn size_fit(size: Sheets, outstanding: Sheets) -> bool
     if size.0 > SIZE_LIMIT {
         return false;
     }
-    outstanding.0 <= size.0
+    outstanding <= size
 }
 
 #[tactic(auto, using(crate::proofs::Fitting::refuted, crate::proofs::Fitting::upheld), unfolding(rules::specs::Fit::nets_fit, money::specs::Causes::first_of))]

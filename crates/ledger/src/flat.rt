@@ -1,4 +1,5 @@
-// The core's table: five numbers a trade, in the record's order. Trades are read and written here only.
+// The core's table: five numbers a trade, in the record's order. Trades are read and written here only. The table stays a row of numbers, for C
+// lends it so; cut into trades by `as_chunks_mut`, it would not be told what the row holds once a trade is written.
 ghost use Rattle.std.specs.Prelude.{◌≡◌, ℕ, ◌+◌, ◌*◌, ◌<◌, ◌≤◌, length, slice_index, slice_set};
 ghost use Rattle.rules.specs.Trades.{no_trade, with_sheets};
 ghost use Rattle.ledger.specs.Flat.{HasSlot, width, capacity, lower, upper, trade_at, trades_of};
@@ -20,8 +21,7 @@ pub fn sheets_at(table: &[u64], place: usize) -> Sheets
     requires { HasSlot table.now place }
     ensures { result.0 ≡ (trade_at table.now place).sheets.0 }
 {
-    let number = table[place * layout::WIDTH + 1];
-    Sheets(number)
+    Sheets(table[place * layout::WIDTH + 1])
 }
 
 // Prices and days have 32 bits, and stand two to a number: this is the lower half, and below it the upper.
@@ -29,20 +29,20 @@ pub fn lower_at(table: &[u64], at: usize) -> u32
     requires { at < length table.now }
     ensures { result ≡ lower (slice_index table.now at) }
 {
-    (table[at] % 4_294_967_296) as u32
+    table[at] as u32
 }
 
 pub fn upper_at(table: &[u64], at: usize) -> u32
     requires { at < length table.now }
     ensures { result ≡ upper (slice_index table.now at) }
 {
-    (table[at] / 4_294_967_296 % 4_294_967_296) as u32
+    (table[at] >> 32) as u32
 }
 
 pub fn paired(low: u32, high: u32) -> u64
     ensures { (result ≡ low + 4294967296 * high) × (low < 4294967296) × (high < 4294967296) }
 {
-    low as u64 + 4_294_967_296 * (high as u64)
+    u64::from(low) + 4_294_967_296 * u64::from(high)
 }
 
 #[tactic(auto, unfolding(crate::specs::Flat::trade_at, money::specs::Causes::first_of))]

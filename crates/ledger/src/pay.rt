@@ -45,7 +45,7 @@ fn falls_short(nets: Nets, cash: Cash) -> bool
 {
     let held = payer_holds(nets, cash);
     let due = nets::net_due(nets);
-    held.0 < due.0
+    held < due
 }
 
 // The net due moves from the payer's account to the other.

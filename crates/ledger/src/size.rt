@@ -23,7 +23,7 @@ fn size_refusal(outstanding: Sheets, size: Sheets) -> Result<(), Refusal>
     if size.0 > SIZE_LIMIT {
         return Err(Refusal::PastLimit);
     }
-    if size.0 < outstanding.0 {
+    if size < outstanding {
         return Err(Refusal::BelowOutstanding);
     }
     Ok(())

@@ -35,11 +35,12 @@ worth_causes kind effective frozen rate =
 abbrev pub worth : Option ℕ → Sheets → Worth
 worth refusal value = record { number = number_of refusal; sheets = sheets (result_of refusal value.0) }
 
--- the call: the number, and beside it the value
+-- an answer of the call, as C has it
 abbrev pub worth_of : Result Sheets Refusal → Worth
 worth_of (Ok value) = record { number = 0; sheets = value }
 worth_of (Err refusal) = record { number = refusal_number refusal; sheets = sheets 0 }
 
+-- the call: the number, and beside it the value
 unfoldable pub kind_worth : (kind effective frozen rate : ℕ) → Worth
 kind_worth kind effective frozen rate =
     worth (first_of (worth_causes kind effective frozen rate)) (kind_value kind effective frozen rate)

@@ -109,10 +109,11 @@ dated refusal d =
 unfoldable pub day_answer : Date → Found
 day_answer d = numbered (first_of (date_causes d)) (day_of d)
 
--- the number, and beside it the date
+-- a date that was answered, or a refusal, as C has it
 abbrev pub dated_of : Result Date Refusal → Dated
 dated_of (Ok d) = record { number = 0; date = d }
 dated_of (Err refusal) = record { number = refusal_number refusal; date = date 0 0 0 }
 
+-- the number, and beside it the date
 unfoldable pub date_answer : ℕ → Dated
 date_answer day = dated (first_of (day_causes day)) (date_of day)

@@ -46,10 +46,11 @@ search_causes calendar found = (ltb calendar_limit (length calendar) ⇒ 1) ∷ 
 abbrev pub searched : Option ℕ → Option ℕ → Found
 searched refusal found = record { number = number_of refusal; day = result_of refusal (day_or_0 found) }
 
--- a call that searches: its number and the day found
+-- a day that was answered, or a refusal, as C has it
 abbrev pub found_of : Result ℕ Refusal → Found
 found_of (Ok day) = record { number = 0; day = day }
 found_of (Err refusal) = record { number = refusal_number refusal; day = 0 }
 
+-- a call that searches: its number and the day found
 unfoldable pub search_result : Calendar → Option ℕ → Found
 search_result calendar found = searched (first_of (search_causes calendar found)) found

@@ -34,11 +34,12 @@ redemption_causes q price days =
 abbrev pub amount : Option ℕ → Fen → Amount
 amount refusal due = record { number = number_of refusal; fen = fen (result_of refusal due.0) }
 
--- the calls: the number, and beside it the amount
+-- an answer of the calls, as C has it
 abbrev pub amount_of : Result Fen Refusal → Amount
 amount_of (Ok due) = record { number = 0; fen = due }
 amount_of (Err refusal) = record { number = refusal_number refusal; fen = fen 0 }
 
+-- the calls: the number, and beside it the amount
 unfoldable pub initial_amount : Sheets → Amount
 initial_amount q = amount (first_of (initial_amount_causes q)) (principal q)
 

@@ -1,16 +1,22 @@
-use Rattle.std.proofs.Common.{refl, sym, ◌∙◌}
-use Rattle.std.proofs.lemmas.List.{at_drop_more, at_drop_all}
+use Rattle.std.proofs.Common.{rules, ◌∙◌, ◌≡◌, ap, ℕ, Bool, cond, ◌&&◌, None, List, [], ◌∷◌, ◌==◌, refl}
+use Rattle.std.specs.Bool.{then_some}
+use Rattle.std.specs.List.{list_all}
+use Rattle.std.proofs.lemmas.Iterator.{YieldsList-from_slice}
+use Rattle.std.proofs.lemmas.Iterator.Search.{all_from_yields_List}
+use borrow.Author.Tests.{tests}
+use Rattle.rules.specs.declared.event.Event.{Event}
 use Rattle.rules.specs.Entry.{unless}
-use Rattle.rules.proofs.Unused.{used, zero, known}
+use Rattle.rules.proofs.FoldLaws.{by-test}
 use Rattle.decoder.proofs.entry.unless.Goals as goal
 
-pub returns-then-field-ne0 : goal.returns-then-field-ne0
-returns-then-field-ne0 c =
-    used c.args.event _ c.if-field-ne0.true ∙ sym (c.loop-field.invariant ∙ at_drop_more (unless c.args.event) _ _ 0 c.loop-field-test.true)
-
-pub loop-field-preserved : goal.loop-field-preserved
-loop-field-preserved c =
-    c.loop-field.invariant ∙ at_drop_more (unless c.args.event) _ _ 0 c.loop-field-test.true ∙ sym (zero c.args.event _ c.if-field-ne0.false refl)
+-- the tests one by one, as the rule has them
+in-turn : (event : Event) (unused : List ℕ) → then_some (list_all (λ field. field == 0) unused) event ≡ unless event unused
+unfolding unless
+in-turn event [] = refl
+in-turn event (field ∷ unused) =
+    by-test (λ b. then_some (b && list_all (λ field. field == 0) unused) event ≡ cond b (unless event unused) None) (field == 0) (λ z. in-turn event unused) (λ z. refl)
 
 pub returns : goal.returns
-returns c = known c.args.event ∙ sym (c.loop-field.invariant ∙ at_drop_all (unless c.args.event) _ _ c.loop-field-test.false)
+returns c =
+    let all = all_from_yields_List (λ field. field == 0) _ _ c.all.result c.all.ensures.ran (YieldsList-from_slice c.args.unused.now c.iter.ensures.rest) (λ x b q called. search (rules, tests)) in
+    c.then_some.ensures ∙ ap (λ b. then_some b c.args.event) all ∙ in-turn c.args.event c.args.unused.now
