@@ -48,7 +48,7 @@ fn is_taken(table: &[u64], count: usize, contract: Contract) -> bool
     requires { HasSlots table.now count }
     ensures { result ≡ on_table contract (in_use count (trades_of table.now)) }
 {
-    trades::place_of(table, count, contract) < count
+    trades::place_of(table, count, contract).is_some()
 }
 
 fn is_full(table: &[u64], trades: usize) -> bool
