@@ -98,8 +98,7 @@ fn product_refusal(scalars: Scalars, held: &Held, terms: Terms) -> Result<(), Re
     if product > PRODUCT_LIMIT {
         return Err(Refusal::NotPosted);
     }
-    let posting = postings::posting_of(held, product);
-    if posting.term == 0 {
+    if postings::posted(held, product).is_none() {
         return Err(Refusal::NotPosted);
     }
     Ok(())
