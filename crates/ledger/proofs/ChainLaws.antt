@@ -1,6 +1,6 @@
 -- Chains of trades by buckets: what is reached stays reached when a link is added, and what is on no chain is not among the trades.
 -- For the proofs of chains.rt. Assumes nothing.
-use Rattle.std.specs.Prelude.{◌≡◌, ℕ, zero, suc, ◌+◌, ◌<◌, ◌≤◌, Bool, true, false, cond, ◌⊎◌, List, [], ◌∷◌, length, get_or, drop, set, replicate}
+use Rattle.std.specs.Prelude.{◌≡◌, ℕ, zero, suc, ◌+◌, ◌<◌, ◌≤◌, true, false, ◌⊎◌, List, length, get_or, drop, set, replicate}
 use mathlib.Core.Path.{refl, sym, ap, subst, ◌∙◌}
 use mathlib.Core.Logic.{inl, inr}
 use native.Mathlib.Numerals.{add-one}
@@ -17,7 +17,7 @@ use Rattle.ledger.specs.Types.{Contract}
 use Rattle.ledger.specs.Flat.{trade_at, trades_to}
 use Rattle.ledger.specs.Chains.{ChainResult, Differs, Repeats, TooLong, bucket_of, Reaches, Falls, Shows, ShowsAll}
 use Rattle.ledger.proofs.FlatLaws.{one_more, split-trades}
-use Rattle.ledger.proofs.PlaceLaws.{on-table-append, off-none, off-one-more, differ-none, differ-not}
+use Rattle.ledger.proofs.PlaceLaws.{off-below, on_below, differ-none, differ-not}
 
 -- ---- along a chain
 
@@ -73,26 +73,6 @@ pub record Linked (table : List ℕ) (count buckets : ℕ) (heads next : List �
   pub falls : Falls next i
   pub reached : (place : ℕ) → place < i → (steps : ℕ) × Reaches next steps (get_or heads (bucket_of buckets (trade_at table place).contract) 0) place
   pub differing : differ (trades_to table i) ≡ true
-
--- a contract that differs from every trade's is not among them
-off-below : (c : Contract) (table : List ℕ) (i : ℕ) → ((place : ℕ) → place < i → same (trade_at table place).contract c ≡ false) → on_table c (trades_to table i) ≡ false
-off-below c table zero h = off-none c table
-off-below c table (suc i) h = rw (sym (add-one i)) (off-one-more c table i (off-below c table i (λ place l. h place (omega (arith, l)))) (h i (omega arith)))
-
--- one of them that is the same stands among them
-on_below : (c : Contract) (table : List ℕ) (i place : ℕ) → place < i → same (trade_at table place).contract c ≡ true → on_table c (trades_to table i) ≡ true
-unfolding on_table
-on_below c table zero place l e = absurd (omega (arith, l))
-on_below c table (suc i) place l e =
-    rw (sym (add-one i), one_more table i, on-table-append c (trades_to table i) (trade_at table i ∷ [])) (by (ℕ_discrete place i) (λ k. on_below c table i place k e))
-  where
-    after : (b : Bool) → cond b true true ≡ true
-    after true = refl
-    after false = refl
-
-    by : Dec (place ≡ i) → (place < i → on_table c (trades_to table i) ≡ true) → cond (on_table c (trades_to table i)) true (cond (same (trade_at table i).contract c) true false) ≡ true
-    by (yes q) before = rw (rw q at e) (after (on_table c (trades_to table i)))
-    by (no q) before = rw (before (omega (arith, l, q)))
 
 -- ---- a look along a chain
 

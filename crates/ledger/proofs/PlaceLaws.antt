@@ -1,76 +1,26 @@
--- Where a contract's trade stands: a contract is on the table just where its place is one of the trades', and what is read and taken off is that trade's.
--- For place_of, for contracts_differ, which looks for each contract among the trades before it or sorts them all, and for the events of one contract. Assumes nothing.
-use Rattle.std.specs.Prelude.{◌≡◌, ℕ, suc, ◌+◌, ◌-◌, ◌<◌, ◌≤◌, Bool, true, false, cond, ltb, List, [], ◌∷◌, ◌++◌, length, get_or, take, drop, set}
+-- Where a contract's trade stands: the first that has the contract, and what is read and taken off is that trade's.
+-- For place_of, for contracts_differ, which looks for each contract among the trades before it, follows chains or sorts them all, and for the
+-- events of one contract. Assumes nothing.
+use Rattle.std.specs.Prelude.{◌≡◌, ℕ, zero, suc, ◌+◌, ◌-◌, ◌<◌, ◌≤◌, Bool, true, false, cond, not, ◌&&◌, List, [], ◌∷◌, ◌++◌, length, take, drop, set, Option, is_some, IfSome, MatchOption}
 use mathlib.Core.Path.{refl, sym, ap, ◌∙◌}
 use mathlib.Core.Bool.{false≢true}
 use mathlib.Core.List.{map-append}
 use native.Mathlib.Numerals.{add-one}
 use native.Mathlib.Omega.{arith}
-use borrow.Author.Tests.{lt-ltb, le-ltb, eq-eqb, eqb-true}
-use lib.Dec.{leb-suc-suc}
+use native.Mathlib.Decide.{ℕ_discrete}
+use borrow.Author.Tests.{eq-eqb, ne_eqb}
 use lib.ListN.{length-set}
-use lib.Seq.{take_all, take-suc-set}
-use Rattle.rules.specs.Trades.{no_trade, same, with_sheets, on_table, trade_of, take_off, differ}
+use lib.Seq.{take_all, take-suc-set, set_at}
+use Rattle.rules.specs.Trades.{same, with_sheets, on_table, trade_of, take_off, differ}
 use Rattle.rules.proofs.FoldLaws.{not-here}
-use Rattle.rules.proofs.TableFit.{differ-append}
-use Rattle.ledger.specs.Types.{Contract, Trade}
+use Rattle.rules.specs.Folds.{all_below}
+use Rattle.std.proofs.Math.Bool.{and-false}
+use Rattle.ledger.specs.Types.{Contract, Trade, Some, None}
 use Rattle.sort.specs.Sort.{among, all_differ}
-use Rattle.ledger.specs.Flat.{trade_at, trades_to, place_of, contract_numbers}
+use Rattle.ledger.specs.Flat.{StandsAt, trade_at, trades_to, contract_numbers}
 use Rattle.ledger.proofs.FlatLaws.{no-trades, one_more, length-trades, split-trades}
 
--- ---- the place and the table
-
-pub on-table-by-place : (c : Contract) (l : List Trade) → on_table c l ≡ ltb (place_of c l) (length l)
-unfolding on_table place_of
-on-table-by-place c [] = refl
-on-table-by-place c (t ∷ l) = by (same t.contract c) (on-table-by-place c l)
-  where
-    by : (b : Bool) → on_table c l ≡ ltb (place_of c l) (length l) → cond b true (on_table c l) ≡ ltb (cond b 0 (suc (place_of c l))) (suc (length l))
-    by true h = sym (lt-ltb 0 (suc (length l)) (omega arith))
-    by false h = h ∙ sym (leb-suc-suc (suc (place_of c l)) (length l))
-
-pub place-within : (c : Contract) (l : List Trade) → place_of c l ≤ length l
-unfolding place_of
-place-within c [] = omega arith
-place-within c (t ∷ l) = by (same t.contract c) (place-within c l)
-  where
-    by : (b : Bool) → place_of c l ≤ length l → cond b 0 (suc (place_of c l)) ≤ suc (length l)
-    by true h = omega arith
-    by false h = omega arith
-
-pub trade-at-place : (c : Contract) (l : List Trade) → on_table c l ≡ true → trade_of c l ≡ get_or l (place_of c l) no_trade
-unfolding on_table trade_of place_of
-trade-at-place c [] h = refl
-trade-at-place c (t ∷ l) h = by (same t.contract c) h (trade-at-place c l)
-  where
-    by : (b : Bool) → cond b true (on_table c l) ≡ true → (on_table c l ≡ true → trade_of c l ≡ get_or l (place_of c l) no_trade) → cond b t (trade_of c l) ≡ get_or (t ∷ l) (cond b 0 (suc (place_of c l))) no_trade
-    by true h rec = refl
-    by false h rec = rec h
-
-pub take-off-at-place : (c : Contract) (q : ℕ) (l : List Trade) → on_table c l ≡ true → take_off c q l ≡ set l (place_of c l) (with_sheets ((trade_of c l).sheets.0 - q) (trade_of c l))
-unfolding on_table trade_of take_off place_of
-take-off-at-place c q [] h = refl
-take-off-at-place c q (t ∷ l) h = by (same t.contract c) h (take-off-at-place c q l)
-  where
-    by : (b : Bool) → cond b true (on_table c l) ≡ true
-        → (on_table c l ≡ true → take_off c q l ≡ set l (place_of c l) (with_sheets ((trade_of c l).sheets.0 - q) (trade_of c l)))
-        → cond b (with_sheets (t.sheets.0 - q) t ∷ l) (t ∷ take_off c q l)
-        ≡ set (t ∷ l) (cond b 0 (suc (place_of c l))) (with_sheets ((cond b t (trade_of c l)).sheets.0 - q) (cond b t (trade_of c l)))
-    by true h rec = refl
-    by false h rec = ap (λ (r : List Trade). t ∷ r) (rec h)
-
--- ---- the place among more trades
-
-place-later : (c : Contract) (a b : List Trade) → on_table c a ≡ false → place_of c (a ++ b) ≡ length a + place_of c b
-unfolding on_table place_of
-place-later c [] b h = omega arith
-place-later c (t ∷ a) b h =
-    let off = not-here false (same t.contract c) (on_table c a) h in
-    rw off.0 (omega (arith, place-later c a b off.1))
-
-pub place_here : (c : Contract) (a : List Trade) (t : Trade) (b : List Trade) → on_table c a ≡ false → same t.contract c ≡ true → place_of c (a ++ (t ∷ b)) ≡ length a
-unfolding place_of
-place_here c a t b h k = place-later c a (t ∷ b) h ∙ rw k (omega arith)
+-- ---- a contract among more trades
 
 pub on-table-append : (c : Contract) (a b : List Trade) → on_table c (a ++ b) ≡ cond (on_table c a) true (on_table c b)
 unfolding on_table
@@ -81,7 +31,22 @@ on-table-append c (t ∷ a) b = by (same t.contract c) (on-table-append c a b)
     by true h = refl
     by false h = h
 
--- ---- the place in the flat table
+-- where it is not among the first, its trade is among the others
+trade-later : (c : Contract) (a b : List Trade) → on_table c a ≡ false → trade_of c (a ++ b) ≡ trade_of c b
+unfolding on_table trade_of
+trade-later c [] b h = refl
+trade-later c (t ∷ a) b h =
+    let off = not-here false (same t.contract c) (on_table c a) h in
+    rw off.0 (trade-later c a b off.1)
+
+take-off-later : (c : Contract) (q : ℕ) (a b : List Trade) → on_table c a ≡ false → take_off c q (a ++ b) ≡ a ++ take_off c q b
+unfolding on_table take_off
+take-off-later c q [] b h = refl
+take-off-later c q (t ∷ a) b h =
+    let off = not-here false (same t.contract c) (on_table c a) h in
+    rw off.0 (ap (λ (l : List Trade). t ∷ l) (take-off-later c q a b off.1))
+
+-- ---- a contract in the flat table
 
 pub off-none : (c : Contract) (table : List ℕ) → on_table c (trades_to table 0) ≡ false
 unfolding on_table
@@ -91,18 +56,67 @@ pub off-one-more : (c : Contract) (table : List ℕ) (i : ℕ) → on_table c (t
 unfolding on_table
 off-one-more c table i h k = rw (one_more table i, on-table-append c (trades_to table i) (trade_at table i ∷ []), h, k)
 
-pub place_found : (c : Contract) (table : List ℕ) (n i : ℕ) → i < n → on_table c (trades_to table i) ≡ false → same (trade_at table i).contract c ≡ true → place_of c (trades_to table n) ≡ i
-place_found c table n i l h k =
-    ap (place_of c) (split-trades table n i l) ∙ place_here c (trades_to table i) (trade_at table i) (drop (suc i) (trades_to table n)) h k ∙ length-trades table i
-
--- ---- contracts that differ
-
-same-either-way : (a b : Contract) → same a b ≡ true → same b a ≡ true
-same-either-way a b h = eq-eqb b.0 a.0 (sym (eqb-true a.0 b.0 h))
+-- a contract that differs from every trade's is not among them
+pub off-below : (c : Contract) (table : List ℕ) (i : ℕ) → ((place : ℕ) → place < i → same (trade_at table place).contract c ≡ false) → on_table c (trades_to table i) ≡ false
+off-below c table zero h = off-none c table
+off-below c table (suc i) h = rw (sym (add-one i)) (off-one-more c table i (off-below c table i (λ place l. h place (omega (arith, l)))) (h i (omega arith)))
 
 true-after : (x : Bool) → cond x true true ≡ true
 true-after true = refl
 true-after false = refl
+
+-- one of them that is the same stands among them
+pub on_below : (c : Contract) (table : List ℕ) (count place : ℕ) → place < count → same (trade_at table place).contract c ≡ true → on_table c (trades_to table count) ≡ true
+unfolding on_table
+on_below c table count place l e =
+    ap (on_table c) (split-trades table count place l)
+    ∙ on-table-append c (trades_to table place) (trade_at table place ∷ drop (suc place) (trades_to table count))
+    ∙ rw e (true-after (on_table c (trades_to table place)))
+
+-- a search over the places finds the first
+pub found-first : (c : Contract) (table : List ℕ) (count : ℕ) (found : Option ℕ)
+    → MatchOption found ((k : ℕ) → 0 ≤ k → k < count → same (trade_at table k).contract c ≡ false)
+    (λ i. (0 ≤ i) × (i < count) × (same (trade_at table i).contract c ≡ true) × ((k : ℕ) → 0 ≤ k → k < i → same (trade_at table k).contract c ≡ false))
+    → (is_some found ≡ on_table c (trades_to table count)) × IfSome found (StandsAt table count c)
+found-first c table count None none = (sym (off-below c table count (λ k l. none k (omega arith) l)), tt)
+found-first c table count (Some i) first =
+    (sym (on_below c table count i first.1 first.2), record { below = first.1; here = first.2; first = off-below c table i (λ k l. first.3 k (omega arith) l) })
+
+-- ---- the trade at a contract's place
+
+module _ (table : List ℕ) (count place : ℕ) (c : Contract) (stands : StandsAt table count c place) where
+  split : trades_to table count ≡ trades_to table place ++ (trade_at table place ∷ drop (suc place) (trades_to table count))
+  split = split-trades table count place stands.below
+
+  pub on-table-there : on_table c (trades_to table count) ≡ true
+  on-table-there = on_below c table count place stands.below stands.here
+
+  pub trade-there : trade_of c (trades_to table count) ≡ trade_at table place
+  unfolding trade_of
+  trade-there =
+      ap (trade_of c) split
+      ∙ trade-later c (trades_to table place) (trade_at table place ∷ drop (suc place) (trades_to table count)) stands.first
+      ∙ rw stands.here refl
+
+  pub take-off-there : (q : ℕ) → take_off c q (trades_to table count) ≡ set (trades_to table count) place (with_sheets ((trade_at table place).sheets.0 - q) (trade_at table place))
+  unfolding take_off
+  take-off-there q =
+      let others = drop (suc place) (trades_to table count) in
+      let less = with_sheets ((trade_at table place).sheets.0 - q) (trade_at table place) in
+      ap (take_off c q) split
+      ∙ take-off-later c q (trades_to table place) (trade_at table place ∷ others) stands.first
+      ∙ rw stands.here refl
+      ∙ sym (set_at (trades_to table place) (trade_at table place) others less place (length-trades table place))
+      ∙ ap (λ (l : List Trade). set l place less) (sym split)
+
+-- ---- contracts that differ
+
+same-swapped : (a b : Contract) → same a b ≡ same b a
+same-swapped a b = by (ℕ_discrete a.0 b.0)
+  where
+    by : Dec (a.0 ≡ b.0) → same a b ≡ same b a
+    by (yes e) = eq-eqb a.0 b.0 e ∙ sym (eq-eqb b.0 a.0 (sym e))
+    by (no other) = ne_eqb a.0 b.0 other ∙ sym (ne_eqb b.0 a.0 (λ e. other (sym e)))
 
 false-after : (x : Bool) → cond x false false ≡ false
 false-after true = refl
@@ -115,7 +129,7 @@ differ-not [] t b h = absurd (false≢true h)
 differ-not (x ∷ a) t b h = by (same x.contract t.contract) refl h (differ-not a t b)
   where
     twice : same x.contract t.contract ≡ true → on_table x.contract (a ++ (t ∷ b)) ≡ true
-    twice k = on-table-append x.contract a (t ∷ b) ∙ ap (cond (on_table x.contract a) true) (ap (λ (z : Bool). cond z true (on_table x.contract b)) (same-either-way x.contract t.contract k)) ∙ true-after (on_table x.contract a)
+    twice k = on-table-append x.contract a (t ∷ b) ∙ ap (cond (on_table x.contract a) true) (ap (λ (z : Bool). cond z true (on_table x.contract b)) (same-swapped t.contract x.contract ∙ k)) ∙ true-after (on_table x.contract a)
 
     by : (y : Bool) → same x.contract t.contract ≡ y → cond y true (on_table t.contract a) ≡ true → (on_table t.contract a ≡ true → differ (a ++ (t ∷ b)) ≡ false)
         → cond (on_table x.contract (a ++ (t ∷ b))) false (differ (a ++ (t ∷ b))) ≡ false
@@ -126,21 +140,25 @@ pub differ-none : (table : List ℕ) → differ (trades_to table 0) ≡ true
 unfolding differ
 differ-none table = rw (no-trades table)
 
--- the search for a trade's contract among the trades before it tells whether they still differ
-module _ (table : List ℕ) (i : ℕ) where
-  abbrev pub place_before : ℕ
-  place_before = place_of (trade_at table i).contract (trades_to table i)
+-- one trade more differs where its contract is not on the table
+differ-more : (l : List Trade) (t : Trade) → differ (l ++ (t ∷ [])) ≡ (differ l && not (on_table t.contract l))
+unfolding differ on_table
+differ-more [] t = refl
+differ-more (x ∷ l) t =
+    rw (on-table-append x.contract l (t ∷ []), same-swapped t.contract x.contract, differ-more l t) (by (on_table x.contract l) (same x.contract t.contract))
+  where
+    by : (a b : Bool)
+        → cond (cond a true (cond b true false)) false (differ l && not (on_table t.contract l)) ≡ (cond a false (differ l) && not (cond b true (on_table t.contract l)))
+    by true b = refl
+    by false true = sym (and-false (differ l))
+    by false false = refl
 
-  by_place : on_table (trade_at table i).contract (trades_to table i) ≡ ltb place_before i
-  by_place = on-table-by-place (trade_at table i).contract (trades_to table i) ∙ ap (ltb place_before) (length-trades table i)
-
-  pub differ-one-more : differ (trades_to table i) ≡ true → i ≤ place_before → differ (trades_to table (i + 1)) ≡ true
-  differ-one-more h k = rw (one_more table i) (differ-append (trades_to table i) (trade_at table i) h (by_place ∙ le-ltb place_before i k))
-
-  pub differ-fails : (n : ℕ) → i < n → place_before < i → differ (trades_to table n) ≡ false
-  differ-fails n l k =
-      ap differ (split-trades table n i l)
-      ∙ differ-not (trades_to table i) (trade_at table i) (drop (suc i) (trades_to table n)) (by_place ∙ lt-ltb place_before i k)
+-- so all differ where the contract of none is among those before it
+pub differ-by-place : (table : List ℕ) (count : ℕ) → all_below count (λ place. not (on_table (trade_at table place).contract (trades_to table place))) ≡ differ (trades_to table count)
+unfolding all_below
+differ-by-place table zero = sym (differ-none table)
+differ-by-place table (suc count) =
+    rw (differ-by-place table count) (sym (rw (← one_more table count, add-one count) at (differ-more (trades_to table count) (trade_at table count))))
 
 -- ---- contracts by their numbers
 

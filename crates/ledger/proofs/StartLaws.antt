@@ -2,10 +2,12 @@
 -- more. For the functions of next_term.rt, and for Close. Assumes nothing.
 use Rattle.std.specs.Prelude.{◌≡◌, ℕ, zero, suc, ◌+◌, ◌<◌, ◌≤◌, Bool, true, false, cond, not, eqb, List, [], ◌∷◌, map, length, drop, set, pos, Option}
 use mathlib.Core.Path.{refl, sym, ap, ◌∙◌}
+use mathlib.Core.Bool.{false≢true}
 use native.Mathlib.Omega.{arith}
 use borrow.Author.Tests.{eq-eqb, ne_eqb, lt-leb, le-ltb}
 use lib.Seq.{drop_at}
 use lib.Signed.{lt_z}
+use Rattle.std.specs.Bool.{then_some}
 use Rattle.money.specs.declared.units.Sheets.{Sheets}
 use Rattle.money.specs.Units.{sheets}
 use Rattle.money.specs.Limits.{calendar_limit, term_limit}
@@ -27,7 +29,7 @@ use Rattle.rules.proofs.NextTermTurns.{left-more, outstanding-more, left-matured
 use Rattle.ledger.specs.Types.{Book, Posting, Contract, Trade, Some, None}
 use Rattle.ledger.specs.Flat.{trade_at, trades_to, capacity, trades_of, posting_in, postings_of}
 use Rattle.ledger.specs.NextTerm.{Closing, Meets, MeetsWhere, RenewableWhere}
-use Rattle.ledger.proofs.SumLaws.{test-fails, test-holds}
+use Rattle.ledger.proofs.SumLaws.{test-fails, test-holds, some-told, none-told}
 use Rattle.ledger.proofs.Fitting.{last-test}
 use Rattle.ledger.proofs.Column.{second_holds, neither-holds}
 use Rattle.ledger.proofs.PostingLaws.{posting-below}
@@ -40,13 +42,18 @@ pub posting-within : (postings : List Posting) → postings_fit postings ≡ tru
 posting-within postings e zero h = none-posted-fits
 posting-within postings e (suc number) h = postings-fit postings e number h
 
--- the term of a posting that was read by a trade's product
-module _ (held : List ℕ) (trade : Trade) (posting : Posting) {product : ℕ} (read : posting ≡ posting_at (postings_of held) product) (its : product ≡ trade.product) where
-  pub term-read : posting.term ≡ (posting_at (postings_of held) trade.product).term
-  term-read = ap (λ (p : Posting). p.term) (read ∙ ap (posting_at (postings_of held)) its)
+-- a posted term is short
+pub term-short : (held : List ℕ) (trade : Trade) → postings_fit (postings_of held) ≡ true → trade_fit trade ≡ true → (posting_at (postings_of held) trade.product).term ≤ 365
+term-short held trade fits fit = (posting-within _ fits _ (within_of trade fit).product).term
 
-  pub term-short : postings_fit (postings_of held) ≡ true → trade_fit trade ≡ true → posting.term ≤ 365
-  term-short fits fit = omega (arith, term-read, (posting-within _ fits _ (within_of trade fit).product).term)
+-- a posting that was told by a trade's product
+module _ (held : List ℕ) (trade : Trade) {posting : Posting} {product : ℕ}
+    (read : ◌≡◌ {A = Option Posting} (Some posting) (then_some (is_posted (posting_at (postings_of held) product)) (posting_at (postings_of held) product))) (its : product ≡ trade.product) where
+  pub told-posted : (is_posted (posting_at (postings_of held) trade.product) ≡ true) × (posting ≡ posting_at (postings_of held) trade.product)
+  told-posted = some-told _ _ _ (rw its at read)
+
+  pub told-short : postings_fit (postings_of held) ≡ true → trade_fit trade ≡ true → posting.term ≤ 365
+  told-short fits fit = omega (arith, ap (λ (p : Posting). p.term) told-posted.1, term-short held trade fits fit)
 
 -- where nothing is posted, nothing is posted for any product
 pub nothing-posted : (held : List ℕ) → ((number : ℕ) → number < product_limit → is_posted (posting_in held number) ≡ false)
@@ -74,26 +81,6 @@ module _ (calendar : Calendar) (book : Book) (o : ℕ) (trade : Trade) where
       either true false = refl
       either false normal = refl
 
--- ---- the record that starts
-
-abbrev pub term_from : Trade → (today payment : ℕ) → List Posting → Trade
-term_from trade today payment postings = record {
-  contract = trade.contract;
-  sheets = sheets (maturing today trade);
-  price = (posting_at postings trade.product).price;
-  fallback = (posting_at postings trade.product).fallback;
-  first = payment;
-  due = today + (posting_at postings trade.product).term;
-  product = trade.product;
-}
-
--- from its parts, as the code reads them
-pub term-from-parts : (trade : Trade) (today payment : ℕ) (postings : List Posting) {contract : Contract} {count : Sheets} {posting : Posting} {product : ℕ}
-    → contract ≡ trade.contract → count ≡ sheets (maturing today trade) → posting ≡ posting_at postings trade.product → product ≡ trade.product
-    → record { contract = contract; sheets = count; price = posting.price; fallback = posting.fallback; first = payment; due = today + posting.term; product = product }
-    ≡ term_from trade today payment postings
-term-from-parts trade today payment postings c s p n = rw (c, s, p, n)
-
 -- ---- whether a next term starts, by the code's tests in their order
 
 module _ (calendar : Calendar) (book : Book) (closing : Closing) (held : List ℕ) (met : Meets calendar book closing held) (o : ℕ) (trade : Trade) where
@@ -114,15 +101,16 @@ module _ (calendar : Calendar) (book : Book) (closing : Closing) (held : List �
     due : not (eqb (maturing (today book) trade) 0) ≡ true
     due = ap not (ne_eqb (maturing (today book) trade) 0 (λ z. some (same-sheets ∙ z)))
 
-    pub not-posted : term ≡ 0 → false ≡ starts calendar book o trade
+    pub not-posted : is_posted (posting_at (postings_of held) trade.product) ≡ false → false ≡ starts calendar book o trade
     unfolding starts
-    not-posted e =
-        test-holds _ _ _ due
-        (test-holds _ _ _ met.normal (test-fails _ _ (ap not (eq-eqb (posting_at book.postings trade.product).term 0 (sym same-term ∙ e)))))
+    not-posted e = test-holds _ _ _ due (test-holds _ _ _ met.normal (test-fails _ _ (rw met.postings at e)))
 
-    module _ (posted : term ≡ 0 → ⊥) where
+    module _ (posted : is_posted (posting_at (postings_of held) trade.product) ≡ true) where
       is-posted : is_posted (posting_at book.postings trade.product) ≡ true
-      is-posted = ap not (ne_eqb (posting_at book.postings trade.product).term 0 (λ z. posted (same-term ∙ z)))
+      is-posted = rw met.postings at posted
+
+      some-days : term ≡ 0 → ⊥
+      some-days e = false≢true (sym (ap not (eq-eqb term 0 e)) ∙ posted)
 
       pub no-maturity : followed calendar (at_or_after calendar (closing.today + term)) ≡ false → false ≡ starts calendar book o trade
       unfolding starts
@@ -138,7 +126,7 @@ module _ (calendar : Calendar) (book : Book) (closing : Closing) (held : List �
       by-headroom short e lacks asked =
           let found = rw (met.today, same-term) at e in
           let due-day = today book + (posting_at book.postings trade.product).term in
-          let on-term = neither-holds (lt-leb due-day (today book) (omega (arith, posted, same-term))) (le-ltb (today book + 365) due-day (omega (arith, short, same-term))) in
+          let on-term = neither-holds (lt-leb due-day (today book) (omega (arith, some-days, same-term))) (le-ltb (today book + 365) due-day (omega (arith, short, same-term))) in
           let told : lacks ≡ lt_z (headroom_of book.size.0 (value book.vault) o) (pos (maturing (today book) trade)) = asked ∙ rw (met.size, met.value, same-sheets) in
           test-holds _ _ _ due
           (test-holds _ _ _ met.normal
@@ -146,18 +134,32 @@ module _ (calendar : Calendar) (book : Book) (closing : Closing) (held : List �
           (test-holds _ _ _ (ap not (neither-holds on-term (ap not found)))
           (last-test _ _ (ap not told)))))
 
-  -- the record that starts is the next term
-  pub next-term-is : term_from trade closing.today closing.payment (postings_of held) ≡ next_term calendar book trade
-  next-term-is =
-      ap (λ (day : ℕ). term_from trade day closing.payment (postings_of held)) met.today
-      ∙ ap (λ (day : ℕ). term_from trade (today book) day (postings_of held)) met.payment
-      ∙ ap (term_from trade (today book) (payment_day calendar book.standing.day)) met.postings
-
 -- ---- O and the slots, one trade more
 
 pub with-at-most : (started : Bool) (book : Book) (trade : Trade) (o : ℕ) → with_started started book trade o ≤ o + trade.sheets.0
 with-at-most true book trade o = omega (arith, maturing-le (today book) trade)
 with-at-most false book trade o = omega arith
+
+-- with the next term that was told, or none
+module _ (calendar : Calendar) (book : Book) (o : ℕ) (trade : Trade) where
+  abbrev Told : Option Trade → Type 0
+  Told next = ◌≡◌ {A = Option Trade} next (then_some (starts calendar book o trade) (next_term calendar book trade))
+
+  pub next-few : (next : Trade) → Told (Some next) → next.sheets.0 ≤ trade.sheets.0
+  next-few next e = omega (arith, ap (λ (t : Trade). t.sheets.0) (some-told _ _ _ e).1, maturing-le (today book) trade)
+
+  pub with-next : (next : Trade) → Told (Some next) → o + next.sheets.0 ≡ with_started (starts calendar book o trade) book trade o
+  with-next next e = rw ((some-told _ _ _ e).0, (some-told _ _ _ e).1) refl
+
+  pub with-none : Told None → o ≡ with_started (starts calendar book o trade) book trade o
+  with-none e = rw (none-told _ _ e) refl
+
+  -- and the slot that it leaves
+  pub slot-next : (next : Trade) → Told (Some next) → next ≡ in_slot (starts calendar book o trade) calendar book trade
+  slot-next next e = rw (some-told _ _ _ e).0 (some-told _ _ _ e).1
+
+  pub slot-none : Told None → matured (today book) trade ≡ in_slot (starts calendar book o trade) calendar book trade
+  slot-none e = rw (none-told _ _ e) refl
 
 module _ (calendar : Calendar) (book : Book) (o : ℕ) where
   pub none-started : (table : List ℕ) → o ≡ o + outstanding (started_from calendar book o (trades_to table 0))

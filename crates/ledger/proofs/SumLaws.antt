@@ -1,6 +1,7 @@
 -- Laws of sums, tests and steps in a row: one more, one that fails, one term that changes.
 -- Assumes nothing.
-use Rattle.std.specs.Prelude.{◌≡◌, ℕ, zero, suc, ◌+◌, ◌*◌, ◌<◌, ◌≤◌, Bool, true, false, List, [], ◌∷◌}
+use Rattle.std.specs.Prelude.{◌≡◌, ℕ, zero, suc, ◌+◌, ◌*◌, ◌<◌, ◌≤◌, Bool, true, false, List, [], ◌∷◌, Option, Some, None}
+use Rattle.std.specs.Bool.{then_some}
 use mathlib.Core.Path.{refl, sym, ap, ◌∙◌}
 use native.Mathlib.Decide.{ℕ_discrete}
 use native.Mathlib.Numerals.{add-one}
@@ -82,3 +83,13 @@ pub only-test : (test : Bool) → test ≡ every (test ∷ [])
 unfolding every
 only-test true = refl
 only-test false = refl
+
+-- ---- a value told where a test holds
+
+pub some-told : {A : Type 0} (test : Bool) (told value : A) → ◌≡◌ {A = Option A} (Some told) (then_some test value) → (test ≡ true) × (told ≡ value)
+some-told true told value e = (refl, cc)
+some-told false told value e = let z : ◌≡◌ {A = ℕ} 0 1 = cc in absurd (omega arith)
+
+pub none-told : {A : Type 0} (test : Bool) (value : A) → ◌≡◌ {A = Option A} None (then_some test value) → test ≡ false
+none-told true value e = let z : ◌≡◌ {A = ℕ} 0 1 = cc in absurd (omega arith)
+none-told false value e = refl

@@ -1,7 +1,7 @@
 -- How the core lays out its table, five numbers a trade, and its book, scalars and rows: what `Lent` reads numbers by. Promises of other calls
 -- cite this layout and `applied_of`; all else serves private contracts. No rule of document 01 stands here.
 -- Assumes nothing.
-use Rattle.std.specs.Prelude.{◌≡◌, ℕ, zero, suc, ◌+◌, ◌*◌, ◌/◌, ◌%◌, ◌<◌, ◌≤◌, true, cond, List, [], ◌∷◌, ◌++◌, map, length, nat_le, slice_index}
+use Rattle.std.specs.Prelude.{◌≡◌, ℕ, zero, suc, ◌+◌, ◌*◌, ◌/◌, ◌%◌, ◌<◌, ◌≤◌, true, false, List, [], ◌∷◌, ◌++◌, map, length, nat_le, slice_index}
 use Rattle.std.proofs.Math.Option.{Option, none, some}
 use Rattle.money.specs.Limits.{calendar_limit, price_limit, term_limit}
 use Rattle.money.specs.declared.units.Ticks.{Ticks}
@@ -14,7 +14,7 @@ use Rattle.rules.specs.Open.{turns_terminated, opened_standing}
 use Rattle.rules.specs.Pay.{fails, after_pay, pay_number}
 use Rattle.rules.specs.Close.{Evening, close_answer, closed_book}
 use Rattle.rules.specs.Step.{Outcome}
-use Rattle.rules.specs.Trades.{same}
+use Rattle.rules.specs.Trades.{same, on_table}
 use Rattle.rules.specs.Fit.{securities_fit, cash_fit, withdrawals_fit, trade_fit, all_trades, fit}
 use Rattle.ledger.specs.Types.{Security, Posting, Standing, Guarantee, Vault, Book, Applied, Contract, Trade}
 use Rattle.scalars.specs.declared.state.Scalars.{Scalars}
@@ -169,10 +169,11 @@ pub record Fits (calendar : Calendar) (scalars : Scalars) (table : List Trade) :
   pub few : length calendar ≤ calendar_limit
   pub fits : fit calendar (book_of scalars rows) table ≡ true
 
--- where a contract's trade stands, or how many trades there are
-unfoldable pub place_of : Contract → List Trade → ℕ
-place_of contract [] = 0
-place_of contract (trade ∷ trades) = cond (same trade.contract contract) 0 (suc (place_of contract trades))
+-- a contract's trade stands at a place: the first of so many trades that has the contract
+pub record StandsAt (table : List ℕ) (count : ℕ) (contract : Contract) (place : ℕ) : Type 0 where
+  pub below : place < count
+  pub here : same (trade_at table place).contract contract ≡ true
+  pub first : on_table contract (trades_to table place) ≡ false
 
 -- the contracts of trades, by their numbers
 abbrev pub contract_numbers : List Trade → List ℕ
@@ -204,14 +205,9 @@ pub record Ending (calendar : Calendar) (scalars : Scalars) (table : List Trade)
   pub closed : is_closed scalars.standing.phase ≡ true
   pub ended : turns_terminated scalars.standing ≡ true
 
--- Early: the place is the contract's
-pub record Named (calendar : Calendar) (scalars : Scalars) (table : List ℕ) (place : ℕ) (contract : Contract) : Type 0 where
+-- Early: a trade in use at a place, and a price within its limit
+pub record Running (calendar : Calendar) (scalars : Scalars) (table : List ℕ) (place : ℕ) (price : Ticks) : Type 0 where
   pub book : Fits calendar scalars (trades_of table)
-  pub stands : place ≡ place_of contract (trades_to table scalars.trades)
-
--- where its trade is on the table, and the price within its limit
-pub record Running (calendar : Calendar) (scalars : Scalars) (table : List ℕ) (place : ℕ) (contract : Contract) (price : Ticks) : Type 0 where
-  pub named : Named calendar scalars table place contract
   pub below : place < scalars.trades
   pub cheap : price.0 ≤ price_limit
 

@@ -34,7 +34,3 @@ maturity_of today payment trades = record { sheets = sheets (total (maturing tod
 -- Open on turning terminated: all of them, at their fallback price
 abbrev pub termination_of : (payment : ℕ) → List Trade → Redeemed
 termination_of payment trades = record { sheets = sheets (outstanding trades); amount = fen (total (fallback_amount payment) trades) }
-
--- Early: some sheets of one, at the price given
-abbrev pub early_of : Calendar → Book → List Trade → Contract → Sheets → Ticks → Redeemed
-early_of calendar book table contract count price = record { sheets = count; amount = fen (early_amount calendar book table contract count price) }

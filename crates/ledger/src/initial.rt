@@ -48,7 +48,7 @@ fn is_taken(table: &[u64], count: usize, contract: Contract) -> bool
     requires { HasSlots table.now count }
     ensures { result ≡ on_table contract (in_use count (trades_of table.now)) }
 {
-    trades::place_of(table, count, contract) < count
+    trades::place_of(table, count, contract).is_some()
 }
 
 fn is_full(table: &[u64], trades: usize) -> bool
@@ -98,8 +98,7 @@ fn product_refusal(scalars: Scalars, held: &Held, terms: Terms) -> Result<(), Re
     if product > PRODUCT_LIMIT {
         return Err(Refusal::NotPosted);
     }
-    let posting = postings::posting_of(held, product);
-    if posting.term == 0 {
+    if postings::posted(held, product).is_none() {
         return Err(Refusal::NotPosted);
     }
     Ok(())

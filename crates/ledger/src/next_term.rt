@@ -1,5 +1,6 @@
 // Automatic next terms, between Close's parts (a) and (b): which start, decided once for the plan and once more as they are written. (02, ask 4)
 ghost use Rattle.std.specs.Prelude.{◌≡◌, ℕ, ◌+◌, ◌≤◌, true, false, List, slice_set};
+ghost use Rattle.std.specs.Bool.{then_some};
 ghost use Rattle.money.specs.Days.{Calendar};
 ghost use Rattle.rules.specs.Limits.{product_limit};
 ghost use Rattle.rules.specs.Book.{is_normal};
@@ -7,7 +8,7 @@ ghost use Rattle.rules.specs.Days.{today as today_of, payment_day};
 ghost use Rattle.rules.specs.Vault.{value as value_of};
 ghost use Rattle.rules.specs.Fit.{securities_fit, cash_fit};
 ghost use Rattle.rules.specs.Trades.{outstanding as outstanding_of, over};
-ghost use Rattle.rules.specs.NextTerm.{starts as starts_of, next_term, with_started, in_slot, left_from, started_from};
+ghost use Rattle.rules.specs.NextTerm.{starts, next_term, with_started, in_slot, left_from, started_from};
 ghost use Rattle.ledger.specs.Types.{Book, Trade};
 ghost use Rattle.ledger.specs.Flat.{Kept, trade_at, trades_to, trades_of, securities_of, vault_of, rows_of, book_of};
 ghost use Rattle.ledger.specs.Figures.{CountedWhole, IsValue};
@@ -51,7 +52,7 @@ fn may_start(scalars: Scalars, held: &Held) -> bool
         × (result ≡ false
         → (calendar : Calendar) (kinds units : List ℕ) (outstanding : ℕ) (trade : Trade) →
         trade.product ≤ product_limit
-        → starts_of calendar (book_of scalars (rows_of held.now kinds units)) outstanding trade ≡ false) }
+        → starts calendar (book_of scalars (rows_of held.now kinds units)) outstanding trade ≡ false) }
 {
     scalars.standing.is_normal() && postings::any_posted(held)
 }
@@ -78,35 +79,8 @@ fn closing_of(
     })
 }
 
-// The conditions in the order of the ask; the status is normal. A posted term is 1 to 365 days, so of rule 9 the calendar alone is left to ask.
-#[tactic(auto, using(crate::proofs::RedemptionLaws::within_of))]
-fn starts(
-    calendar: &Calendar,
-    held: &Held,
-    table: &[u64],
-    place: usize,
-    closing: Closing,
-    outstanding: Sheets,
-) -> bool
-    requires { (Renewable calendar.now closing held.now) × (FitAt table.now place) }
-    ensures { (book : Book) →
-        Meets calendar.now book closing held.now
-        → result ≡ starts_of calendar.now book outstanding.0 (trade_at table.now place) }
-{
-    let due = redemption::maturing_at(table, place, closing.today);
-    if due.0 == 0 {
-        return false;
-    }
-    let product = flat::product_at(table, place);
-    let posting = postings::posting_of(held, product as usize);
-    if posting.term == 0 {
-        return false;
-    }
-    calendar.matures(closing.today + posting.term as u32)
-        && !headroom::above_headroom(closing.size, closing.value, outstanding, due)
-}
-
-// The record that takes the old one's slot.
+// The record that takes the old one's slot, if its next term starts: the conditions in the order of the ask, of which the status is normal. A posted
+// term is 1 to 365 days, so of rule 9 the calendar alone is left to ask.
 #[tactic(auto, using(crate::proofs::RedemptionLaws::within_of))]
 fn next_term(
     calendar: &Calendar,
@@ -114,48 +88,36 @@ fn next_term(
     table: &[u64],
     place: usize,
     closing: Closing,
-) -> Trade
-    requires { (Renewable calendar.now closing held.now) × (FitAt table.now place) }
-    ensures { (book : Book) →
-        Meets calendar.now book closing held.now
-        → result ≡ next_term calendar.now book (trade_at table.now place) }
-{
-    let product = flat::product_at(table, place);
-    let posting = postings::posting_of(held, product as usize);
-    Trade {
-        contract: flat::contract_at(table, place),
-        sheets: redemption::maturing_at(table, place, closing.today),
-        price: posting.price,
-        fallback: posting.fallback,
-        first: closing.payment,
-        due: closing.today + posting.term as u32,
-        product,
-    }
-}
-
-// O with a trade's next term, if it starts.
-#[tactic(auto, using(crate::proofs::RedemptionLaws::within_of))]
-fn with_started(
-    calendar: &Calendar,
-    held: &Held,
-    table: &[u64],
-    place: usize,
-    closing: Closing,
     outstanding: Sheets,
-) -> Sheets
-    requires { (Renewable calendar.now closing held.now)
-        × (FitAt table.now place)
-        × (outstanding.0 ≤ most_started) }
+) -> Option<Trade>
+    requires { (Renewable calendar.now closing held.now) × (FitAt table.now place) }
     ensures { let trade = trade_at table.now place in
         ((book : Book) →
         Meets calendar.now book closing held.now
-        → result.0 ≡ with_started (starts_of calendar.now book outstanding.0 trade) book trade outstanding.0) }
+        → result ≡ then_some (starts calendar.now book outstanding.0 trade) (next_term calendar.now book trade)) }
 {
-    if starts(calendar, held, table, place, closing, outstanding) {
-        Sheets(outstanding.0 + redemption::maturing_at(table, place, closing.today).0)
-    } else {
-        outstanding
+    let sheets = redemption::maturing_at(table, place, closing.today);
+    if sheets.0 == 0 {
+        return None;
     }
+    let product = flat::product_at(table, place);
+    let posting = postings::posted(held, product as usize)?;
+    let due = closing.today + posting.term as u32;
+    if !calendar.matures(due) {
+        return None;
+    }
+    if headroom::above_headroom(closing.size, closing.value, outstanding, sheets) {
+        return None;
+    }
+    Some(Trade {
+        contract: flat::contract_at(table, place),
+        sheets,
+        price: posting.price,
+        fallback: posting.fallback,
+        first: closing.payment,
+        due,
+        product,
+    })
 }
 
 // The plan: O as part (b) begins, from O once all have matured. Each term is judged beside those that started before it.
@@ -179,13 +141,14 @@ pub fn outstanding_after(
     };
     let mut sum = matured;
     for place in 0..count {
-        sum = with_started(calendar, held, table, place, closing, sum);
+        if let Some(next) = next_term(calendar, held, table, place, closing, sum) {
+            sum = Sheets(sum.0 + next.sheets.0);
+        }
     }
     sum
 }
 
-// A slot as part (b) begins: the next term if it starts, else the trade matured. The answer is O with it, as of `with_started`, which only reads
-// the table: one function for both would lend it to the plan for writing.
+// A slot as part (b) begins: the next term if it starts, else the trade matured. The answer is O with it.
 #[tactic(auto, using(crate::proofs::RedemptionLaws::within_of))]
 fn settle_slot(
     calendar: &Calendar,
@@ -201,18 +164,16 @@ fn settle_slot(
     ensures { let trade = trade_at table.old place in
         ((book : Book) →
         Meets calendar.now book closing held.now
-        → let started = starts_of calendar.now book outstanding.0 trade in
+        → let started = starts calendar.now book outstanding.0 trade in
         (result.0 ≡ with_started started book trade outstanding.0)
         × (trades_of table.new ≡ slice_set (trades_of table.old) place (in_slot started calendar.now book trade))) }
 {
-    if starts(calendar, held, &*table, place, closing, outstanding) {
-        let next = next_term(calendar, held, &*table, place, closing);
-        flat::put_trade(table, place, next);
-        Sheets(outstanding.0 + next.sheets.0)
-    } else {
+    let Some(next) = next_term(calendar, held, table, place, closing, outstanding) else {
         redemption::redeem_one(table, place, closing.today);
-        outstanding
-    }
+        return outstanding;
+    };
+    flat::put_trade(table, place, next);
+    Sheets(outstanding.0 + next.sheets.0)
 }
 
 // What the plan decided, written: every slot in use as part (b) begins.

@@ -1,5 +1,6 @@
 // What is posted today, in the row of the securities behind these, two numbers a product: the term, and both prices. (02, ask 4)
 ghost use Rattle.std.specs.Prelude.{◌≡◌, ℕ, ◌<◌, ◌≤◌, false, slice_set};
+ghost use Rattle.std.specs.Bool.{then_some};
 ghost use Rattle.rules.specs.Limits.{product_limit};
 ghost use Rattle.rules.specs.Book.{is_posted, no_postings, posting_at};
 ghost use Rattle.rules.specs.Fit.{posting_fit, postings_fit};
@@ -29,18 +30,13 @@ pub fn posting_at(held: &Held, number: usize) -> Posting
 }
 
 // What is posted for a record's product, which is 0 for none, or the number plus 1.
-pub fn posting_of(held: &Held, product: usize) -> Posting
+pub fn posted(held: &Held, product: usize) -> Option<Posting>
     requires { product ≤ product_limit }
-    ensures { result ≡ posting_at (postings_of held.now) product }
+    ensures { let posting = posting_at (postings_of held.now) product in
+        result ≡ then_some (is_posted posting) posting }
 {
-    match product.checked_sub(1) {
-        Some(number) => posting_at(held, number),
-        None => Posting {
-            term: 0,
-            price: Ticks(0),
-            fallback: Ticks(0),
-        },
-    }
+    let posting = posting_at(held, product.checked_sub(1)?);
+    (posting.term != 0).then_some(posting)
 }
 
 // Whether any product is posted today.

@@ -11,7 +11,7 @@ ghost use Rattle.ledger.specs.Redemption.{IsPart, IsWithin, redeemed_of, maturit
 use crate::flat;
 use money::units::{Fen, Sheets, Ticks};
 
-// What Early, Close or Open redeems: the sheets, and what is paid for them.
+// What Close or Open redeems: the sheets, and what is paid for them.
 #[derive(Clone, Copy)]
 pub struct Redeemed {
     pub sheets: Sheets,

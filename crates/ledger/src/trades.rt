@@ -1,9 +1,9 @@
 // What is counted and tested over the trades in use.
-ghost use Rattle.std.specs.Prelude.{◌≡◌, ◌<◌, ◌≤◌, length};
+ghost use Rattle.std.specs.Prelude.{◌≡◌, ◌<◌, ◌≤◌, length, is_some, IfSome};
 ghost use Rattle.rules.specs.Limits.{capacity_limit};
-ghost use Rattle.rules.specs.Trades.{outstanding, differ};
+ghost use Rattle.rules.specs.Trades.{outstanding, differ, on_table};
 ghost use Rattle.rules.specs.Fit.{trade_fit};
-ghost use Rattle.ledger.specs.Flat.{HasSlots, HasSlot, trade_at, trades_to, place_of, contract_numbers, Kept};
+ghost use Rattle.ledger.specs.Flat.{HasSlots, HasSlot, trade_at, trades_to, StandsAt, contract_numbers, Kept};
 ghost use Rattle.ledger.specs.Figures.{summary_of};
 ghost use Rattle.ledger.specs.Chains.{most_buckets};
 
@@ -40,14 +40,13 @@ pub fn outstanding_of(table: &[u64], count: usize) -> Sheets
     )
 }
 
-// Where a contract's trade stands, or the count where it is not on the table.
-pub fn place_of(table: &[u64], count: usize, contract: Contract) -> usize
+// Where a contract's trade stands.
+pub fn place_of(table: &[u64], count: usize, contract: Contract) -> Option<usize>
     requires { HasSlots table.now count }
-    ensures { result ≡ place_of contract (trades_to table.now count) }
+    ensures on_table { is_some result ≡ on_table contract (trades_to table.now count) }
+    ensures place { IfSome result (StandsAt table.now count contract) }
 {
-    (0..count)
-        .position(|place| flat::contract_at(table, place) == contract)
-        .unwrap_or(count)
+    (0..count).find(|&place| flat::contract_at(table, place) == contract)
 }
 
 // No contract stands before its own place: each is searched, which for few trades is as fast as to sort.
@@ -55,7 +54,7 @@ fn few_differ(table: &[u64], count: usize) -> bool
     requires { HasSlots table.now count }
     ensures { result ≡ differ (trades_to table.now count) }
 {
-    (0..count).all(|place| place_of(table, place, flat::contract_at(table, place)) == place)
+    (0..count).all(|place| place_of(table, place, flat::contract_at(table, place)).is_none())
 }
 
 fn contract_numbers(table: &[u64], count: usize, numbers: &mut [u64])
