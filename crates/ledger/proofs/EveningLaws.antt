@@ -103,11 +103,11 @@ pub record Held (vault : Vault) (kind : ℕ) (had : Security) : Type 0 where
 module _ (vault : Vault) (kind : ℕ) (had : Security) where
   -- what the code asks for before it judges by what is had
   pub held_fits : (v : ℕ) → Sound vault → kind ≤ 32 → Held vault kind had → v ≡ value vault
-      → (kind ≤ 32) × (had.frozen ≤ had.effective) × (had.effective ≤ unit_limit_of kind) × (rate_of kind had.rate ≤ 20000)
+      → (had.frozen ≤ had.effective) × (had.effective ≤ unit_limit_of kind) × (rate_of kind had.rate ≤ 20000)
       × ((kind_value kind had.effective had.frozen had.rate).0 ≤ v) × (v ≤ value_bound)
   held_fits v sound h held e =
       let fits = kind_fits vault sound kind h in
-      rw (held.effective, held.frozen, held.rate, e) (h, fits.free, fits.within, fits.rate, value-at-part vault sound kind h, value-bound-of vault sound)
+      rw (held.effective, held.frozen, held.rate, e) (fits.free, fits.within, fits.rate, value-at-part vault sound kind h, value-bound-of vault sound)
 
   -- V afterwards, by the kind's value before and after
   pub value_after : (units v : ℕ) (with without : Sheets) → Held vault kind had → kind ≤ 32 → length vault.securities ≡ 32 → v ≡ value vault

@@ -11,6 +11,7 @@ pub mod StartLaws
 pub mod PackingLaws
 -- laws for the code: the core's book, the vault and the evening
 pub mod UpToLaws
+pub mod KindLaws
 pub mod HeldLaws
 pub mod PostingLaws
 pub mod HeldFit

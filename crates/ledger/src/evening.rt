@@ -6,12 +6,14 @@ ghost use Rattle.rules.specs.Vault.{security_at, effective_of, frozen_of, value 
 ghost use Rattle.rules.specs.Fit.{securities_fit, withdrawals_fit};
 ghost use Rattle.rules.specs.Close.{security_arrived, guarantee_arrived, taken_out, claims_of, may_go, applications};
 ghost use Rattle.ledger.specs.Types.{Vault};
+ghost use Rattle.ledger.specs.Kind.{kind_number};
 ghost use Rattle.ledger.specs.Flat.{vault_of, securities_of, postings_of, evening_at};
 ghost use Rattle.ledger.specs.Figures.{value_bound};
 
+use crate::kind::{Kind, SecurityNumber};
 use crate::layout::{Held, Kinds, Units};
 use crate::{held, vault};
-use money::limits::{CASH_KIND, SECURITIES};
+use money::limits::CASH_KIND;
 use money::units::{Fen, Sheets};
 use rules::book::{Guarantee, Security};
 use scalars::headroom;
@@ -44,9 +46,10 @@ pub fn all_arrived(held: &mut Held, guarantee: Guarantee)
     ensures { (securities_of held.new ≡ map security_arrived (securities_of held.old))
         × (postings_of held.new ≡ postings_of held.old) }
 {
-    for kind in 0..SECURITIES {
-        let security = held::security_at(&*held, kind);
-        held::put_security(held, kind, security_arrived(security));
+    for kind in 0..CASH_KIND {
+        let at = SecurityNumber::new(kind);
+        let security = held::security_at(held, at);
+        held::put_security(held, at, security_arrived(security));
     }
 }
 
@@ -56,25 +59,24 @@ fn judged(
     served: bool,
     outstanding: Sheets,
     unpaid: Fen,
-    kind: u8,
+    kind: Kind,
     units: u64,
     had: Security,
     value: Sheets,
 ) -> Option<Sheets>
-    requires { (kind ≤ cash_kind)
-        × (had.frozen ≤ had.effective)
-        × (had.effective ≤ unit_limit_of kind)
-        × (rate_of kind had.rate ≤ rate_limit)
-        × ((kind_value kind had.effective had.frozen had.rate).0 ≤ value.0)
+    requires { (had.frozen ≤ had.effective)
+        × (had.effective ≤ unit_limit_of (kind_number kind))
+        × (rate_of (kind_number kind) had.rate ≤ rate_limit)
+        × ((kind_value (kind_number kind) had.effective had.frozen had.rate).0 ≤ value.0)
         × (value.0 ≤ value_bound) }
     ensures { (vault : Vault) →
         length vault.securities ≡ cash_kind
-        → had.effective ≡ effective_of vault kind
-        → had.frozen ≡ frozen_of vault kind
-        → had.rate ≡ (security_at vault kind).rate
+        → had.effective ≡ effective_of vault (kind_number kind)
+        → had.frozen ≡ frozen_of vault (kind_number kind)
+        → had.rate ≡ (security_at vault (kind_number kind)).rate
         → value.0 ≡ value_of vault
-        → let goes = may_go served (claims_of outstanding.0 unpaid.0) kind units vault in
-        MatchOption result (goes ≡ false) (λ after. (goes ≡ true) × (after.0 ≡ value_of (taken_out kind units vault))) }
+        → let goes = may_go served (claims_of outstanding.0 unpaid.0) (kind_number kind) units vault in
+        MatchOption result (goes ≡ false) (λ after. (goes ≡ true) × (after.0 ≡ value_of (taken_out (kind_number kind) units vault))) }
 {
     if !served || had.effective - had.frozen < units {
         return None;
@@ -123,18 +125,31 @@ pub fn applications(
 {
     let mut evening = begun;
     for (&kind, &amount) in kinds[..count].iter().zip(&units[..count]) {
-        let had = vault::had_of(&*held, evening.guarantee, kind);
-        let value = evening.value;
-        match judged(served, outstanding, unpaid, kind, amount, had, value) {
+        let kind = Kind::of(kind).unwrap();
+        let had = vault::had_of(held, evening.guarantee, kind);
+        match judged(
+            served,
+            outstanding,
+            unpaid,
+            kind,
+            amount,
+            had,
+            evening.value,
+        ) {
             Some(after) => {
                 evening.done += 1;
                 evening.value = after;
                 let effective = had.effective - amount;
-                if kind < CASH_KIND {
-                    held::put_security(held, kind as usize, Security { effective, ..had });
-                } else {
-                    evening.guarantee.effective = Fen(effective);
-                    evening.own = Fen(evening.own.0 + amount);
+                match kind {
+                    Kind::Security(at) => held::put_security(
+                        held,
+                        at,
+                        Security { effective, ..had },
+                    ),
+                    Kind::Cash => {
+                        evening.guarantee.effective = Fen(effective);
+                        evening.own = Fen(evening.own.0 + amount);
+                    }
                 }
             }
             None => evening.dropped += 1,

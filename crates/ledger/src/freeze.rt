@@ -1,14 +1,14 @@
 // 7 Freeze: sets frozen units.
-ghost use Rattle.std.specs.Prelude.{◌≡◌, ℕ, ◌<◌, List, slice_set};
+ghost use Rattle.std.specs.Prelude.{◌≡◌, ℕ, List, IfOk, slice_set};
 ghost use Rattle.money.specs.Causes.{first_of, refusal_of};
-ghost use Rattle.money.specs.Collateral.{cash_kind};
 ghost use Rattle.rules.specs.Freeze.{freeze_causes, frozen, with_frozen, cash_frozen};
 ghost use Rattle.scalars.specs.Scalars.{done_by};
+ghost use Rattle.ledger.specs.Kind.{kind_number};
 ghost use Rattle.ledger.specs.Flat.{security_in, securities_of, postings_of, rows_of, book_of, applied_by, applied_at};
 
+use crate::kind::{Kind, SecurityNumber};
 use crate::layout::Held;
 use crate::{held, vault};
-use money::limits::CASH_KIND;
 use money::refusal::Refusal;
 use money::units::Fen;
 use rules::book::{Guarantee, Security};
@@ -17,27 +17,24 @@ use scalars::done::Done;
 use scalars::state::Scalars;
 
 #[tactic(auto, unfolding(rules::specs::Freeze::freeze_causes, money::specs::Causes::first_of))]
-fn freeze_refusal(scalars: Scalars, held: &Held, kind: u8, units: u64) -> Result<(), Refusal>
-    ensures { (kinds amounts : List ℕ) →
+fn freeze_refusal(scalars: Scalars, held: &Held, kind: u8, units: u64) -> Result<Kind, Refusal>
+    ensures cause { (kinds amounts : List ℕ) →
         refusal_of result ≡ first_of (freeze_causes (book_of scalars (rows_of held.now kinds amounts)) kind units) }
+    ensures read { IfOk result (λ read. kind_number read ≡ kind) }
 {
-    if kind > CASH_KIND {
-        return Err(Refusal::UnknownKind);
-    }
+    let kind = Kind::of(kind).ok_or(Refusal::UnknownKind)?;
     if vault::had_of(held, scalars.guarantee, kind).effective < units {
         return Err(Refusal::NotEnough);
     }
-    Ok(())
+    Ok(kind)
 }
 
-fn put_frozen(held: &mut Held, kind: u8, units: u64)
-    requires { kind < cash_kind }
+fn put_frozen(held: &mut Held, at: SecurityNumber, units: u64)
     ensures { (securities_of held.new
-        ≡ slice_set (securities_of held.old) kind (with_frozen units (security_in held.old kind)))
+        ≡ slice_set (securities_of held.old) at.number (with_frozen units (security_in held.old at.number)))
         × (postings_of held.new ≡ postings_of held.old) }
 {
-    let at = kind as usize;
-    let security = held::security_at(&*held, at);
+    let security = held::security_at(held, at);
     held::put_security(
         held,
         at,
@@ -64,13 +61,15 @@ pub fn freeze(scalars: Scalars, held: &mut Held, kind: u8, units: u64) -> Result
         let cause = first_of (freeze_causes book kind units) in
         applied_at (done_by scalars result) (rows_of held.new kinds amounts) ≡ applied_by cause book (frozen book kind units) }
 {
-    freeze_refusal(scalars, &*held, kind, units)?;
-    if kind == CASH_KIND {
-        return Ok(done::accepted(Scalars {
+    let kind = freeze_refusal(scalars, held, kind, units)?;
+    match kind {
+        Kind::Security(at) => {
+            put_frozen(held, at, units);
+            Ok(done::accepted(scalars))
+        }
+        Kind::Cash => Ok(done::accepted(Scalars {
             guarantee: cash_frozen(scalars.guarantee, Fen(units)),
             ..scalars
-        }));
+        })),
     }
-    put_frozen(held, kind, units);
-    Ok(done::accepted(scalars))
 }

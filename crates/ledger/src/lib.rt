@@ -23,6 +23,7 @@ mod figures;
 mod fit;
 mod flat;
 mod held;
+mod kind;
 mod line;
 mod nets;
 mod next_term;

@@ -1,16 +1,17 @@
 // 6 Pledge: units arrive, and count from the next close.
-ghost use Rattle.std.specs.Prelude.{◌≡◌, ℕ, ◌+◌, ◌<◌, ◌≤◌, true, List, slice_set};
+ghost use Rattle.std.specs.Prelude.{◌≡◌, ℕ, ◌+◌, ◌≤◌, true, List, IfOk, slice_set};
 ghost use Rattle.money.specs.Limits.{cash_limit, unit_limit};
 ghost use Rattle.money.specs.Causes.{first_of, refusal_of};
-ghost use Rattle.money.specs.Collateral.{cash_kind};
 ghost use Rattle.rules.specs.Fit.{cash_fit, securities_fit};
 ghost use Rattle.rules.specs.Pledge.{pledge_causes, pledged, arrived, cash_arrived};
 ghost use Rattle.scalars.specs.Scalars.{done_by};
+ghost use Rattle.ledger.specs.Kind.{kind_number};
 ghost use Rattle.ledger.specs.Flat.{security_in, securities_of, postings_of, vault_of, rows_of, book_of, applied_by, applied_at};
 
 use crate::held;
+use crate::kind::{Kind, SecurityNumber};
 use crate::layout::Held;
-use money::limits::{CASH_KIND, UNIT_LIMIT};
+use money::limits::UNIT_LIMIT;
 use money::refusal::Refusal;
 use money::units::Fen;
 use rules::book::{Cash, Guarantee, Security};
@@ -20,50 +21,50 @@ use scalars::state::Scalars;
 
 // The units of a security, effective and arriving together.
 #[tactic(auto, using(crate::proofs::HeldFit::row_fits))]
-fn units_of(held: &Held, guarantee: Guarantee, kind: u8) -> u64
-    requires { (kind < cash_kind) × (securities_fit (vault_of guarantee (securities_of held.now)) ≡ true) }
-    ensures { result ≡ (security_in held.now kind).effective + (security_in held.now kind).arriving }
+fn units_of(held: &Held, guarantee: Guarantee, at: SecurityNumber) -> u64
+    requires { securities_fit (vault_of guarantee (securities_of held.now)) ≡ true }
+    ensures { result ≡ (security_in held.now at.number).effective + (security_in held.now at.number).arriving }
 {
-    let security = held::security_at(held, kind as usize);
+    let security = held::security_at(held, at);
     security.effective + security.arriving
 }
 
 #[tactic(auto, unfolding(rules::specs::Pledge::pledge_causes, money::specs::Causes::first_of))]
-fn pledge_refusal(scalars: Scalars, held: &Held, kind: u8, units: u64) -> Result<(), Refusal>
+fn pledge_refusal(scalars: Scalars, held: &Held, kind: u8, units: u64) -> Result<Kind, Refusal>
     requires { securities_fit (vault_of scalars.guarantee (securities_of held.now)) ≡ true }
-    ensures { (kinds amounts : List ℕ) →
+    ensures cause { (kinds amounts : List ℕ) →
         refusal_of result ≡ first_of (pledge_causes (book_of scalars (rows_of held.now kinds amounts)) kind units) }
+    ensures read { IfOk result (λ read. kind_number read ≡ kind) }
 {
-    if kind > CASH_KIND {
-        return Err(Refusal::UnknownKind);
-    }
-    let standing = scalars.standing;
-    if !standing.is_trading() {
+    let kind = Kind::of(kind).ok_or(Refusal::UnknownKind)?;
+    if !scalars.standing.is_trading() {
         return Err(Refusal::WrongPhase);
     }
     if units == 0 {
         return Err(Refusal::BadCount);
     }
-    if kind == CASH_KIND {
-        if scalars.cash.own.0 < units {
-            return Err(Refusal::NotEnough);
+    match kind {
+        Kind::Security(at) => {
+            if UNIT_LIMIT - units_of(held, scalars.guarantee, at) < units {
+                return Err(Refusal::PastLimit);
+            }
         }
-        return Ok(());
+        Kind::Cash => {
+            if scalars.cash.own.0 < units {
+                return Err(Refusal::NotEnough);
+            }
+        }
     }
-    if UNIT_LIMIT - units_of(held, scalars.guarantee, kind) < units {
-        return Err(Refusal::PastLimit);
-    }
-    Ok(())
+    Ok(kind)
 }
 
-fn put_arrived(held: &mut Held, kind: u8, units: u64)
-    requires { (kind < cash_kind) × ((security_in held.old kind).arriving + units ≤ unit_limit) }
+fn put_arrived(held: &mut Held, at: SecurityNumber, units: u64)
+    requires { (security_in held.old at.number).arriving + units ≤ unit_limit }
     ensures { (securities_of held.new
-        ≡ slice_set (securities_of held.old) kind (arrived units (security_in held.old kind)))
+        ≡ slice_set (securities_of held.old) at.number (arrived units (security_in held.old at.number)))
         × (postings_of held.new ≡ postings_of held.old) }
 {
-    let at = kind as usize;
-    let security = held::security_at(&*held, at);
+    let security = held::security_at(held, at);
     held::put_security(
         held,
         at,
@@ -93,18 +94,19 @@ pub fn pledge(scalars: Scalars, held: &mut Held, kind: u8, units: u64) -> Result
         let cause = first_of (pledge_causes book kind units) in
         applied_at (done_by scalars result) (rows_of held.new kinds amounts) ≡ applied_by cause book (pledged book kind units) }
 {
-    pledge_refusal(scalars, &*held, kind, units)?;
-    if kind == CASH_KIND {
-        let own = scalars.cash.own.0 - units;
-        return Ok(done::accepted(Scalars {
+    let kind = pledge_refusal(scalars, held, kind, units)?;
+    match kind {
+        Kind::Security(at) => {
+            put_arrived(held, at, units);
+            Ok(done::accepted(scalars))
+        }
+        Kind::Cash => Ok(done::accepted(Scalars {
             cash: Cash {
-                own: Fen(own),
+                own: Fen(scalars.cash.own.0 - units),
                 ..scalars.cash
             },
             guarantee: cash_arrived(scalars.guarantee, Fen(units)),
             ..scalars
-        }));
+        })),
     }
-    put_arrived(held, kind, units);
-    Ok(done::accepted(scalars))
 }

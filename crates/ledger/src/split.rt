@@ -2,10 +2,12 @@
 ghost use Rattle.std.specs.Prelude.{◌≡◌};
 ghost use Rattle.ledger.specs.Flat.{securities_of, postings_of, scalars_of, rows_of, book_of};
 
-use crate::layout::HELD_LENGTH;
+use crate::kind::SecurityNumber;
+use crate::layout::{HELD_LENGTH, Held, Kinds, Units};
 use crate::{held, postings};
+use money::limits::CASH_KIND;
 use rules::book::{Book, Posting, Vault, Withdrawals};
-use rules::limits::{APPLICATION_LIMIT, PRODUCT_LIMIT};
+use rules::limits::PRODUCT_LIMIT;
 use scalars::state::Scalars;
 use std::array;
 
@@ -24,12 +26,13 @@ pub fn scalars_of(book: Book) -> Scalars
     }
 }
 
-pub fn held_of(vault: Vault, posted: [Posting; PRODUCT_LIMIT]) -> [u64; HELD_LENGTH]
+pub fn held_of(vault: Vault, posted: [Posting; PRODUCT_LIMIT]) -> Held
     ensures { (securities_of result ≡ vault.securities) × (postings_of result ≡ posted) }
 {
     let mut held = [0; HELD_LENGTH];
-    for (kind, security) in vault.securities.iter().enumerate() {
-        held::put_security(&mut held, kind, *security);
+    for kind in 0..CASH_KIND {
+        let security = vault.securities[usize::from(kind)];
+        held::put_security(&mut held, SecurityNumber::new(kind), security);
     }
     for (number, posting) in posted.iter().enumerate() {
         postings::put_posting(&mut held, number, *posting);
@@ -37,24 +40,19 @@ pub fn held_of(vault: Vault, posted: [Posting; PRODUCT_LIMIT]) -> [u64; HELD_LEN
     held
 }
 
-pub fn kinds_of(withdrawals: Withdrawals) -> [u8; APPLICATION_LIMIT]
+pub fn kinds_of(withdrawals: Withdrawals) -> Kinds
     ensures { result ≡ withdrawals.kinds }
 {
     withdrawals.kinds
 }
 
-pub fn units_of(withdrawals: Withdrawals) -> [u64; APPLICATION_LIMIT]
+pub fn units_of(withdrawals: Withdrawals) -> Units
     ensures { result ≡ withdrawals.units }
 {
     withdrawals.units
 }
 
-pub fn book_of(
-    scalars: Scalars,
-    held: &[u64; HELD_LENGTH],
-    kinds: [u8; APPLICATION_LIMIT],
-    units: [u64; APPLICATION_LIMIT],
-) -> Book
+pub fn book_of(scalars: Scalars, held: &Held, kinds: Kinds, units: Units) -> Book
     ensures { result ≡ book_of scalars (rows_of held.now kinds units) }
 {
     Book {
@@ -63,7 +61,7 @@ pub fn book_of(
         cash: scalars.cash,
         vault: Vault {
             guarantee: scalars.guarantee,
-            securities: array::from_fn(|kind| held::security_at(held, kind)),
+            securities: array::from_fn(|at| held::security_at(held, SecurityNumber::new(at as u8))),
         },
         size: scalars.size,
         standing: scalars.standing,

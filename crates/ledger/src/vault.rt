@@ -6,11 +6,13 @@ ghost use Rattle.rules.specs.Vault.{security_at, effective_of, frozen_of, value}
 ghost use Rattle.rules.specs.Fit.{security_fit, securities_fit, cash_fit, application_fit, withdrawals_fit};
 ghost use Rattle.rules.specs.Withdraw.{applied};
 ghost use Rattle.ledger.specs.Types.{Guarantee};
+ghost use Rattle.ledger.specs.Kind.{kind_number};
 ghost use Rattle.ledger.specs.Flat.{security_in, vault_of, securities_of};
 
 use crate::held;
+use crate::kind::{Kind, SecurityNumber};
 use crate::layout::{Held, Kinds, Units};
-use money::limits::{CASH_KIND, CASH_LIMIT, RATE_LIMIT, SECURITIES, UNIT_LIMIT};
+use money::limits::{CASH_KIND, CASH_LIMIT, RATE_LIMIT, UNIT_LIMIT};
 use money::units::Sheets;
 use rules::book::{Cash, Guarantee, Security};
 use rules::limits::APPLICATION_LIMIT;
@@ -27,7 +29,7 @@ fn security_fit(security: Security) -> bool
 pub fn securities_fit(held: &Held) -> bool
     ensures { (guarantee : Guarantee) → result ≡ securities_fit (vault_of guarantee (securities_of held.now)) }
 {
-    (0..SECURITIES).all(|kind| security_fit(held::security_at(held, kind)))
+    (0..CASH_KIND).all(|kind| security_fit(held::security_at(held, SecurityNumber::new(kind))))
 }
 
 pub fn cash_fit(cash: Cash, guarantee: Guarantee) -> bool
@@ -52,43 +54,41 @@ pub fn withdrawals_fit(kinds: &Kinds, units: &Units, count: usize) -> bool
 }
 
 // What is had of a kind: a security as its row has it, or guarantee cash as one. The rate of cash is not looked at.
-pub fn had_of(held: &Held, guarantee: Guarantee, kind: u8) -> Security
-    requires { kind ≤ cash_kind }
+pub fn had_of(held: &Held, guarantee: Guarantee, kind: Kind) -> Security
     ensures units { let vault = vault_of guarantee (securities_of held.now) in
-        (result.effective ≡ effective_of vault kind) × (result.frozen ≡ frozen_of vault kind) }
-    ensures rate { result.rate ≡ (security_at (vault_of guarantee (securities_of held.now)) kind).rate }
-    ensures security { kind < cash_kind → result ≡ security_in held.now kind }
+        (result.effective ≡ effective_of vault (kind_number kind)) × (result.frozen ≡ frozen_of vault (kind_number kind)) }
+    ensures rate { result.rate ≡ (security_at (vault_of guarantee (securities_of held.now)) (kind_number kind)).rate }
+    ensures security { kind_number kind < cash_kind → result ≡ security_in held.now (kind_number kind) }
 {
-    if kind < CASH_KIND {
-        return held::security_at(held, kind as usize);
-    }
-    Security {
-        effective: guarantee.effective.0,
-        arriving: guarantee.arriving.0,
-        frozen: guarantee.frozen.0,
-        rate: 0,
+    match kind {
+        Kind::Security(at) => held::security_at(held, at),
+        Kind::Cash => Security {
+            effective: guarantee.effective.0,
+            arriving: guarantee.arriving.0,
+            frozen: guarantee.frozen.0,
+            rate: 0,
+        },
     }
 }
 
 // A kind's value within the limits, where nothing refuses it.
-pub fn worth(kind: u8, had: Security) -> Sheets
-    requires { (kind ≤ cash_kind)
-        × (had.frozen ≤ had.effective)
-        × (had.effective ≤ unit_limit_of kind)
-        × (rate_of kind had.rate ≤ rate_limit) }
-    ensures { result ≡ kind_value kind had.effective had.frozen had.rate }
+pub fn worth(kind: Kind, had: Security) -> Sheets
+    requires { (had.frozen ≤ had.effective)
+        × (had.effective ≤ unit_limit_of (kind_number kind))
+        × (rate_of (kind_number kind) had.rate ≤ rate_limit) }
+    ensures { result ≡ kind_value (kind_number kind) had.effective had.frozen had.rate }
 {
-    money::collateral::kind_worth(kind, had.effective, had.frozen, had.rate).unwrap()
+    money::collateral::kind_worth(kind.number(), had.effective, had.frozen, had.rate).unwrap()
 }
 
 // A kind's part of V.
-fn value_at(held: &Held, guarantee: Guarantee, kind: u8) -> Sheets
-    requires { (kind ≤ cash_kind)
-        × (securities_fit (vault_of guarantee (securities_of held.now)) ≡ true)
+fn value_at(held: &Held, guarantee: Guarantee, kind: Kind) -> Sheets
+    requires { (securities_fit (vault_of guarantee (securities_of held.now)) ≡ true)
         × (guarantee.frozen.0 ≤ guarantee.effective.0)
         × (guarantee.effective.0 ≤ cash_limit) }
     ensures { let vault = vault_of guarantee (securities_of held.now) in
-        result ≡ kind_value kind (effective_of vault kind) (frozen_of vault kind) (security_at vault kind).rate }
+        let number = kind_number kind in
+        result ≡ kind_value number (effective_of vault number) (frozen_of vault number) (security_at vault number).rate }
 {
     worth(kind, had_of(held, guarantee, kind))
 }
@@ -102,9 +102,9 @@ pub fn value_of(held: &Held, guarantee: Guarantee) -> Sheets
 {
     // Cash stands apart: one chain over all 33 kinds asks in each turn whether the kind is cash, 15 instructions more.
     let of_securities: u64 = (0..CASH_KIND)
-        .map(|kind| value_at(held, guarantee, kind).0)
+        .map(|kind| value_at(held, guarantee, Kind::Security(SecurityNumber::new(kind))).0)
         .sum();
-    let of_cash = value_at(held, guarantee, CASH_KIND);
+    let of_cash = value_at(held, guarantee, Kind::Cash);
     Sheets(of_securities + of_cash.0)
 }
 

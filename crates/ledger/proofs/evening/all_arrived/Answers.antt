@@ -20,14 +20,14 @@ loop-kind-init c = (sym (map-none security_arrived _), refl)
 pub security_arrived-requires : goal.security_arrived-requires
 security_arrived-requires c =
     let loop = c.loop-kind in
-    rw (as-before loop.held _ loop.kind _ c.loop-kind-test.true loop.invariant.0 c.security_at-security.ensures) (securities-fit _ c.requires loop.kind c.loop-kind-test.true).units
+    rw (as-before loop.held _ loop.kind _ c.loop-kind-test.true loop.invariant.0 (rw c.new-at.ensures at c.security_at-security.ensures)) (securities-fit _ c.requires loop.kind c.loop-kind-test.true).units
 
 pub loop-kind-preserved : goal.loop-kind-preserved
 loop-kind-preserved c =
     let loop = c.loop-kind in
     let before = securities_of c.args.held.now in
-    let at-hand = as-before loop.held _ loop.kind _ c.loop-kind-test.true loop.invariant.0 c.security_at-security.ensures in (
-      c.put_security.ensures.0 ∙ rw (c.security_arrived.ensures, at-hand, loop.invariant.0) (map_more security_arrived loop.kind before no_security (omega (arith, length-securities c.args.held.now 32))),
+    let at-hand = as-before loop.held _ loop.kind _ c.loop-kind-test.true loop.invariant.0 (rw c.new-at.ensures at c.security_at-security.ensures) in (
+      c.put_security.ensures.0 ∙ rw (c.new-at.ensures, c.security_arrived.ensures, at-hand, loop.invariant.0) (map_more security_arrived loop.kind before no_security (omega (arith, length-securities c.args.held.now 32))),
       c.put_security.ensures.1 ∙ loop.invariant.1,
     )
 

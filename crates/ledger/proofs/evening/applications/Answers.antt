@@ -11,12 +11,14 @@ use Rattle.rules.specs.Vault.{security_at, is_cash, value as value_of}
 use Rattle.rules.specs.Close.{Evening, taken_out, claims_of, may_go, settled, applications}
 use Rattle.rules.proofs.FitParts.{ApplicationFits, securities-fit, withdrawals-fit}
 use Rattle.ledger.specs.Types.{Vault, Withdrawals}
+use Rattle.ledger.specs.Kind.{kind_number}
+use Rattle.ledger.proofs.KindLaws.{number_known, found-known}
 use Rattle.ledger.specs.Flat.{securities_of, vault_of, evening_at}
 use Rattle.ledger.proofs.SumLaws.{turn-none, turn_more}
 use Rattle.ledger.proofs.HeldLaws.{length-securities, security-at-row}
 use Rattle.ledger.proofs.EveningLaws.{asked, made, Kept, Come, come, held_fits, security-taken, cash-taken, sound-of, turn, turns-keep, turns-count, unfrozen}
 use Rattle.ledger.proofs.evening.applications.Goals as goal
-use Rattle.ledger.proofs.evening.applications.Goals.{In-Some, In-Some-judged}
+use Rattle.ledger.proofs.evening.applications.Goals.{In-Some, After-unwrap-kind, In-Some-judged}
 
 -- the evening before a turn
 module _ (served : Bool) (claims : ℕ) (w : Withdrawals) (first e : Evening) (i : ℕ) (reached : e ≡ in_turn i (turn served claims w) first) where
@@ -90,70 +92,86 @@ module _ (c : In-Some) where
         (withdrawals-fit _ c.requires.kinds_len).count,
       )
 
-pub had_of-had-requires : goal.had_of-had-requires
-had_of-had-requires c = (fits (goal.at.had_of-had-requires c).In-Some).known
+pub unwrap-kind-requires : goal.unwrap-kind-requires
+unwrap-kind-requires c = found-known c.of.result c.in-Some.field-0-0.now (fits (goal.at.unwrap-kind-requires c).In-Some).known c.of.ensures
+
+-- its kind by name
+module _ (c : After-unwrap-kind) where
+  abbrev number : ℕ
+  number = kind_number c.unwrap-kind.result
+
+  named : number ≡ c.in-Some.field-0-0.now
+  named = rw c.unwrap-kind.ensures at c.of.ensures
+
+  named-at-hand : Come c.args.kinds.now c.args.units.now c.args.count (length c.loop-kind.yielded) c.in-Some.field-0-0.now c.in-Some.field-0-1.now
+      → Come c.args.kinds.now c.args.units.now c.args.count (length c.loop-kind.yielded) number c.in-Some.field-0-1.now
+  named-at-hand at = record { below = at.below; kind-is = named ∙ at.kind-is; amount-is = at.amount-is }
 
 pub judged-requires : goal.judged-requires
 judged-requires c =
     let h = (goal.at.judged-requires c).In-Some in
     let had = c.had_of-had.ensures in
-    held_fits (before h).vault _ c.had_of-had.result _ (sound-of (before h) (kept h)) (fits h).known
+    held_fits (before h).vault _ c.had_of-had.result _ (sound-of (before h) (kept h)) (number_known c.unwrap-kind.result)
     (record { effective = had.units.0; frozen = had.units.1; rate = had.rate }) c.loop-kind.invariant.1
 
 -- what was judged of it, where it goes
 module _ (c : In-Some-judged) where
-  goes : may_go c.args.served (claims_of c.args.outstanding.0 c.args.unpaid.0) c.in-Some.field-0-0.now c.in-Some.field-0-1.now (vault_of c.loop-kind.evening.guarantee (securities_of c.loop-kind.held)) ≡ true
-  goes =
-      let had = c.had_of-had.ensures in
-      (c.in-Some-judged.ensures _ (length-securities c.loop-kind.held 32) had.units.0 had.units.1 had.rate c.loop-kind.invariant.1).0
+  abbrev vault : Vault
+  vault = vault_of c.loop-kind.evening.guarantee (securities_of c.loop-kind.held)
 
-  valued : c.in-Some-judged.after.0 ≡ value_of (taken_out c.in-Some.field-0-0.now c.in-Some.field-0-1.now (vault_of c.loop-kind.evening.guarantee (securities_of c.loop-kind.held)))
-  valued =
+  judged-of : (may_go c.args.served (claims_of c.args.outstanding.0 c.args.unpaid.0) (kind_number c.unwrap-kind.result) c.in-Some.field-0-1.now vault ≡ true)
+      × (c.in-Some-judged.after.0 ≡ value_of (taken_out (kind_number c.unwrap-kind.result) c.in-Some.field-0-1.now vault))
+  judged-of =
       let had = c.had_of-had.ensures in
-      (c.in-Some-judged.ensures _ (length-securities c.loop-kind.held 32) had.units.0 had.units.1 had.rate c.loop-kind.invariant.1).1
+      c.in-Some-judged.ensures _ (length-securities c.loop-kind.held 32) had.units.0 had.units.1 had.rate c.loop-kind.invariant.1
 
 pub overflow_add-evening : goal.overflow_add-evening
 overflow_add-evening c = omega (arith, counted (goal.at.overflow_add-evening c).In-Some)
 
 pub overflow_sub-effective : goal.overflow_sub-effective
-overflow_sub-effective c = omega (arith, c.had_of-had.ensures.units.0, unfrozen _ _ _ _ _ (goes (goal.at.overflow_sub-effective c).In-Some-judged))
+overflow_sub-effective c =
+    omega (arith, c.had_of-had.ensures.units.0, unfrozen _ _ _ _ _ (judged-of (goal.at.overflow_sub-effective c).In-Some-judged).0)
 
-pub loop-kind-preserved-then-kind-lt-CASH_KIND : goal.loop-kind-preserved-then-kind-lt-CASH_KIND
-loop-kind-preserved-then-kind-lt-CASH_KIND c =
-    let h = (goal.at.loop-kind-preserved-then-kind-lt-CASH_KIND c).In-Some in
-    let went-so = (goal.at.loop-kind-preserved-then-kind-lt-CASH_KIND c).In-Some-judged in
-    let kind = c.in-Some.field-0-0.now in
+pub loop-kind-preserved-in-Security : goal.loop-kind-preserved-in-Security
+loop-kind-preserved-in-Security c =
+    let h = (goal.at.loop-kind-preserved-in-Security c).In-Some in
+    let of = (goal.at.loop-kind-preserved-in-Security c).After-unwrap-kind in
+    let went-so = judged-of (goal.at.loop-kind-preserved-in-Security c).In-Some-judged in
+    let kind = number of in
+    let is : kind ≡ c.in-Security.at.number = ap kind_number c.in-Security.is in
+    let amount = c.in-Some.field-0-1.now in
     let evening = c.loop-kind.evening in
-    let security : kind < 32 = c.if-kind-lt-CASH_KIND.true in
+    let security : kind < 32 = omega (arith, is, c.in-Security.at.known) in
     let row : c.had_of-had.result ≡ security_at (before h).vault kind =
     c.had_of-had.ensures.security security ∙ sym (security-at-row c.loop-kind.held evening.guarantee kind security) in
-    let next : vault_of evening.guarantee (securities_of c.put_security.new.held) ≡ taken_out kind c.in-Some.field-0-1.now (before h).vault =
-    ap (vault_of evening.guarantee) c.put_security.ensures.0 ∙ security-taken (before h).vault kind c.had_of-had.result c.in-Some.field-0-1.now security row in
-    let own : evening.own.0 ≡ cond (is_cash kind) (evening.own.0 + c.in-Some.field-0-1.now) evening.own.0 = rw (ne_eqb kind 32 (λ e. omega arith)) in (
-      one-more c.args.served (claims h) _ _ _ _ _ _ (before h) _ c.loop-kind.yielded _ (at-hand h) c.loop-kind.invariant.0
-          (went c.args.served (claims h) _ _ (before h) (goes went-so) own next),
-      valued went-so ∙ sym (ap value_of next),
+    let next : vault_of evening.guarantee (securities_of c.put_security.new.held) ≡ taken_out kind amount (before h).vault =
+    ap (vault_of evening.guarantee) (rw (← is) at c.put_security.ensures.0) ∙ security-taken (before h).vault kind c.had_of-had.result amount security row in
+    let own : evening.own.0 ≡ cond (is_cash kind) (evening.own.0 + amount) evening.own.0 = rw (ne_eqb kind 32 (λ e. omega arith)) in (
+      one-more c.args.served (claims h) _ _ _ _ _ _ (before h) _ c.loop-kind.yielded _ (named-at-hand of (at-hand h)) c.loop-kind.invariant.0
+          (went c.args.served (claims h) _ _ (before h) went-so.0 own next),
+      went-so.1 ∙ sym (ap value_of next),
       c.put_security.ensures.1 ∙ c.loop-kind.invariant.2,
     )
 
-pub overflow_add-evening-else-kind-lt-CASH_KIND : goal.overflow_add-evening-else-kind-lt-CASH_KIND
-overflow_add-evening-else-kind-lt-CASH_KIND c =
-    let h = (goal.at.overflow_add-evening-else-kind-lt-CASH_KIND c).In-Some in
+pub overflow_add-evening-in-Cash : goal.overflow_add-evening-in-Cash
+overflow_add-evening-in-Cash c =
+    let h = (goal.at.overflow_add-evening-in-Cash c).In-Some in
     omega (arith, (kept h).cash, (fits h).within)
 
-pub loop-kind-preserved-else-kind-lt-CASH_KIND : goal.loop-kind-preserved-else-kind-lt-CASH_KIND
-loop-kind-preserved-else-kind-lt-CASH_KIND c =
-    let h = (goal.at.loop-kind-preserved-else-kind-lt-CASH_KIND c).In-Some in
-    let went-so = (goal.at.loop-kind-preserved-else-kind-lt-CASH_KIND c).In-Some-judged in
-    let kind = c.in-Some.field-0-0.now in
-    let evening = c.loop-kind.evening in
-    let cash : kind ≡ 32 = omega (arith, c.if-kind-lt-CASH_KIND.false, (fits h).known) in
+pub loop-kind-preserved-in-Cash : goal.loop-kind-preserved-in-Cash
+loop-kind-preserved-in-Cash c =
+    let h = (goal.at.loop-kind-preserved-in-Cash c).In-Some in
+    let of = (goal.at.loop-kind-preserved-in-Cash c).After-unwrap-kind in
+    let went-so = judged-of (goal.at.loop-kind-preserved-in-Cash c).In-Some-judged in
+    let kind = number of in
+    let cash : kind ≡ 32 = ap kind_number c.in-Cash.is in
     let amount = c.in-Some.field-0-1.now in
+    let evening = c.loop-kind.evening in
     let next = cash-taken (before h).vault kind amount c.had_of-had.result.effective cash (rw (eq-eqb kind 32 cash) at c.had_of-had.ensures.units.0) in
     let own : evening.own.0 + amount ≡ cond (is_cash kind) (evening.own.0 + amount) evening.own.0 = rw (eq-eqb kind 32 cash) in (
-      one-more c.args.served (claims h) _ _ _ _ _ _ (before h) _ c.loop-kind.yielded _ (at-hand h) c.loop-kind.invariant.0
-          (went c.args.served (claims h) _ _ (before h) (goes went-so) own next),
-      valued went-so ∙ sym (ap value_of next),
+      one-more c.args.served (claims h) _ _ _ _ _ _ (before h) _ c.loop-kind.yielded _ (named-at-hand of (at-hand h)) c.loop-kind.invariant.0
+          (went c.args.served (claims h) _ _ (before h) went-so.0 own next),
+      went-so.1 ∙ sym (ap value_of next),
       c.loop-kind.invariant.2,
     )
 
@@ -163,9 +181,10 @@ overflow_add-evening-in-None-judged c = omega (arith, counted (goal.at.overflow_
 pub loop-kind-preserved : goal.loop-kind-preserved
 loop-kind-preserved c =
     let h = (goal.at.loop-kind-preserved c).In-Some in
+    let of = (goal.at.loop-kind-preserved c).After-unwrap-kind in
     let had = c.had_of-had.ensures in
     let stays = c.in-None-judged.ensures _ (length-securities c.loop-kind.held 32) had.units.0 had.units.1 had.rate c.loop-kind.invariant.1 in (
-      one-more c.args.served (claims h) _ _ _ _ _ _ (before h) _ c.loop-kind.yielded _ (at-hand h) c.loop-kind.invariant.0
+      one-more c.args.served (claims h) _ _ _ _ _ _ (before h) _ c.loop-kind.yielded _ (named-at-hand of (at-hand h)) c.loop-kind.invariant.0
           (stayed c.args.served (claims h) _ _ (before h) stays),
       c.loop-kind.invariant.1,
       c.loop-kind.invariant.2,

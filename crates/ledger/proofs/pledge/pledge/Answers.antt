@@ -14,56 +14,66 @@ use Rattle.ledger.specs.Flat.{rows_of, book_of}
 use Rattle.ledger.proofs.HeldLaws.{security-at-row}
 use Rattle.ledger.proofs.Refusing.{turned_down, carried_out}
 use Rattle.ledger.proofs.pledge.pledge.Goals as goal
+use Rattle.ledger.proofs.pledge.pledge.Goals.{In-Security, In-Cash}
 
--- what no cause leaves: own cash for cash, and of a security a known kind and room
+-- what no cause leaves: own cash for cash, and room for a security
 module _ (book : Book) (kind units : ℕ) (e : none ≡ first_of (pledge_causes book kind units)) where
-  owned : kind ≡ 32 → units ≤ book.cash.own.0
+  owned : 32 ≡ kind → units ≤ book.cash.own.0
   unfolding pledge_causes
-  owned cash = ltb-false book.cash.own.0 units (rw (eq-eqb kind 32 cash) at (all-clear (pledge_causes book kind units) (sym e) 13))
+  owned cash = ltb-false book.cash.own.0 units (rw (eq-eqb kind 32 (sym cash)) at (all-clear (pledge_causes book kind units) (sym e) 13))
 
-  security-kind : (kind ≡ 32 → ⊥) → kind < 32
+  room : kind < 32 → (security_at book.vault kind).effective + (security_at book.vault kind).arriving + units ≤ unit_limit
   unfolding pledge_causes
-  security-kind other = omega (arith, ltb-false 32 kind (all-clear (pledge_causes book kind units) (sym e) 3))
-
-  room : (kind ≡ 32 → ⊥) → (security_at book.vault kind).effective + (security_at book.vault kind).arriving + units ≤ unit_limit
-  unfolding pledge_causes
-  room other =
+  room known =
       let security = security_at book.vault kind in
-      ltb-false unit_limit (security.effective + security.arriving + units) (rw (ne_eqb kind 32 other) at (all-clear (pledge_causes book kind units) (sym e) 14))
+      ltb-false unit_limit (security.effective + security.arriving + units) (rw (ne_eqb kind 32 (λ e. omega arith)) at (all-clear (pledge_causes book kind units) (sym e) 14))
 
-pub returns-in_err-pledge_refusal : goal.returns-in_err-pledge_refusal
-returns-in_err-pledge_refusal c kinds amounts =
-    turned_down _ _ (rows_of _ kinds amounts) _ _ _ _ c.from_residual.ensures.1 (c.in_err-pledge_refusal.ensures kinds amounts) refl
+-- the kind that was read is the number's
+security-read : (c : In-Security) → c.in-Security.at.number ≡ c.args.kind
+security-read c = rw c.in-Security.is at c.in_ok-kind.ensures.read
 
-pub cash_arrived-requires : goal.cash_arrived-requires
-cash_arrived-requires c =
+cash-read : (c : In-Cash) → 32 ≡ c.args.kind
+cash-read c = rw c.in-Cash.is at c.in_ok-kind.ensures.read
+
+own-enough : (c : In-Cash) → c.args.units ≤ c.args.scalars.cash.own.0
+own-enough c =
     let a = c.args in
-    omega (arith, owned (book_of a.scalars (rows_of a.held.now [] [])) a.kind a.units (c.in_ok-pledge_refusal.ensures [] []) c.if-kind-eq-CASH_KIND.true, (cash-fits _ _ c.requires.1).sum)
+    owned (book_of a.scalars (rows_of a.held.now [] [])) a.kind a.units (c.in_ok-kind.ensures.cause [] []) (cash-read c)
 
-pub returns-then-kind-eq-CASH_KIND : goal.returns-then-kind-eq-CASH_KIND
-unfolding pledged
-returns-then-kind-eq-CASH_KIND c kinds amounts =
-    carried_out _ _ (rows_of _ kinds amounts) _ _ (c.in_ok-pledge_refusal.ensures kinds amounts) c.accepted.ensures (rw (c.cash_arrived.ensures, eq-eqb _ _ c.if-kind-eq-CASH_KIND.true))
+pub returns-in_err-kind : goal.returns-in_err-kind
+returns-in_err-kind c kinds amounts =
+    turned_down _ _ (rows_of _ kinds amounts) _ _ _ _ c.from_residual.ensures.1 (c.in_err-kind.ensures.cause kinds amounts) refl
 
 pub put_arrived-requires : goal.put_arrived-requires
 put_arrived-requires c =
     let a = c.args in
-    let book = book_of a.scalars (rows_of a.held.now [] []) in
-    let known = security-kind book a.kind a.units (c.in_ok-pledge_refusal.ensures [] []) c.if-kind-eq-CASH_KIND.false in
+    let at = c.in-Security.at in
+    let read = security-read (goal.at.put_arrived-requires c).In-Security in
+    let known : a.kind < 32 = omega (arith, read, at.known) in
     let row = security-at-row a.held.now a.scalars.guarantee a.kind known in
-    let fits = rw row at (room book a.kind a.units (c.in_ok-pledge_refusal.ensures [] []) c.if-kind-eq-CASH_KIND.false) in
-    (known, omega (arith, fits))
+    let fits = rw row at (room (book_of a.scalars (rows_of a.held.now [] [])) a.kind a.units (c.in_ok-kind.ensures.cause [] []) known) in
+    rw read (omega (arith, fits))
 
-pub returns : goal.returns
+pub returns-in-Security : goal.returns-in-Security
 unfolding pledged
-returns c kinds amounts =
+returns-in-Security c kinds amounts =
     let a = c.args in
-    let known = security-kind (book_of a.scalars (rows_of a.held.now kinds amounts)) a.kind a.units (c.in_ok-pledge_refusal.ensures kinds amounts) c.if-kind-eq-CASH_KIND.false in
+    let at = c.in-Security.at in
+    let read = security-read (goal.at.returns-in-Security c).In-Security in
+    let known : a.kind < 32 = omega (arith, read, at.known) in
     let row = security-at-row a.held.now a.scalars.guarantee a.kind known in
-    carried_out _ _ (rows_of a.held.now kinds amounts) _ _ (c.in_ok-pledge_refusal.ensures kinds amounts) c.accepted-2.ensures
-    (rw (c.put_arrived.ensures.0, c.put_arrived.ensures.1, ne_eqb _ _ c.if-kind-eq-CASH_KIND.false, row))
+    carried_out _ _ (rows_of a.held.now kinds amounts) _ _ (c.in_ok-kind.ensures.cause kinds amounts) c.accepted.ensures
+    (rw (c.put_arrived.ensures.0, c.put_arrived.ensures.1, read, ne_eqb a.kind 32 (λ e. omega arith), row))
 
-pub overflow_sub-own : goal.overflow_sub-own
-overflow_sub-own c =
-    let a = c.args in
-    owned (book_of a.scalars (rows_of a.held.now [] [])) a.kind a.units (c.in_ok-pledge_refusal.ensures [] []) c.if-kind-eq-CASH_KIND.true
+pub overflow_sub-scalars : goal.overflow_sub-scalars
+overflow_sub-scalars c = own-enough (goal.at.overflow_sub-scalars c).In-Cash
+
+pub cash_arrived-requires : goal.cash_arrived-requires
+cash_arrived-requires c =
+    omega (arith, own-enough (goal.at.cash_arrived-requires c).In-Cash, (cash-fits _ _ c.requires.1).sum)
+
+pub returns-in-Cash : goal.returns-in-Cash
+unfolding pledged
+returns-in-Cash c kinds amounts =
+    let read = cash-read (goal.at.returns-in-Cash c).In-Cash in
+    carried_out _ _ (rows_of _ kinds amounts) _ _ (c.in_ok-kind.ensures.cause kinds amounts) c.accepted-in-Cash.ensures (rw (c.cash_arrived.ensures, eq-eqb c.args.kind 32 (sym read)))

@@ -9,4 +9,4 @@ returns c =
 
 pub overflow_add-security : goal.overflow_add-security
 overflow_add-security c =
-    rw c.security_at-security.ensures (omega (arith, c.requires.1))
+    rw c.security_at-security.ensures (omega (arith, c.requires))

@@ -8,4 +8,4 @@ returns c =
 
 pub overflow_add-result : goal.overflow_add-result
 overflow_add-result c =
-    rw c.security_at-security.ensures (omega (arith, (row_fits c.args.held.now c.args.guarantee c.requires.1 c.args.kind c.requires.0).units))
+    rw c.security_at-security.ensures (omega (arith, (row_fits c.args.held.now c.args.guarantee c.requires c.args.at.number c.args.at.known).units))

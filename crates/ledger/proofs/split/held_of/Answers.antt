@@ -7,7 +7,7 @@ use Rattle.ledger.proofs.split.held_of.Goals as goal
 
 pub loop-kind-preserved : goal.loop-kind-preserved
 loop-kind-preserved c =
-    rw c.put_security.ensures.0 (one-filled no_security _ _ _ _ (omega (arith, length-securities c.loop-kind.held 32)) c.loop-kind.invariant refl)
+    rw (c.put_security.ensures.0, c.new.ensures) (one-filled no_security _ _ _ _ (omega (arith, length-securities c.loop-kind.held 32)) c.loop-kind.invariant (rw c.from.ensures))
 
 pub loop-number-init : goal.loop-number-init
 loop-number-init c =

@@ -7,20 +7,20 @@ use Rattle.ledger.specs.Flat.{securities_of}
 use Rattle.ledger.proofs.HeldLaws.{length-securities, security-at-row}
 use Rattle.ledger.proofs.vault.had_of.Goals as goal
 
-pub returns-then-kind-lt-CASH_KIND-clause-units : goal.returns-then-kind-lt-CASH_KIND-clause-units
-returns-then-kind-lt-CASH_KIND-clause-units c =
-    let a = c.args in
-    let row = security-at-row a.held.now a.guarantee a.kind c.if-kind-lt-CASH_KIND.true in
-    let security = ne_eqb a.kind 32 (λ e. omega arith) in
-    (rw (security, row, c.security_at.ensures), rw (security, row, c.security_at.ensures))
+pub returns-in-Security-clause-units : goal.returns-in-Security-clause-units
+returns-in-Security-clause-units c =
+    let at = c.in-Security.at in
+    let row = security-at-row c.args.held.now c.args.guarantee at.number at.known in
+    let security = ne_eqb at.number 32 (λ e. omega (arith, at.known)) in
+    rw c.in-Security.is (rw (security, row, c.security_at.ensures), rw (security, row, c.security_at.ensures))
 
-pub returns-then-kind-lt-CASH_KIND-clause-rate : goal.returns-then-kind-lt-CASH_KIND-clause-rate
-returns-then-kind-lt-CASH_KIND-clause-rate c =
-    let a = c.args in
-    rw (security-at-row a.held.now a.guarantee a.kind c.if-kind-lt-CASH_KIND.true, c.security_at.ensures)
+pub returns-in-Security-clause-rate : goal.returns-in-Security-clause-rate
+returns-in-Security-clause-rate c =
+    let at = c.in-Security.at in
+    rw (c.in-Security.is, security-at-row c.args.held.now c.args.guarantee at.number at.known, c.security_at.ensures)
 
 -- there is no security of this kind
-pub returns-clause-rate : goal.returns-clause-rate
-returns-clause-rate c =
-    let a = c.args in
-    sym (ap (λ (s : Security). s.rate) (get_or-eq_default (securities_of a.held.now) no_security {n = a.kind} (omega (arith, length-securities a.held.now 32, c.if-kind-lt-CASH_KIND.false))))
+pub returns-in-Cash-clause-rate : goal.returns-in-Cash-clause-rate
+returns-in-Cash-clause-rate c =
+    let securities = securities_of c.args.held.now in
+    rw c.in-Cash.is (sym (ap (λ (s : Security). s.rate) (get_or-eq_default securities no_security {n = 32} (omega (arith, length-securities c.args.held.now 32)))))

@@ -1,14 +1,13 @@
-use mathlib.Core.Path.{sym}
 use Rattle.std.specs.Prelude.{ℕ, ◌+◌, ◌≤◌, cond}
 use native.Mathlib.Omega.{arith}
-use borrow.Author.Tests.{lt-ltb}
 use Rattle.money.specs.Limits.{unit_limit, cash_limit}
 use Rattle.money.specs.Collateral.{unit_limit_of}
-use Rattle.rules.specs.Vault.{is_cash, effective_of, frozen_of}
-use Rattle.rules.specs.Withdraw.{applied}
+use Rattle.rules.specs.Vault.{is_cash}
 use Rattle.rules.proofs.FoldLaws.{by-test}
 use Rattle.rules.proofs.FitParts.{cash-fits}
+use Rattle.ledger.specs.Kind.{kind_number}
 use Rattle.ledger.specs.Flat.{securities_of, vault_of, rows_of, book_of}
+use Rattle.ledger.proofs.KindLaws.{number_known}
 use Rattle.ledger.proofs.VaultLaws.{kind_fits, applied-bound}
 use Rattle.ledger.proofs.withdraw.lacks.Goals as goal
 use Rattle.ledger.proofs.withdraw.lacks.Goals.{Else-had-count}
@@ -20,19 +19,10 @@ limit-within kind = by-test (λ cash. cond cash cash_limit unit_limit ≤ cash_l
 few : (c : Else-had-count) → c.args.count + c.had_of-had.result.frozen ≤ 20000000000000000
 few c =
     let a = c.args in
-    let cash = cash-fits _ _ c.requires.0.cash in
-    let kind = kind_fits (vault_of a.scalars.guarantee (securities_of a.held.now)) (c.requires.0.securities, cash.free, omega (arith, cash.sum)) a.kind c.requires.1 in
-    omega (arith, kind.free, kind.within, limit-within a.kind, c.had_of-had.ensures.units, c.if-had-count.false)
-
-pub returns-then-had-count : goal.returns-then-had-count
-returns-then-had-count c =
-    let a = c.args in
-    let book = book_of a.scalars (rows_of a.held.now a.kinds.now a.units.now) in
-    sym (lt-ltb (effective_of book.vault a.kind) (a.count + frozen_of book.vault a.kind + applied book.withdrawals a.kind) (omega (arith, c.had_of-had.ensures.units, c.if-had-count.true)))
-
-pub returns : goal.returns
-returns c =
-    rw (c.applied_of.ensures, c.had_of-had.ensures.units.1, c.had_of-had.ensures.units.0)
+    let number = kind_number a.kind in
+    let cash = cash-fits _ _ c.requires.cash in
+    let fits = kind_fits (vault_of a.scalars.guarantee (securities_of a.held.now)) (c.requires.securities, cash.free, omega (arith, cash.sum)) number (number_known a.kind) in
+    omega (arith, fits.free, fits.within, limit-within number, c.had_of-had.ensures.units, c.if-had-count.false)
 
 pub overflow_add-result : goal.overflow_add-result
 overflow_add-result c =
@@ -45,5 +35,5 @@ overflow_add-result-2 c =
       arith,
       few (goal.at.overflow_add-result-2 c).Else-had-count,
       c.applied_of.ensures,
-      applied-bound (book_of a.scalars (rows_of a.held.now a.kinds.now a.units.now)).withdrawals c.requires.0.withdrawals a.kind,
+      applied-bound (book_of a.scalars (rows_of a.held.now a.kinds.now a.units.now)).withdrawals c.requires.withdrawals c.number.result,
     )
