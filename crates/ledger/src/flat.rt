@@ -29,7 +29,7 @@ pub fn lower_at(table: &[u64], at: usize) -> u32
     requires { at < length table.now }
     ensures { result ≡ lower (slice_index table.now at) }
 {
-    table[at] as u32
+    (table[at] % 4_294_967_296) as u32
 }
 
 pub fn upper_at(table: &[u64], at: usize) -> u32
