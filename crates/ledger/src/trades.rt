@@ -76,7 +76,6 @@ fn numbers_differ(table: &[u64], count: usize, numbers: &mut [u64]) -> bool
     order::neighbours_differ(numbers)
 }
 
-#[tactic(auto, using(sort::proofs::SortLaws::room_for))]
 fn sorted_differ(table: &[u64], count: usize) -> bool
     requires { (HasSlots table.now count) × (count ≤ capacity_limit) }
     ensures { result ≡ differ (trades_to table.now count) }
