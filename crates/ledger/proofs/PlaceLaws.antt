@@ -10,7 +10,7 @@ use native.Mathlib.Omega.{arith}
 use native.Mathlib.Decide.{ℕ_discrete}
 use borrow.Author.Tests.{eq-eqb, ne_eqb}
 use lib.ListN.{length-set}
-use lib.Seq.{take_all, take-suc-set, set_at}
+use lib.Seq.{take-suc-set, set_at}
 use Rattle.rules.specs.Trades.{same, with_sheets, on_table, trade_of, take_off, differ}
 use Rattle.rules.proofs.FoldLaws.{not-here}
 use Rattle.rules.specs.Folds.{all_below}
@@ -189,8 +189,3 @@ module _ (table : List ℕ) (count : ℕ) (numbers : List ℕ) where
         long = rw length-set n.long;
         front = rw (one_more table i, add-one, take-suc-set numbers i contract.0 (omega (arith, n.long)), n.front, e) (sym (map-append _ (trades_to table i) (trade_at table i ∷ [])));
       }
-
-  pub all-numbered : (i : ℕ) → Numbered table count numbers i → count ≤ i → numbers ≡ contract_numbers (trades_to table count)
-  all-numbered i n end =
-      let all : i ≡ count = omega (arith, n.high) in
-      sym (take_all count numbers (omega (arith, n.long))) ∙ rw all at n.front

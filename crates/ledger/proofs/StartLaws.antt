@@ -8,7 +8,6 @@ use borrow.Author.Tests.{eq-eqb, ne_eqb, lt-leb, le-ltb}
 use lib.Seq.{drop_at}
 use lib.Signed.{lt_z}
 use Rattle.std.specs.Bool.{then_some}
-use Rattle.money.specs.declared.units.Sheets.{Sheets}
 use Rattle.money.specs.Units.{sheets}
 use Rattle.money.specs.Limits.{calendar_limit, term_limit}
 use Rattle.money.specs.Days.{Calendar, at_or_after}
@@ -16,7 +15,7 @@ use Rattle.money.proofs.TwoTests.{both}
 use Rattle.rules.specs.Folds.{every}
 use Rattle.rules.specs.Limits.{product_limit}
 use Rattle.rules.specs.Book.{is_normal, posting_at, is_posted}
-use Rattle.rules.specs.Days.{today, payment_day, followed}
+use Rattle.rules.specs.Days.{today, followed}
 use Rattle.rules.specs.Trades.{outstanding, total, maturing, matured, over}
 use Rattle.rules.specs.Vault.{value, headroom_of}
 use Rattle.rules.specs.Fit.{postings_fit, trade_fit, all_trades}
@@ -26,7 +25,7 @@ use Rattle.rules.proofs.FitParts.{PostingFits, postings-fit}
 use Rattle.rules.proofs.KeepsFit.{none-posted-fits}
 use Rattle.rules.proofs.TradeLaws.{maturing-le}
 use Rattle.rules.proofs.NextTermTurns.{left-more, outstanding-more, left-matured}
-use Rattle.ledger.specs.Types.{Book, Posting, Contract, Trade, Some, None}
+use Rattle.ledger.specs.Types.{Book, Posting, Trade, Some, None}
 use Rattle.ledger.specs.Flat.{trade_at, trades_to, capacity, trades_of, posting_in, postings_of}
 use Rattle.ledger.specs.NextTerm.{Closing, Meets, MeetsWhere, RenewableWhere}
 use Rattle.ledger.proofs.SumLaws.{test-fails, test-holds, some-told, none-told}
@@ -153,13 +152,6 @@ module _ (calendar : Calendar) (book : Book) (o : ℕ) (trade : Trade) where
 
   pub with-none : Told None → o ≡ with_started (starts calendar book o trade) book trade o
   with-none e = rw (none-told _ _ e) refl
-
-  -- and the slot that it leaves
-  pub slot-next : (next : Trade) → Told (Some next) → next ≡ in_slot (starts calendar book o trade) calendar book trade
-  slot-next next e = rw (some-told _ _ _ e).0 (some-told _ _ _ e).1
-
-  pub slot-none : Told None → matured (today book) trade ≡ in_slot (starts calendar book o trade) calendar book trade
-  slot-none e = rw (none-told _ _ e) refl
 
 module _ (calendar : Calendar) (book : Book) (o : ℕ) where
   pub none-started : (table : List ℕ) → o ≡ o + outstanding (started_from calendar book o (trades_to table 0))

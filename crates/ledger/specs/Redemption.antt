@@ -5,10 +5,8 @@ use Rattle.money.specs.Limits.{price_limit}
 use Rattle.money.specs.declared.units.Sheets.{Sheets}
 use Rattle.money.specs.declared.units.Ticks.{Ticks}
 use Rattle.money.specs.Units.{fen, sheets}
-use Rattle.money.specs.Days.{Calendar}
 use Rattle.rules.specs.Trades.{total, outstanding, redeemed, fallback_amount, maturing, maturity_amount}
-use Rattle.rules.specs.Early.{early_amount}
-use Rattle.ledger.specs.Types.{Book, Trade, Contract}
+use Rattle.ledger.specs.Types.{Trade}
 pub use Rattle.ledger.specs.declared.redemption.Redeemed.{Redeemed}
 
 -- more than any table is redeemed for: 4,096 trades of 10^8 sheets, 10,000 + 100,000 × 38,400 / 3,650 fen each

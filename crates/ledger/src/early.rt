@@ -41,7 +41,6 @@ fn order_refusal(scalars: Scalars, count: Sheets, price: Ticks) -> Result<(), Re
 }
 
 // Where the contract's trade stands. Only a trade on the table can be past due, so it is looked for first.
-#[tactic(auto, unfolding(money::specs::Causes::first_of))]
 fn named_place(scalars: Scalars, table: &[u64], contract: Contract) -> Result<usize, Refusal>
     requires { HasSlots table.now scalars.trades }
     ensures refused { (rows : Rows) → refusal_of result ≡ first_of (named_causes (book_of scalars rows) (trades_of table.now) contract) }
@@ -55,7 +54,6 @@ fn named_place(scalars: Scalars, table: &[u64], contract: Contract) -> Result<us
 }
 
 // What sheets of the trade at a place are redeemed for, from its first payment day to today's.
-#[tactic(auto, unfolding(money::specs::Causes::first_of))]
 fn early_amount(
     calendar: &Calendar,
     scalars: Scalars,
@@ -72,7 +70,7 @@ fn early_amount(
         (refusal_of result ≡ first_of (take_causes calendar.now book trades contract count price))
         × IfOk result (λ amount. (amount ≡ fen (early_amount calendar.now book trades contract count price)) × (amount.0 ≤ amount_bound)) }
 {
-    if flat::sheets_at(table, place).0 < count.0 {
+    if flat::sheets_at(table, place) < count {
         return Err(Refusal::NotEnough);
     }
     let payment = calendar.payment_day(scalars.standing.day);
@@ -83,7 +81,6 @@ fn early_amount(
     Ok(amount)
 }
 
-#[tactic(auto, using(crate::proofs::Refusing::turned_down, crate::proofs::Refusing::carried_out), unfolding(rules::specs::Early::early_causes, rules::specs::Early::early_book, rules::specs::Early::early_table, money::specs::Causes::first_of))]
 pub fn early(
     calendar: &Calendar,
     scalars: Scalars,

@@ -66,7 +66,6 @@ fn principal_of(count: Sheets) -> Fen
 }
 
 // Whether sheets are above headroom.
-#[tactic(auto, unfolding(rules::specs::Vault::headroom, money::specs::Causes::first_of))]
 fn lacks_headroom(
     calendar: &Calendar,
     scalars: Scalars,
@@ -91,7 +90,7 @@ fn product_refusal(scalars: Scalars, held: &Held, terms: Terms) -> Result<(), Re
         let book = book_of scalars (rows_of held.now kinds units) in
         refusal_of result ≡ first_of (product_causes book terms) }
 {
-    let product = terms.product as usize;
+    let product = usize::from(terms.product);
     if product == 0 {
         return Ok(());
     }
@@ -173,7 +172,6 @@ fn sheet_refusal(
     Ok(())
 }
 
-#[tactic(auto, using(crate::proofs::Column::applies, crate::proofs::Column::passes, crate::proofs::Column::asked, crate::proofs::Refusing::no_rows), unfolding(rules::specs::Initial::initial_causes, money::specs::Causes::first_of))]
 fn initial_refusal(
     calendar: &Calendar,
     scalars: Scalars,
@@ -214,7 +212,6 @@ fn begun_trade(calendar: &Calendar, scalars: Scalars, terms: Terms) -> Trade
     }
 }
 
-#[tactic(auto, using(crate::proofs::Refusing::turned_down, crate::proofs::Refusing::carried_out), unfolding(money::specs::Money::principal, rules::specs::Initial::initial_book, rules::specs::Initial::initial_table, money::specs::Causes::first_of))]
 pub fn initial(
     calendar: &Calendar,
     scalars: Scalars,
@@ -231,10 +228,9 @@ pub fn initial(
         (applied_at (done_by scalars result) (rows_of held.now kinds units) ≡ applied_by cause book (initial_book book terms))
         × (trades_of table.new ≡ table_by cause trades (initial_table calendar.now book trades terms))) }
 {
-    initial_refusal(calendar, scalars, held, &*table, known, terms)?;
+    initial_refusal(calendar, scalars, held, table, known, terms)?;
     let place = scalars.trades;
     flat::put_trade(table, place, begun_trade(calendar, scalars, terms));
-    let count = terms.sheets;
-    let nets = nets::today_less(scalars.nets, principal_of(count));
+    let nets = nets::today_less(scalars.nets, principal_of(terms.sheets));
     Ok(done::accepted(state::with_nets_and_trades(scalars, nets, place + 1)))
 }

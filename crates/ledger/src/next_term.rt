@@ -204,7 +204,6 @@ pub fn settle(
 }
 
 // All that Close has to know before it writes: what matures, and which terms start.
-#[tactic(auto, using(rules::proofs::FitParts::fit_parts))]
 pub fn plan_of(
     calendar: &Calendar,
     scalars: Scalars,

@@ -45,12 +45,10 @@ fn fallback_sum(calendar: &Calendar, scalars: Scalars, table: &[u64], after: Sta
         × (result.0 ≤ amount_bound) }
 {
     let payment = calendar.payment_day(after.day);
-    let plan = redemption::termination_plan(table, scalars.trades, payment);
-    plan.amount
+    redemption::termination_plan(table, scalars.trades, payment).amount
 }
 
 // On turning terminated the table is emptied into the cleared net and U's cleared part, unless the net or U would leave its limit.
-#[tactic(auto, using(rules::proofs::FitParts::fit_parts), unfolding(rules::specs::Open::opened_table, money::specs::Causes::first_of))]
 fn terminated(
     calendar: &Calendar,
     scalars: Scalars,
@@ -66,27 +64,24 @@ fn terminated(
         × (trades_of table.new ≡ table_by cause trades (opened_table book trades))
         × (refusal_of result ≡ cause)) }
 {
-    let nets = scalars.nets;
-    let sums = scalars.sums;
-    let amount = fallback_sum(calendar, scalars, &*table, after);
-    let with_fallbacks = nets::cleared_plus(nets, amount);
+    let amount = fallback_sum(calendar, scalars, table, after);
+    let with_fallbacks = nets::cleared_plus(scalars.nets, amount);
     if !nets::cleared_fit(with_fallbacks) {
         return Err(Refusal::PastLimit);
     }
-    if unpaid::passes(sums.unpaid, amount) {
+    if unpaid::passes(scalars.sums.unpaid, amount) {
         return Err(Refusal::PastLimit);
     }
     // every due day has 32 bits, so every trade is due by the last of them
-    redemption::redeem_due(table, scalars.trades, 4_294_967_295);
+    redemption::redeem_due(table, scalars.trades, u32::MAX);
     Ok(done::accepted(Scalars {
         nets: with_fallbacks,
         standing: after,
-        ..state::with_unpaid(scalars, unpaid::cleared_plus(sums.unpaid, amount))
+        ..state::with_unpaid(scalars, unpaid::cleared_plus(scalars.sums.unpaid, amount))
     }))
 }
 
 // The day opened, with what was posted before.
-#[tactic(auto, unfolding(rules::specs::Open::opened_table, money::specs::Causes::first_of))]
 fn turned(calendar: &Calendar, scalars: Scalars, table: &mut [u64]) -> Result<Done, Refusal>
     requires { Fits calendar.now scalars (trades_of table.old) }
     ensures { let trades = trades_of table.old in
@@ -101,9 +96,8 @@ fn turned(calendar: &Calendar, scalars: Scalars, table: &mut [u64]) -> Result<Do
     if !standing.is_closed() {
         return Err(Refusal::WrongPhase);
     }
-    let day = standing.day;
     // before 14: that one does not apply where this one does
-    if !calendar.opens(day) {
+    if !calendar.opens(standing.day) {
         return Err(Refusal::NoTradingDay);
     }
     let after = opened_standing(calendar, standing);
@@ -117,7 +111,6 @@ fn turned(calendar: &Calendar, scalars: Scalars, table: &mut [u64]) -> Result<Do
 }
 
 // What was posted is forgotten, unless Open is refused.
-#[tactic(auto, using(crate::proofs::OpenLaws::forgotten))]
 pub fn open(
     calendar: &Calendar,
     scalars: Scalars,

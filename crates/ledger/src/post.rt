@@ -25,8 +25,7 @@ fn bad_term(term: u64) -> bool
 fn post_refusal(scalars: Scalars, product: u8, posting: Posting) -> Result<(), Refusal>
     ensures { (rows : Rows) → refusal_of result ≡ first_of (post_causes (book_of scalars rows) product posting) }
 {
-    let number = product as usize;
-    if number >= PRODUCT_LIMIT {
+    if usize::from(product) >= PRODUCT_LIMIT {
         return Err(Refusal::NotPosted);
     }
     let standing = scalars.standing;
@@ -45,7 +44,6 @@ fn post_refusal(scalars: Scalars, product: u8, posting: Posting) -> Result<(), R
     Ok(())
 }
 
-#[tactic(auto, using(crate::proofs::Refusing::turned_down, crate::proofs::Refusing::carried_out), unfolding(rules::specs::Post::post_causes, rules::specs::Post::posted, money::specs::Causes::first_of))]
 pub fn post(
     scalars: Scalars,
     held: &mut Held,
@@ -58,6 +56,6 @@ pub fn post(
         applied_at (done_by scalars result) (rows_of held.new kinds units) ≡ applied_by cause book (posted book product posting) }
 {
     post_refusal(scalars, product, posting)?;
-    postings::put_posting(held, product as usize, posting);
+    postings::put_posting(held, usize::from(product), posting);
     Ok(done::accepted(scalars))
 }

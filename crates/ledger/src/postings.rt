@@ -7,7 +7,7 @@ ghost use Rattle.rules.specs.Fit.{posting_fit, postings_fit};
 ghost use Rattle.ledger.specs.Flat.{posting_in, securities_of, postings_of};
 
 use crate::flat;
-use crate::layout::{HELD_LENGTH, Held, POSTING_WIDTH, POSTINGS_FROM};
+use crate::layout::{Held, POSTING_WIDTH, POSTINGS_FROM};
 use money::limits::PRICE_LIMIT;
 use money::units::Ticks;
 use rules::book::Posting;
@@ -61,7 +61,7 @@ pub fn put_posting(held: &mut Held, number: usize, posting: Posting)
 pub fn forget(held: &mut Held)
     ensures { (postings_of held.new ≡ no_postings) × (securities_of held.new ≡ securities_of held.old) }
 {
-    held[POSTINGS_FROM..HELD_LENGTH].fill(0);
+    held[POSTINGS_FROM..].fill(0);
 }
 
 fn posting_fit(posting: Posting) -> bool

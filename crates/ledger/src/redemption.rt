@@ -117,7 +117,7 @@ pub fn redeem_due(table: &mut [u64], count: usize, by: u32)
     ensures { let trades = trades_of table.old in
         trades_of table.new ≡ over count (map (matured by) (trades_to table.old count)) trades }
 {
-    for i in 0..count {
-        redeem_one(table, i, by);
+    for place in 0..count {
+        redeem_one(table, place, by);
     }
 }

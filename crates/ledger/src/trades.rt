@@ -76,7 +76,6 @@ fn numbers_differ(table: &[u64], count: usize, numbers: &mut [u64]) -> bool
     order::neighbours_differ(numbers)
 }
 
-#[tactic(auto, using(sort::proofs::SortLaws::room_for))]
 fn sorted_differ(table: &[u64], count: usize) -> bool
     requires { (HasSlots table.now count) × (count ≤ capacity_limit) }
     ensures { result ≡ differ (trades_to table.now count) }
@@ -139,13 +138,13 @@ pub fn summary_of(table: &[u64], count: usize) -> Option<Summary>
     // One walk: a chain for each figure would go over the table three times.
     let mut outstanding = 0;
     let mut latest = 0;
-    for i in 0..count {
-        if !trade_fits(table, i) {
+    for place in 0..count {
+        if !trade_fits(table, place) {
             return None;
         }
-        let left = flat::sheets_at(table, i);
+        let left = flat::sheets_at(table, place);
         outstanding += left.0;
-        latest = latest.max(flat::first_at(table, i));
+        latest = latest.max(flat::first_at(table, place));
     }
     Some(Summary {
         outstanding: Sheets(outstanding),

@@ -42,7 +42,7 @@ loop-place-preserved c =
     let trade = trade_at c.args.table.now c.loop-place.place in
     let with-it : (book : Book) → Meets c.args.calendar.now book c.in-Some.closing c.args.held.now → c.match-next_term.sum.0 ≡ with_started (starts c.args.calendar.now book sum trade) book trade sum =
     elim c.match-next_term.branch [
-      in-Some-next_term w ↦ λ book met. ap (λ (q : Sheets). q.0) w.sum-is ∙ with-next _ book sum trade _ (w.in-Some-next_term.ensures book met)
+      | in-Some-next_term w ↦ λ book met. ap (λ (q : Sheets). q.0) w.sum-is ∙ with-next _ book sum trade _ (w.in-Some-next_term.ensures book met)
       | in_default-next_term w ↦ λ book met. ap (λ (q : Sheets). q.0) w.sum-is ∙ with-none _ book sum trade (w.in_default-next_term.ensures book met)
     ] in
     let within = kept-within _ _ c.requires.1 c.loop-place.place c.loop-place-test.true in (

@@ -22,11 +22,11 @@ returns-in_err-post_refusal c kinds units =
 
 pub put_posting-requires : goal.put_posting-requires
 put_posting-requires c =
-    product-listed (book_of c.args.scalars no_rows) _ _ (c.in_ok-post_refusal.ensures no_rows)
+    rw c.from.ensures (product-listed (book_of c.args.scalars no_rows) _ _ (c.in_ok-post_refusal.ensures no_rows))
 
 pub returns : goal.returns
 unfolding posted
 returns c kinds units =
     let put = c.put_posting.ensures in
     let rows = rows_of c.args.held.now kinds units in
-    carried_out _ _ rows _ _ (c.in_ok-post_refusal.ensures rows) c.accepted.ensures (rw (put.0, put.1))
+    carried_out _ _ rows _ _ (c.in_ok-post_refusal.ensures rows) c.accepted.ensures (rw (put.0, put.1, c.from.ensures))

@@ -15,22 +15,22 @@ use mathlib.Core.Path.{ap}
 use Rattle.std.specs.Prelude.{not}
 use Rattle.ledger.proofs.trades.summary_of.Goals as goal
 
-pub loop-i-init : goal.loop-i-init
-loop-i-init c =
+pub loop-place-init : goal.loop-place-init
+loop-place-init c =
     (all_none trade_fit _, sym (total-none sheets_of _), search rules, sym (latest-none _))
 
 pub returns-then-not-trade_fits : goal.returns-then-not-trade_fits
 returns-then-not-trade_fits c =
-    sym (summary-unfit _ (all-fails trade_fit _ _ _ c.loop-i-test.true (sym c.trade_fits.ensures ∙ not-true _ (ap not c.if-not-trade_fits.true))))
+    sym (summary-unfit _ (all-fails trade_fit _ _ _ c.loop-place-test.true (sym c.trade_fits.ensures ∙ not-true _ (ap not c.if-not-trade_fits.true))))
 
-pub loop-i-preserved : goal.loop-i-preserved
-loop-i-preserved c =
-    let within : trade_fit (trade_at c.args.table.now c.loop-i.i) ≡ true = sym c.trade_fits.ensures ∙ not-false _ (ap not c.if-not-trade_fits.false) in
-    let few : (trade_at c.args.table.now c.loop-i.i).sheets.0 ≤ trade_limit = (within_of (trade_at c.args.table.now c.loop-i.i) within).sheets in
-    let inv = c.loop-i.invariant in
+pub loop-place-preserved : goal.loop-place-preserved
+loop-place-preserved c =
+    let within : trade_fit (trade_at c.args.table.now c.loop-place.place) ≡ true = sym c.trade_fits.ensures ∙ not-false _ (ap not c.if-not-trade_fits.false) in
+    let few : (trade_at c.args.table.now c.loop-place.place).sheets.0 ≤ trade_limit = (within_of (trade_at c.args.table.now c.loop-place.place) within).sheets in
+    let inv = c.loop-place.invariant in
     let sheets = c.sheets_at-left.ensures in (
       all_more trade_fit _ _ inv.0 within,
       rw (inv.1, sheets) (sym (total-more sheets_of _ _)),
       rw sheets (omega (arith, few, inv.2)),
-      grind (arith, common_steps, latest-more c.args.table.now c.loop-i.i),
+      grind (arith, common_steps, latest-more c.args.table.now c.loop-place.place),
     )

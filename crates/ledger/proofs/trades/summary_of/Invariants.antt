@@ -8,6 +8,6 @@ use Rattle.rules.proofs.TradeLaws.{sheets_of}
 use Rattle.ledger.specs.Figures.{latest_first}
 use Rattle.ledger.proofs.trades.summary_of.Given as goal
 
-abbrev pub invariant-loop-i : goal.invariant-loop-i
-invariant-loop-i l =
-    (all_trades trade_fit (trades_to l.table l.i) ≡ true) × (l.outstanding ≡ total sheets_of (trades_to l.table l.i)) × (l.outstanding ≤ l.i * 100000000) × (l.latest ≡ latest_first (trades_to l.table l.i))
+abbrev pub invariant-loop-place : goal.invariant-loop-place
+invariant-loop-place l =
+    (all_trades trade_fit (trades_to l.table l.place) ≡ true) × (l.outstanding ≡ total sheets_of (trades_to l.table l.place)) × (l.outstanding ≤ l.place * 100000000) × (l.latest ≡ latest_first (trades_to l.table l.place))
