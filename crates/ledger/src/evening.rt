@@ -47,9 +47,7 @@ pub fn all_arrived(held: &mut Held, guarantee: Guarantee)
         × (postings_of held.new ≡ postings_of held.old) }
 {
     for kind in 0..CASH_KIND {
-        let at = SecurityNumber::new(kind);
-        let security = held::security_at(held, at);
-        held::put_security(held, at, security_arrived(security));
+        held::change(held, SecurityNumber::new(kind), security_arrived);
     }
 }
 
@@ -64,19 +62,21 @@ fn judged(
     had: Security,
     value: Sheets,
 ) -> Option<Sheets>
-    requires { (had.frozen ≤ had.effective)
-        × (had.effective ≤ unit_limit_of (kind_number kind))
-        × (rate_of (kind_number kind) had.rate ≤ rate_limit)
-        × ((kind_value (kind_number kind) had.effective had.frozen had.rate).0 ≤ value.0)
+    requires { let number = kind_number kind in
+        (had.frozen ≤ had.effective)
+        × (had.effective ≤ unit_limit_of number)
+        × (rate_of number had.rate ≤ rate_limit)
+        × ((kind_value number had.effective had.frozen had.rate).0 ≤ value.0)
         × (value.0 ≤ value_bound) }
-    ensures { (vault : Vault) →
+    ensures { let number = kind_number kind in
+        (vault : Vault) →
         length vault.securities ≡ cash_kind
-        → had.effective ≡ effective_of vault (kind_number kind)
-        → had.frozen ≡ frozen_of vault (kind_number kind)
-        → had.rate ≡ (security_at vault (kind_number kind)).rate
+        → had.effective ≡ effective_of vault number
+        → had.frozen ≡ frozen_of vault number
+        → had.rate ≡ (security_at vault number).rate
         → value.0 ≡ value_of vault
-        → let goes = may_go served (claims_of outstanding.0 unpaid.0) (kind_number kind) units vault in
-        MatchOption result (goes ≡ false) (λ after. (goes ≡ true) × (after.0 ≡ value_of (taken_out (kind_number kind) units vault))) }
+        → let goes = may_go served (claims_of outstanding.0 unpaid.0) number units vault in
+        MatchOption result (goes ≡ false) (λ after. (goes ≡ true) × (after.0 ≡ value_of (taken_out number units vault))) }
 {
     if !served || had.effective - had.frozen < units {
         return None;

@@ -1,12 +1,12 @@
 // 7 Freeze: sets frozen units.
-ghost use Rattle.std.specs.Prelude.{◌≡◌, ℕ, List, IfOk, slice_set};
+ghost use Rattle.std.specs.Prelude.{◌≡◌, ℕ, List, IfOk};
 ghost use Rattle.money.specs.Causes.{first_of, refusal_of};
-ghost use Rattle.rules.specs.Freeze.{freeze_causes, frozen, with_frozen, cash_frozen};
+ghost use Rattle.rules.specs.Freeze.{freeze_causes, frozen, cash_frozen};
 ghost use Rattle.scalars.specs.Scalars.{done_by};
 ghost use Rattle.ledger.specs.Kind.{kind_number};
-ghost use Rattle.ledger.specs.Flat.{security_in, securities_of, postings_of, rows_of, book_of, applied_by, applied_at};
+ghost use Rattle.ledger.specs.Flat.{rows_of, book_of, applied_by, applied_at};
 
-use crate::kind::{Kind, SecurityNumber};
+use crate::kind::Kind;
 use crate::layout::Held;
 use crate::{held, vault};
 use money::refusal::Refusal;
@@ -29,22 +29,6 @@ fn freeze_refusal(scalars: Scalars, held: &Held, kind: u8, units: u64) -> Result
     Ok(kind)
 }
 
-fn put_frozen(held: &mut Held, at: SecurityNumber, units: u64)
-    ensures { (securities_of held.new
-        ≡ slice_set (securities_of held.old) at.number (with_frozen units (security_in held.old at.number)))
-        × (postings_of held.new ≡ postings_of held.old) }
-{
-    let security = held::security_at(held, at);
-    held::put_security(
-        held,
-        at,
-        Security {
-            frozen: units,
-            ..security
-        },
-    );
-}
-
 fn cash_frozen(guarantee: Guarantee, amount: Fen) -> Guarantee
     ensures { result ≡ cash_frozen amount.0 guarantee }
 {
@@ -64,7 +48,14 @@ pub fn freeze(scalars: Scalars, held: &mut Held, kind: u8, units: u64) -> Result
     let kind = freeze_refusal(scalars, held, kind, units)?;
     match kind {
         Kind::Security(at) => {
-            put_frozen(held, at, units);
+            held::change(
+                held,
+                at,
+                |security| Security {
+                    frozen: units,
+                    ..security
+                },
+            );
             Ok(done::accepted(scalars))
         }
         Kind::Cash => Ok(done::accepted(Scalars {

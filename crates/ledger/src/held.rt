@@ -1,5 +1,6 @@
 // The securities in a lent row, four numbers each: effective, arriving and frozen units, and the rate. Behind them stands what is posted.
 ghost use Rattle.std.specs.Prelude.{◌≡◌, slice_set};
+ghost use Rattle.ledger.specs.Types.{Security};
 ghost use Rattle.ledger.specs.Flat.{security_in, securities_of, postings_of};
 
 use crate::kind::SecurityNumber;
@@ -10,12 +11,12 @@ use rules::book::Security;
 pub fn security_at(held: &Held, at: SecurityNumber) -> Security
     ensures { result ≡ security_in held.now at.number }
 {
-    let at = usize::from(at.number) * SECURITY_WIDTH;
+    let first = usize::from(at.number) * SECURITY_WIDTH;
     Security {
-        effective: held[at],
-        arriving: held[at + 1],
-        frozen: held[at + 2],
-        rate: held[at + 3],
+        effective: held[first],
+        arriving: held[first + 1],
+        frozen: held[first + 2],
+        rate: held[first + 3],
     }
 }
 
@@ -23,11 +24,23 @@ pub fn put_security(held: &mut Held, at: SecurityNumber, security: Security)
     ensures { (securities_of held.new ≡ slice_set (securities_of held.old) at.number security)
         × (postings_of held.new ≡ postings_of held.old) }
 {
-    let at = usize::from(at.number) * SECURITY_WIDTH;
-    held[at..at + SECURITY_WIDTH].copy_from_slice(&[
+    let first = usize::from(at.number) * SECURITY_WIDTH;
+    held[first..first + SECURITY_WIDTH].copy_from_slice(&[
         security.effective,
         security.arriving,
         security.frozen,
         security.rate,
     ]);
+}
+
+// A security read, changed and written back.
+pub fn change<F: Fn(Security) -> Security>(held: &mut Held, at: SecurityNumber, changed: F)
+    requires { F.pre changed (security_in held.old at.number) }
+    ensures { (after : Security)
+        × F.post changed (security_in held.old at.number) after
+        × (securities_of held.new ≡ slice_set (securities_of held.old) at.number after)
+        × (postings_of held.new ≡ postings_of held.old) }
+{
+    let security = security_at(held, at);
+    put_security(held, at, changed(security));
 }

@@ -1,12 +1,12 @@
 // 6 Pledge: units arrive, and count from the next close.
-ghost use Rattle.std.specs.Prelude.{◌≡◌, ℕ, ◌+◌, ◌≤◌, true, List, IfOk, slice_set};
-ghost use Rattle.money.specs.Limits.{cash_limit, unit_limit};
+ghost use Rattle.std.specs.Prelude.{◌≡◌, ℕ, ◌+◌, ◌≤◌, true, List, IfOk};
+ghost use Rattle.money.specs.Limits.{cash_limit};
 ghost use Rattle.money.specs.Causes.{first_of, refusal_of};
 ghost use Rattle.rules.specs.Fit.{cash_fit, securities_fit};
-ghost use Rattle.rules.specs.Pledge.{pledge_causes, pledged, arrived, cash_arrived};
+ghost use Rattle.rules.specs.Pledge.{pledge_causes, pledged, cash_arrived};
 ghost use Rattle.scalars.specs.Scalars.{done_by};
 ghost use Rattle.ledger.specs.Kind.{kind_number};
-ghost use Rattle.ledger.specs.Flat.{security_in, securities_of, postings_of, vault_of, rows_of, book_of, applied_by, applied_at};
+ghost use Rattle.ledger.specs.Flat.{security_in, securities_of, vault_of, rows_of, book_of, applied_by, applied_at};
 
 use crate::held;
 use crate::kind::{Kind, SecurityNumber};
@@ -58,23 +58,6 @@ fn pledge_refusal(scalars: Scalars, held: &Held, kind: u8, units: u64) -> Result
     Ok(kind)
 }
 
-fn put_arrived(held: &mut Held, at: SecurityNumber, units: u64)
-    requires { (security_in held.old at.number).arriving + units ≤ unit_limit }
-    ensures { (securities_of held.new
-        ≡ slice_set (securities_of held.old) at.number (arrived units (security_in held.old at.number)))
-        × (postings_of held.new ≡ postings_of held.old) }
-{
-    let security = held::security_at(held, at);
-    held::put_security(
-        held,
-        at,
-        Security {
-            arriving: security.arriving + units,
-            ..security
-        },
-    );
-}
-
 fn cash_arrived(guarantee: Guarantee, amount: Fen) -> Guarantee
     requires { guarantee.arriving.0 + amount.0 ≤ cash_limit }
     ensures { result ≡ cash_arrived amount.0 guarantee }
@@ -97,7 +80,14 @@ pub fn pledge(scalars: Scalars, held: &mut Held, kind: u8, units: u64) -> Result
     let kind = pledge_refusal(scalars, held, kind, units)?;
     match kind {
         Kind::Security(at) => {
-            put_arrived(held, at, units);
+            held::change(
+                held,
+                at,
+                |security| Security {
+                    arriving: security.arriving + units,
+                    ..security
+                },
+            );
             Ok(done::accepted(scalars))
         }
         Kind::Cash => Ok(done::accepted(Scalars {

@@ -35,7 +35,6 @@ pub fn set_rate(scalars: Scalars, held: &mut Held, kind: u8, rate: u64) -> Resul
         applied_at (done_by scalars result) (rows_of held.new kinds units) ≡ applied_by cause book (rated book kind rate)) }
 {
     let at = rate_refusal(kind, rate)?;
-    let security = held::security_at(held, at);
-    held::put_security(held, at, Security { rate, ..security });
+    held::change(held, at, |security| Security { rate, ..security });
     Ok(done::accepted(scalars))
 }

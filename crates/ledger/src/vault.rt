@@ -56,7 +56,8 @@ pub fn withdrawals_fit(kinds: &Kinds, units: &Units, count: usize) -> bool
 // What is had of a kind: a security as its row has it, or guarantee cash as one. The rate of cash is not looked at.
 pub fn had_of(held: &Held, guarantee: Guarantee, kind: Kind) -> Security
     ensures units { let vault = vault_of guarantee (securities_of held.now) in
-        (result.effective ≡ effective_of vault (kind_number kind)) × (result.frozen ≡ frozen_of vault (kind_number kind)) }
+        let number = kind_number kind in
+        (result.effective ≡ effective_of vault number) × (result.frozen ≡ frozen_of vault number) }
     ensures rate { result.rate ≡ (security_at (vault_of guarantee (securities_of held.now)) (kind_number kind)).rate }
     ensures security { kind_number kind < cash_kind → result ≡ security_in held.now (kind_number kind) }
 {
@@ -73,9 +74,10 @@ pub fn had_of(held: &Held, guarantee: Guarantee, kind: Kind) -> Security
 
 // A kind's value within the limits, where nothing refuses it.
 pub fn worth(kind: Kind, had: Security) -> Sheets
-    requires { (had.frozen ≤ had.effective)
-        × (had.effective ≤ unit_limit_of (kind_number kind))
-        × (rate_of (kind_number kind) had.rate ≤ rate_limit) }
+    requires { let number = kind_number kind in
+        (had.frozen ≤ had.effective)
+        × (had.effective ≤ unit_limit_of number)
+        × (rate_of number had.rate ≤ rate_limit) }
     ensures { result ≡ kind_value (kind_number kind) had.effective had.frozen had.rate }
 {
     money::collateral::kind_worth(kind.number(), had.effective, had.frozen, had.rate).unwrap()

@@ -3,4 +3,4 @@ use Rattle.ledger.proofs.held.put_security.Goals as goal
 
 pub returns : goal.returns
 returns c =
-    rw (c.copy_from_slice.ensures.after, c.from-at.ensures) (security-put _ _ c.args.security c.args.at.known c.told-held)
+    rw (c.copy_from_slice.ensures.after, c.from-first.ensures) (security-put _ _ c.args.security c.args.at.known c.told-held)

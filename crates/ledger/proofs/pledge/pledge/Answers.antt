@@ -2,15 +2,16 @@ use Rattle.std.specs.Prelude.{◌≡◌, ℕ, ◌+◌, ◌<◌, ◌≤◌, []}
 use mathlib.Core.Path.{refl, sym}
 use mathlib.Core.Option.{none}
 use native.Mathlib.Omega.{arith}
+use borrow.Author.Rules.{rules}
 use borrow.Author.Tests.{ltb-false, eq-eqb, ne_eqb}
 use Rattle.money.specs.Limits.{unit_limit}
 use Rattle.money.specs.Causes.{first_of}
 use Rattle.rules.specs.Vault.{security_at}
-use Rattle.rules.specs.Pledge.{pledge_causes, pledged}
+use Rattle.rules.specs.Pledge.{pledge_causes, pledged, arrived}
 use Rattle.rules.proofs.FitParts.{cash-fits}
 use Rattle.rules.proofs.Accepted.{all-clear}
 use Rattle.ledger.specs.Types.{Book}
-use Rattle.ledger.specs.Flat.{rows_of, book_of}
+use Rattle.ledger.specs.Flat.{security_in, rows_of, book_of}
 use Rattle.ledger.proofs.HeldLaws.{security-at-row}
 use Rattle.ledger.proofs.Refusing.{turned_down, carried_out}
 use Rattle.ledger.proofs.pledge.pledge.Goals as goal
@@ -44,15 +45,15 @@ pub returns-in_err-kind : goal.returns-in_err-kind
 returns-in_err-kind c kinds amounts =
     turned_down _ _ (rows_of _ kinds amounts) _ _ _ _ c.from_residual.ensures.1 (c.in_err-kind.ensures.cause kinds amounts) refl
 
-pub put_arrived-requires : goal.put_arrived-requires
-put_arrived-requires c =
+pub change-requires : goal.change-requires
+change-requires c =
     let a = c.args in
     let at = c.in-Security.at in
-    let read = security-read (goal.at.put_arrived-requires c).In-Security in
+    let read = security-read (goal.at.change-requires c).In-Security in
     let known : a.kind < 32 = omega (arith, read, at.known) in
-    let row = security-at-row a.held.now a.scalars.guarantee a.kind known in
-    let fits = rw row at (room (book_of a.scalars (rows_of a.held.now [] [])) a.kind a.units (c.in_ok-kind.ensures.cause [] []) known) in
-    rw read (omega (arith, fits))
+    let fits = room (book_of a.scalars (rows_of a.held.now [] [])) a.kind a.units (c.in_ok-kind.ensures.cause [] []) known in
+    let room-here : (security_in a.held.now at.number).arriving + a.units ≤ unit_limit = omega (arith, rw (security-at-row a.held.now a.scalars.guarantee a.kind known, ← read) at fits) in
+    search rules
 
 pub returns-in-Security : goal.returns-in-Security
 unfolding pledged
@@ -62,8 +63,10 @@ returns-in-Security c kinds amounts =
     let read = security-read (goal.at.returns-in-Security c).In-Security in
     let known : a.kind < 32 = omega (arith, read, at.known) in
     let row = security-at-row a.held.now a.scalars.guarantee a.kind known in
+    let changed = c.change.ensures in
+    let made : changed.0 ≡ arrived a.units (security_in a.held.now at.number) = search rules in
     carried_out _ _ (rows_of a.held.now kinds amounts) _ _ (c.in_ok-kind.ensures.cause kinds amounts) c.accepted.ensures
-    (rw (c.put_arrived.ensures.0, c.put_arrived.ensures.1, read, ne_eqb a.kind 32 (λ e. omega arith), row))
+    (rw (changed.2, changed.3, made, read, ne_eqb a.kind 32 (λ e. omega arith), row))
 
 pub overflow_sub-scalars : goal.overflow_sub-scalars
 overflow_sub-scalars c = own-enough (goal.at.overflow_sub-scalars c).In-Cash
