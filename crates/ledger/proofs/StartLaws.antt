@@ -8,7 +8,6 @@ use borrow.Author.Tests.{eq-eqb, ne_eqb, lt-leb, le-ltb}
 use lib.Seq.{drop_at}
 use lib.Signed.{lt_z}
 use Rattle.std.specs.Bool.{then_some}
-use Rattle.money.specs.Units.{sheets}
 use Rattle.money.specs.Limits.{calendar_limit, term_limit}
 use Rattle.money.specs.Days.{Calendar, at_or_after}
 use Rattle.money.proofs.TwoTests.{both}

@@ -1,4 +1,4 @@
-use Rattle.std.proofs.Common.{rules, ◌∙◌, ◌≡◌, ap, ℕ, Bool, cond, ◌&&◌, None, List, [], ◌∷◌, ◌==◌, refl}
+use Rattle.std.proofs.Common.{rules, ◌∙◌, ◌≡◌, ap, ℕ, cond, ◌&&◌, None, List, [], ◌∷◌, ◌==◌, refl}
 use Rattle.std.specs.Bool.{then_some}
 use Rattle.std.specs.List.{list_all}
 use Rattle.std.proofs.lemmas.Iterator.{YieldsList-from_slice}

@@ -1,4 +1,4 @@
-use Rattle.std.proofs.Common.{ap, ◌∙◌, ◌≡◌, ℕ, ◌+◌, List, ◌∷◌, [], unsigned_abs}
+use Rattle.std.proofs.Common.{◌∙◌, ◌≡◌, ℕ, ◌+◌, List, ◌∷◌, [], unsigned_abs}
 use Rattle.rules.specs.Vault.{headroom_of}
 use Rattle.rules.specs.Listing.{sign_of}
 use Rattle.ledger.proofs.LineLaws.{sign-told, size-told}

@@ -1,4 +1,4 @@
-use Rattle.std.specs.Prelude.{ℕ, true, pos}
+use Rattle.std.specs.Prelude.{ℕ, pos}
 use mathlib.Core.Path.{refl, sym, ap, ◌∙◌}
 use native.Mathlib.Omega.{arith}
 use Rattle.std.specs.Int.Signed.{lt_z}
