@@ -94,10 +94,7 @@ fn product_refusal(scalars: Scalars, held: &Held, terms: Terms) -> Result<(), Re
     if product == 0 {
         return Ok(());
     }
-    if product > PRODUCT_LIMIT {
-        return Err(Refusal::NotPosted);
-    }
-    if postings::posted(held, product).is_none() {
+    if product > PRODUCT_LIMIT || postings::posted(held, product).is_none() {
         return Err(Refusal::NotPosted);
     }
     Ok(())

@@ -66,10 +66,7 @@ fn terminated(
 {
     let amount = fallback_sum(calendar, scalars, table, after);
     let with_fallbacks = nets::cleared_plus(scalars.nets, amount);
-    if !nets::cleared_fit(with_fallbacks) {
-        return Err(Refusal::PastLimit);
-    }
-    if unpaid::passes(scalars.sums.unpaid, amount) {
+    if !nets::cleared_fit(with_fallbacks) || unpaid::passes(scalars.sums.unpaid, amount) {
         return Err(Refusal::PastLimit);
     }
     // every due day has 32 bits, so every trade is due by the last of them

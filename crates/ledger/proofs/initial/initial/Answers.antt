@@ -4,15 +4,10 @@ use native.Mathlib.Omega.{arith}
 use Rattle.money.specs.Money.{principal}
 use Rattle.rules.specs.Initial.{initial_book, initial_table}
 use Rattle.ledger.specs.Flat.{rows_of}
-use Rattle.ledger.proofs.Refusing.{turned_down, carried_out}
+use Rattle.ledger.proofs.Refusing.{carried_out}
 use Rattle.ledger.proofs.FitFacts.{fit-keeps, fit-net}
 use Rattle.ledger.proofs.InitialLaws.{initial-begins}
 use Rattle.ledger.proofs.initial.initial.Goals as goal
-
-pub returns-in_err-initial_refusal : goal.returns-in_err-initial_refusal
-returns-in_err-initial_refusal c kinds units =
-    let said = c.in_err-initial_refusal.ensures kinds units in
-    (turned_down _ _ (rows_of c.args.held.now kinds units) _ _ _ _ c.from_residual.ensures.1 said refl, rw (← said) refl)
 
 pub put_trade-requires : goal.put_trade-requires
 put_trade-requires c = omega (arith, (initial-begins _ _ _ _ (c.in_ok-initial_refusal.ensures [] [])).room)

@@ -3,7 +3,7 @@ use Rattle.ledger.proofs.Column.{applies, passes, asked, asked-not}
 use Rattle.ledger.proofs.Groups.{group-applies, group-passes}
 use Rattle.ledger.proofs.Refusing.{no_rows, told-on}
 use Rattle.ledger.proofs.FitFacts.{fit-keeps}
-use Rattle.ledger.proofs.InitialLaws.{today-within, count-within}
+use Rattle.ledger.proofs.InitialLaws.{today-within}
 use Rattle.ledger.proofs.initial.initial_refusal.Goals as goal
 
 pub term_refusal-requires : goal.term_refusal-requires
@@ -13,10 +13,6 @@ term_refusal-requires c =
 pub slot_refusal-requires : goal.slot_refusal-requires
 slot_refusal-requires c =
     (fit-keeps _ _ _ c.requires.book.fits).room
-
-pub sheet_refusal-requires : goal.sheet_refusal-requires
-sheet_refusal-requires c =
-    (c.requires, count-within _ (asked-not c.bad_count.ensures c.if-bad_count.false))
 
 pub returns-in_err-product_refusal : goal.returns-in_err-product_refusal
 unfolding initial_causes

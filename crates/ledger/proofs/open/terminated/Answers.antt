@@ -1,10 +1,12 @@
-use Rattle.std.specs.Prelude.{pos, ◌+ℤ◌}
+use Rattle.std.specs.Prelude.{◌≡◌, not, pos, ◌+ℤ◌}
+use mathlib.Core.Option.{some}
+use Rattle.money.specs.Causes.{first_of}
 use mathlib.Core.Path.{refl, sym, ap, ◌∙◌}
 use borrow.Author.Tests.{not-true, not-false, le-leb}
 use Rattle.money.specs.declared.units.Fen.{Fen}
 use Rattle.money.specs.Units.{signed_fen}
 use Rattle.rules.specs.Unpaid.{cleared_plus}
-use Rattle.rules.specs.Open.{opened_table}
+use Rattle.rules.specs.Open.{open_causes, opened_table}
 use Rattle.rules.proofs.FitParts.{fit_parts}
 use Rattle.scalars.specs.Scalars.{with_unpaid, unless_past}
 use Rattle.scalars.proofs.UnpaidLaws.{not-past}
@@ -14,7 +16,7 @@ use Rattle.ledger.proofs.Refusing.{carried_out}
 use Rattle.ledger.proofs.FitFacts.{fit-in-use, fit-keeps}
 use Rattle.ledger.proofs.RedemptionLaws.{all-due}
 use Rattle.ledger.proofs.OpenLaws.{terminated-book, net-past, unpaid-past, none-within-limits, net-tested, unpaid-tested}
-use Rattle.std.specs.Prelude.{not}
+use Rattle.ledger.proofs.open.terminated.Goals.{then-not-cleared_fit-via-then-not-cleared_fit, then-not-cleared_fit-via-else-not-cleared_fit+then-passes}
 use Rattle.ledger.proofs.open.terminated.Goals as goal
 
 pub cleared_plus-with_fallbacks-requires : goal.cleared_plus-with_fallbacks-requires
@@ -24,16 +26,18 @@ cleared_plus-with_fallbacks-requires c =
 
 pub returns-then-not-cleared_fit : goal.returns-then-not-cleared_fit
 returns-then-not-cleared_fit c rows =
+    let calendar = c.args.calendar.now in
     let book = book_of c.args.scalars rows in
-    let net = net-tested _ book _ _ (c.fallback_sum-amount.ensures.0 rows) c.cleared_plus-with_fallbacks.ensures c.cleared_fit.ensures in
-    let e = net-past _ book _ c.requires.closed c.requires.opening.follows c.requires.ended (net ∙ not-true _ (ap not c.if-not-cleared_fit.true)) in
-    (rw e refl, rw e refl, sym e)
-
-pub returns-then-passes : goal.returns-then-passes
-returns-then-passes c rows =
-    let book = book_of c.args.scalars rows in
-    let unpaid = unpaid-tested _ book _ _ (c.fallback_sum-amount.ensures.0 rows) c.passes.ensures in
-    let e = unpaid-past _ book _ c.requires.closed c.requires.opening.follows c.requires.ended (unpaid ∙ c.if-passes.true) in
+    let table = trades_of c.args.table.now in
+    let amount = c.fallback_sum-amount.ensures.0 rows in
+    let closed = c.requires.closed in
+    let follows = c.requires.opening.follows in
+    let net = net-tested calendar book table _ amount c.cleared_plus-with_fallbacks.ensures c.cleared_fit.ensures in
+    let e : first_of (open_causes calendar book table) ≡ some 14 =
+    elim c.then-not-cleared_fit.branch [
+      | then-not-cleared_fit-via-then-not-cleared_fit w ↦ net-past calendar book table closed follows c.requires.ended (net ∙ not-true _ (ap not w.if-not-cleared_fit.true))
+      | then-not-cleared_fit-via-else-not-cleared_fit+then-passes w ↦ unpaid-past calendar book table closed follows c.requires.ended (unpaid-tested calendar book table _ amount w.passes.ensures ∙ w.if-passes.true)
+    ] in
     (rw e refl, rw e refl, sym e)
 
 pub redeem_due-requires : goal.redeem_due-requires

@@ -1,6 +1,5 @@
 use mathlib.Core.Path.{refl, sym, ap, ◌∙◌}
 use Rattle.rules.specs.Open.{opened_table}
-use Rattle.ledger.specs.Types.{Standing}
 use Rattle.ledger.specs.Flat.{book_of, trades_of}
 use Rattle.ledger.proofs.Fitting.{refuted, upheld}
 use Rattle.ledger.proofs.OpenLaws.{not-closed, no-day-to-open, none-unless-ended}
@@ -19,20 +18,6 @@ returns-then-not-opens c rows =
     let closed = upheld c.is_closed.ensures (ap not c.if-not-is_closed.false) in
     let e = no-day-to-open c.args.calendar.now (book_of c.args.scalars rows) (trades_of c.args.table.now) closed (refuted c.opens.ensures (ap not c.if-not-opens.true)) in
     (rw e refl, rw e refl, sym e)
-
-pub turns_terminated-requires : goal.turns_terminated-requires
-turns_terminated-requires c =
-    ap (λ (standing : Standing). standing.status) c.opened_standing-after.ensures
-
-pub terminated-requires : goal.terminated-requires
-terminated-requires c =
-    let closed = upheld c.is_closed.ensures (ap not c.if-not-is_closed.false) in
-    let follows = upheld c.opens.ensures (ap not c.if-not-opens.false) in
-    record {
-      opening = record { book = c.requires; follows = follows; opened = c.opened_standing-after.ensures };
-      closed = closed;
-      ended = sym c.turns_terminated.ensures ∙ c.if-turns_terminated.true;
-    }
 
 pub returns : goal.returns
 unfolding opened_table

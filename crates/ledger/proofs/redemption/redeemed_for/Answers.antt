@@ -11,10 +11,6 @@ pub returns-then-count-eq0 : goal.returns-then-count-eq0
 returns-then-count-eq0 c =
     ap fen (sym (no-sheets _ _ _ c.if-count-eq0.true))
 
-pub overflow_sub-days : goal.overflow_sub-days
-overflow_sub-days c =
-    omega (arith, c.first_at.ensures, c.requires.place_bound.0)
-
 pub unwrap-requires : goal.unwrap-requires
 unwrap-requires c =
     ap is_ok (redemption_within _ _ _ _ c.requires.has_slot.1 c.requires.has_slot.2 (omega (arith, c.requires.place_bound.1)) c.redemption.ensures)
