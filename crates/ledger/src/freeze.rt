@@ -38,7 +38,7 @@ fn cash_frozen(guarantee: Guarantee, amount: Fen) -> Guarantee
     }
 }
 
-#[tactic(auto, using(crate::proofs::Refusing::turned_down, crate::proofs::Refusing::carried_out), unfolding(rules::specs::Step::event_causes, rules::specs::Freeze::freeze_causes, rules::specs::Freeze::frozen, money::specs::Causes::first_of))]
+#[tactic(auto, using(crate::proofs::Refusing::turned_down, crate::proofs::Refusing::carried_out), unfolding(rules::specs::Step::event_causes, rules::specs::Freeze::frozen, money::specs::Causes::first_of))]
 pub fn freeze(scalars: Scalars, held: &mut Held, kind: u8, units: u64) -> Result<Done, Refusal>
     ensures { (kinds amounts : List ℕ) →
         let book = book_of scalars (rows_of held.old kinds amounts) in

@@ -27,7 +27,7 @@ fn rate_refusal(kind: u8, rate: u64) -> Result<SecurityNumber, Refusal>
     Ok(at)
 }
 
-#[tactic(auto, using(crate::proofs::Refusing::turned_down, crate::proofs::Refusing::carried_out), unfolding(rules::specs::Step::event_causes, rules::specs::Rate::rate_causes, rules::specs::Rate::rated, money::specs::Causes::first_of))]
+#[tactic(auto, using(crate::proofs::Refusing::turned_down, crate::proofs::Refusing::carried_out), unfolding(rules::specs::Step::event_causes, rules::specs::Rate::rated, money::specs::Causes::first_of))]
 pub fn set_rate(scalars: Scalars, held: &mut Held, kind: u8, rate: u64) -> Result<Done, Refusal>
     ensures { let cause = first_of (rate_causes kind rate) in
         ((kinds units : List ℕ) →

@@ -37,7 +37,7 @@ pub fn cash_fit(cash: Cash, guarantee: Guarantee) -> bool
 {
     let own = cash.own.0.saturating_add(cash.client.0);
     let held = guarantee.effective.0.saturating_add(guarantee.arriving.0);
-    own.saturating_add(held) <= CASH_LIMIT && guarantee.frozen.0 <= guarantee.effective.0
+    own.saturating_add(held) <= CASH_LIMIT && guarantee.frozen <= guarantee.effective
 }
 
 fn application_fit(kind: u8, units: u64) -> bool

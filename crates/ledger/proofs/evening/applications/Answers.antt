@@ -51,9 +51,6 @@ one-more served claims count kind amount kinds units first e next ys y at reache
 pub shared_ref_as_front-iter : goal.shared_ref_as_front-iter
 shared_ref_as_front-iter c = (withdrawals-fit _ c.requires.kinds_len).count
 
-pub shared_ref_as_front-zip : goal.shared_ref_as_front-zip
-shared_ref_as_front-zip c = (withdrawals-fit _ c.requires.kinds_len).count
-
 pub loop-kind-init : goal.loop-kind-init
 loop-kind-init c = (sym (turn-none _ _), c.requires.held_value.4, refl)
 

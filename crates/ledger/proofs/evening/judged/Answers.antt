@@ -23,10 +23,6 @@ returns c vault full e f r v =
     rw c.then_some.ensures
     (judged-so _ _ _ _ vault c.covers.result _ (not-false _ (ap not c.if-not-served.false)) (omega (arith, e, f, c.requires.0, c.if-had-units.false)) after c.covers.ensures)
 
-pub overflow_sub-after : goal.overflow_sub-after
-overflow_sub-after c =
-    omega (arith, ap (λ (v : Sheets). v.0) c.worth-with.ensures, c.requires.3)
-
 pub overflow_add-after : goal.overflow_add-after
 overflow_add-after c =
     let had = c.args.had in

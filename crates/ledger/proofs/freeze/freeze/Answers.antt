@@ -1,17 +1,12 @@
 use Rattle.std.specs.Prelude.{◌≡◌, ◌<◌}
-use mathlib.Core.Path.{refl}
 use native.Mathlib.Omega.{arith}
 use borrow.Author.Rules.{rules}
-use borrow.Author.Tests.{eq-eqb, ne_eqb}
+use borrow.Author.Tests.{ne_eqb}
 use Rattle.rules.specs.Freeze.{frozen, with_frozen}
 use Rattle.ledger.specs.Flat.{security_in, rows_of}
 use Rattle.ledger.proofs.HeldLaws.{security-at-row}
-use Rattle.ledger.proofs.Refusing.{turned_down, carried_out}
+use Rattle.ledger.proofs.Refusing.{carried_out}
 use Rattle.ledger.proofs.freeze.freeze.Goals as goal
-
-pub returns-in_err-kind : goal.returns-in_err-kind
-returns-in_err-kind c kinds amounts =
-    turned_down _ _ (rows_of _ kinds amounts) _ _ _ _ c.from_residual.ensures.1 (c.in_err-kind.ensures.cause kinds amounts) refl
 
 pub returns-in-Security : goal.returns-in-Security
 unfolding frozen
@@ -25,9 +20,3 @@ returns-in-Security c kinds amounts =
     let made : changed.0 ≡ with_frozen a.units (security_in a.held.now at.number) = search rules in
     carried_out _ _ (rows_of a.held.now kinds amounts) _ _ (c.in_ok-kind.ensures.cause kinds amounts) c.accepted.ensures
     (rw (changed.2, changed.3, made, read, ne_eqb a.kind 32 (λ e. omega arith), row))
-
-pub returns-in-Cash : goal.returns-in-Cash
-unfolding frozen
-returns-in-Cash c kinds amounts =
-    let read : 32 ≡ c.args.kind = rw c.in-Cash.is at c.in_ok-kind.ensures.read in
-    carried_out _ _ (rows_of _ kinds amounts) _ _ (c.in_ok-kind.ensures.cause kinds amounts) c.accepted-in-Cash.ensures (rw (c.cash_frozen.ensures, eq-eqb c.args.kind 32 (omega arith)))

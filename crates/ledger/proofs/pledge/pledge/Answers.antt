@@ -1,5 +1,5 @@
 use Rattle.std.specs.Prelude.{◌≡◌, ℕ, ◌+◌, ◌<◌, ◌≤◌, []}
-use mathlib.Core.Path.{refl, sym}
+use mathlib.Core.Path.{sym}
 use mathlib.Core.Option.{none}
 use native.Mathlib.Omega.{arith}
 use borrow.Author.Rules.{rules}
@@ -13,7 +13,7 @@ use Rattle.rules.proofs.Accepted.{all-clear}
 use Rattle.ledger.specs.Types.{Book}
 use Rattle.ledger.specs.Flat.{security_in, rows_of, book_of}
 use Rattle.ledger.proofs.HeldLaws.{security-at-row}
-use Rattle.ledger.proofs.Refusing.{turned_down, carried_out}
+use Rattle.ledger.proofs.Refusing.{carried_out}
 use Rattle.ledger.proofs.pledge.pledge.Goals as goal
 use Rattle.ledger.proofs.pledge.pledge.Goals.{In-Security, In-Cash}
 
@@ -40,10 +40,6 @@ own-enough : (c : In-Cash) → c.args.units ≤ c.args.scalars.cash.own.0
 own-enough c =
     let a = c.args in
     owned (book_of a.scalars (rows_of a.held.now [] [])) a.kind a.units (c.in_ok-kind.ensures.cause [] []) (cash-read c)
-
-pub returns-in_err-kind : goal.returns-in_err-kind
-returns-in_err-kind c kinds amounts =
-    turned_down _ _ (rows_of _ kinds amounts) _ _ _ _ c.from_residual.ensures.1 (c.in_err-kind.ensures.cause kinds amounts) refl
 
 pub change-requires : goal.change-requires
 change-requires c =
@@ -74,9 +70,3 @@ overflow_sub-scalars c = own-enough (goal.at.overflow_sub-scalars c).In-Cash
 pub cash_arrived-requires : goal.cash_arrived-requires
 cash_arrived-requires c =
     omega (arith, own-enough (goal.at.cash_arrived-requires c).In-Cash, (cash-fits _ _ c.requires.1).sum)
-
-pub returns-in-Cash : goal.returns-in-Cash
-unfolding pledged
-returns-in-Cash c kinds amounts =
-    let read = cash-read (goal.at.returns-in-Cash c).In-Cash in
-    carried_out _ _ (rows_of _ kinds amounts) _ _ (c.in_ok-kind.ensures.cause kinds amounts) c.accepted-in-Cash.ensures (rw (c.cash_arrived.ensures, eq-eqb c.args.kind 32 (sym read)))

@@ -11,9 +11,6 @@ use Rattle.ledger.proofs.vault.applied_of.Goals as goal
 pub shared_ref_as_front-iter : goal.shared_ref_as_front-iter
 shared_ref_as_front-iter c = (withdrawals-fit _ c.requires).count
 
-pub shared_ref_as_front-zip : goal.shared_ref_as_front-zip
-shared_ref_as_front-zip c = (withdrawals-fit _ c.requires).count
-
 pub sum-requires-clause-fits : goal.sum-requires-clause-fits
 unfolding applied
 sum-requires-clause-fits c =
