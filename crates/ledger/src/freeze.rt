@@ -16,6 +16,7 @@ use scalars::done;
 use scalars::done::Done;
 use scalars::state::Scalars;
 
+// The kind to freeze, unless there is a cause to refuse it.
 #[tactic(auto, unfolding(rules::specs::Freeze::freeze_causes, money::specs::Causes::first_of))]
 fn freeze_refusal(scalars: Scalars, held: &Held, kind: u8, units: u64) -> Result<Kind, Refusal>
     ensures cause { (kinds amounts : List ℕ) →

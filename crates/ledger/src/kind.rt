@@ -17,6 +17,7 @@ pub enum Kind {
 }
 
 impl SecurityNumber {
+    // Of a number known to be one. A closure proves no ghost field of what it makes, so a walk over the securities asks for each here.
     pub fn new(number: u8) -> SecurityNumber
         requires { number < cash_kind }
         ensures { result.number ≡ number }

@@ -29,6 +29,7 @@ fn units_of(held: &Held, guarantee: Guarantee, at: SecurityNumber) -> u64
     security.effective + security.arriving
 }
 
+// The kind to pledge, unless there is a cause to refuse it.
 #[tactic(auto, unfolding(rules::specs::Pledge::pledge_causes, money::specs::Causes::first_of))]
 fn pledge_refusal(scalars: Scalars, held: &Held, kind: u8, units: u64) -> Result<Kind, Refusal>
     requires { securities_fit (vault_of scalars.guarantee (securities_of held.now)) ≡ true }
@@ -44,18 +45,12 @@ fn pledge_refusal(scalars: Scalars, held: &Held, kind: u8, units: u64) -> Result
         return Err(Refusal::BadCount);
     }
     match kind {
-        Kind::Security(at) => {
-            if UNIT_LIMIT - units_of(held, scalars.guarantee, at) < units {
-                return Err(Refusal::PastLimit);
-            }
+        Kind::Security(at) if UNIT_LIMIT - units_of(held, scalars.guarantee, at) < units => {
+            Err(Refusal::PastLimit)
         }
-        Kind::Cash => {
-            if scalars.cash.own.0 < units {
-                return Err(Refusal::NotEnough);
-            }
-        }
+        Kind::Cash if scalars.cash.own.0 < units => Err(Refusal::NotEnough),
+        _ => Ok(kind),
     }
-    Ok(kind)
 }
 
 fn cash_arrived(guarantee: Guarantee, amount: Fen) -> Guarantee

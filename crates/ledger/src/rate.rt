@@ -15,6 +15,7 @@ use scalars::done;
 use scalars::done::Done;
 use scalars::state::Scalars;
 
+// The security to rate, unless there is a cause to refuse it: guarantee cash has no rate of its own.
 #[tactic(auto, unfolding(rules::specs::Rate::rate_causes, money::specs::Causes::first_of))]
 fn rate_refusal(kind: u8, rate: u64) -> Result<SecurityNumber, Refusal>
     ensures cause { refusal_of result ≡ first_of (rate_causes kind rate) }

@@ -20,9 +20,9 @@ within c =
 pub overflow_sub-units_of : goal.overflow_sub-units_of
 overflow_sub-units_of c = within (goal.at.overflow_sub-units_of c).After-units_of
 
-pub returns-then-units_of-units-clause-cause : goal.returns-then-units_of-units-clause-cause
+pub returns-in-Security-clause-cause : goal.returns-in-Security-clause-cause
 unfolding pledge_causes
-returns-then-units_of-units-clause-cause c kinds amounts =
+returns-in-Security-clause-cause c kinds amounts =
     let a = c.args in
     let at = c.in-Security.at in
     let told : kind_number c.in_ok-kind.kind ≡ a.kind = search rules in
@@ -33,12 +33,12 @@ returns-then-units_of-units-clause-cause c kinds amounts =
     let row = security-at-row a.held.now a.scalars.guarantee a.kind known in
     let security = security_at (vault_of a.scalars.guarantee (securities_of a.held.now)) a.kind in
     let over : unit_limit < security.effective + security.arriving + a.units =
-    rw row (omega (arith, within (goal.at.returns-then-units_of-units-clause-cause c).After-units_of, rw read at c.units_of.ensures)) in
+    rw row (omega (arith, within (goal.at.returns-in-Security-clause-cause c).After-units_of, rw read at c.units_of.ensures)) in
     search column depth 20
 
-pub returns-else-units_of-units-clause-cause : goal.returns-else-units_of-units-clause-cause
+pub returns-in_default-clause-cause : goal.returns-in_default-clause-cause
 unfolding pledge_causes
-returns-else-units_of-units-clause-cause c kinds amounts =
+returns-in_default-clause-cause c kinds amounts =
     let a = c.args in
     let at = c.in-Security.at in
     let told : kind_number c.in_ok-kind.kind ≡ a.kind = search rules in
@@ -49,5 +49,5 @@ returns-else-units_of-units-clause-cause c kinds amounts =
     let row = security-at-row a.held.now a.scalars.guarantee a.kind known in
     let security = security_at (vault_of a.scalars.guarantee (securities_of a.held.now)) a.kind in
     let room : security.effective + security.arriving + a.units ≤ unit_limit =
-    rw row (omega (arith, within (goal.at.returns-else-units_of-units-clause-cause c).After-units_of, rw read at c.units_of.ensures)) in
+    rw row (omega (arith, within (goal.at.returns-in_default-clause-cause c).After-units_of, rw read at c.units_of.ensures)) in
     search column depth 20
