@@ -109,8 +109,8 @@ pub fn applications(
     held: &mut Held,
     begun: EveningScalars,
 ) -> EveningScalars
-    requires kinds_len { withdrawals_fit (record { kinds = kinds.now; units = units.now; count = count }) ≡ true }
-    requires held_value { (securities_fit (vault_of begun.guarantee (securities_of held.old)) ≡ true)
+    requires listed { withdrawals_fit (record { kinds = kinds.now; units = units.now; count = count }) ≡ true }
+    requires begun { (securities_fit (vault_of begun.guarantee (securities_of held.old)) ≡ true)
         × (begun.guarantee.frozen.0 ≤ begun.guarantee.effective.0)
         × (begun.guarantee.effective.0 ≤ cash_limit)
         × (begun.own.0 + begun.guarantee.effective.0 ≤ cash_limit)

@@ -26,8 +26,8 @@ applications-requires c =
     let sound = sound-of (begun (book_of c.args.scalars (rows_of c.args.held.now c.args.kinds.now c.args.units.now))) kept in
     let cash = c.guarantee_arrived-arrived.ensures in
     record {
-      kinds_len = c.requires.withdrawals;
-      held_value = (rw (cash, arrived.ensures.0) sound.0, rw cash sound.1, rw cash sound.2, rw cash kept.cash, c.value_of.ensures, refl, refl);
+      listed = c.requires.withdrawals;
+      begun = (rw (cash, arrived.ensures.0) sound.0, rw cash sound.1, rw cash sound.2, rw cash kept.cash, c.value_of.ensures, refl, refl);
     }
 
 pub returns : goal.returns

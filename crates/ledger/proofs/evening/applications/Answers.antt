@@ -49,10 +49,10 @@ one-more served claims count kind amount kinds units first e next ys y at reache
     rw (more, turn_more turns first (length ys), ← reached, ← at.kind-is, ← at.amount-is) n
 
 pub shared_ref_as_front-iter : goal.shared_ref_as_front-iter
-shared_ref_as_front-iter c = (withdrawals-fit _ c.requires.kinds_len).count
+shared_ref_as_front-iter c = (withdrawals-fit _ c.requires.listed).count
 
 pub loop-kind-init : goal.loop-kind-init
-loop-kind-init c = (sym (turn-none _ _), c.requires.held_value.4, refl)
+loop-kind-init c = (sym (turn-none _ _), c.requires.begun.4, refl)
 
 -- the application at hand, and the evening before its turn
 module _ (c : In-Some) where
@@ -65,7 +65,7 @@ module _ (c : In-Some) where
   at-hand : Come c.args.kinds.now c.args.units.now c.args.count (length c.loop-kind.yielded) c.in-Some.field-0-0.now c.in-Some.field-0-1.now
   at-hand =
       let a = c.args in
-      let few : a.count ≤ 128 = (withdrawals-fit _ c.requires.kinds_len).count in
+      let few : a.count ≤ 128 = (withdrawals-fit _ c.requires.listed).count in
       let at =
       YieldsList-turn
       (YieldsList-from_zip {s = c.into_iter-kind-iterator.result} (YieldsList-from_slice (take a.count a.kinds.now) (cc)) (YieldsList-from_slice (take a.count a.units.now) (cc)))
@@ -73,20 +73,20 @@ module _ (c : In-Some) where
       come a.kinds.now a.units.now a.count _ _ _ (omega (arith, few)) (omega (arith, few)) at.0 at.1
 
   fits : ApplicationFits c.in-Some.field-0-0.now c.in-Some.field-0-1.now
-  fits = rw (at-hand.kind-is, at-hand.amount-is) ((withdrawals-fit _ c.requires.kinds_len).each _ at-hand.below)
+  fits = rw (at-hand.kind-is, at-hand.amount-is) ((withdrawals-fit _ c.requires.listed).each _ at-hand.below)
 
   kept : Kept before
   kept =
       kept-of c.args.served claims (asked c.args.kinds.now c.args.units.now c.args.count) _ before _ c.loop-kind.invariant.0
-      (record { securities = securities-fit _ c.requires.held_value.0; free = c.requires.held_value.1; cash = c.requires.held_value.3 })
+      (record { securities = securities-fit _ c.requires.begun.0; free = c.requires.begun.1; cash = c.requires.begun.3 })
 
   counted : before.done + before.dropped < 128
   counted =
       omega (
         arith,
-        seen-of c.args.served claims (asked c.args.kinds.now c.args.units.now c.args.count) _ before _ c.loop-kind.invariant.0 c.requires.held_value.5 c.requires.held_value.6,
+        seen-of c.args.served claims (asked c.args.kinds.now c.args.units.now c.args.count) _ before _ c.loop-kind.invariant.0 c.requires.begun.5 c.requires.begun.6,
         at-hand.below,
-        (withdrawals-fit _ c.requires.kinds_len).count,
+        (withdrawals-fit _ c.requires.listed).count,
       )
 
 pub unwrap-kind-requires : goal.unwrap-kind-requires
@@ -191,7 +191,7 @@ pub returns : goal.returns
 unfolding applications
 returns c =
     let a = c.args in
-    let few : a.count ≤ 128 = (withdrawals-fit _ c.requires.kinds_len).count in
+    let few : a.count ≤ 128 = (withdrawals-fit _ c.requires.listed).count in
     let end =
     YieldsList-end (YieldsList-from_zip {s = c.into_iter-kind-iterator.result} (YieldsList-from_slice (take a.count a.kinds.now) (cc)) (YieldsList-from_slice (take a.count a.units.now) (cc)))
     c.loop-kind.yielded c.loop-kind.kind-iterator c.loop-kind.yielded_by c.next.result c.next.new.self c.in-None.is c.next.ensures.steps in
