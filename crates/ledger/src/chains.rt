@@ -1,11 +1,12 @@
 // Whether contracts differ, by chains: each trade is linked to the last one before it whose contract falls into the same bucket, so that
 // a contract is compared with few others. A chain that gets long shows nothing, and the contracts are sorted instead.
-ghost use Rattle.std.specs.Prelude.{◌≡◌, ◌<◌, ◌≤◌, length, replicate};
+ghost use Rattle.std.specs.Prelude.{◌≡◌, ◌<◌, ◌≤◌, length};
 ghost use Rattle.rules.specs.Limits.{capacity_limit};
 ghost use Rattle.ledger.specs.Flat.{HasSlots};
 ghost use Rattle.ledger.specs.Chains.{most_buckets, bucket_of, Falls, Shows, ShowsAll};
 
 use crate::flat;
+use rules::limits::CAPACITY_LIMIT;
 use rules::trade::Contract;
 
 // Of a contract, or of all of them: it does not stand there before, it does, or the chain was too long to tell. An Option<bool> would not say which.
@@ -41,38 +42,29 @@ fn look_along(table: &[u64], next: &[u16], from: usize, contract: Contract) -> C
         if flat::contract_at(table, place) == contract {
             return ChainResult::Repeats;
         }
-        link = next[place] as usize;
+        link = usize::from(next[place]);
     }
     ChainResult::TooLong
 }
 
 // The trades linked one after the other, each looked for along the chain of its bucket.
 #[tactic(auto, using(crate::proofs::ChainLaws::inside))]
-pub fn linked_differ(
-    table: &[u64],
-    count: usize,
-    buckets: usize,
-    heads: &mut [u16],
-    next: &mut [u16],
-) -> ChainResult
-    requires { (HasSlots table.now count)
-        × (count ≤ capacity_limit)
-        × (0 < buckets)
-        × (buckets ≤ most_buckets)
-        × (heads.old ≡ replicate buckets 0)
-        × (count ≤ length next.old) }
+pub fn linked_differ<const BUCKETS: usize>(table: &[u64], count: usize) -> ChainResult
+    requires { (HasSlots table.now count) × (count ≤ capacity_limit) × (0 < BUCKETS) × (BUCKETS ≤ most_buckets) }
     ensures { ShowsAll table.now count result }
 {
-    for i in 0..count {
-        let contract = flat::contract_at(table, i);
-        let bucket = bucket_of(contract, buckets);
+    let mut heads: [u16; BUCKETS] = [0; BUCKETS];
+    let mut next: [u16; CAPACITY_LIMIT] = [0; CAPACITY_LIMIT];
+    for place in 0..count {
+        let contract = flat::contract_at(table, place);
+        let bucket = bucket_of(contract, BUCKETS);
         let first = heads[bucket];
-        match look_along(table, &*next, first as usize, contract) {
+        match look_along(table, &next, usize::from(first), contract) {
             ChainResult::Differs => {}
             told => return told,
         }
-        next[i] = first;
-        heads[bucket] = (i + 1) as u16;
+        next[place] = first;
+        heads[bucket] = (place + 1) as u16;
     }
     ChainResult::Differs
 }

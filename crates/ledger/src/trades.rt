@@ -89,9 +89,7 @@ fn chains_differ<const BUCKETS: usize>(table: &[u64], count: usize) -> bool
     requires { (HasSlots table.now count) × (count ≤ capacity_limit) × (0 < BUCKETS) × (BUCKETS ≤ most_buckets) }
     ensures { result ≡ differ (trades_to table.now count) }
 {
-    let mut heads: [u16; BUCKETS] = [0; BUCKETS];
-    let mut next: [u16; CAPACITY_LIMIT] = [0; CAPACITY_LIMIT];
-    match chains::linked_differ(table, count, BUCKETS, &mut heads, &mut next) {
+    match chains::linked_differ::<BUCKETS>(table, count) {
         ChainResult::Differs => true,
         ChainResult::Repeats => false,
         ChainResult::TooLong => sorted_differ(table, count),
