@@ -98,7 +98,7 @@ fn code_only(fields: Fields, event: Event) -> Option<Event>
     amount_only(fields, event)
 }
 
-// The account stands where other events have a kind.
+// The account stands where other events have a kind. An Option and no TryFrom: its error would tell nothing.
 fn account_at(kind: u8) -> Option<Account>
     ensures { result ≡ account_at kind }
 {

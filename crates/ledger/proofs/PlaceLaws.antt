@@ -1,5 +1,5 @@
 -- Where a contract's trade stands: the first that has the contract, and what is read and taken off is that trade's.
--- For place_of, for contracts_differ, which looks for each contract among the trades before it, follows chains or sorts them all, and for the
+-- For trades.rt, whose contracts_differ looks for each contract among the trades before it, follows chains or sorts them all, and for the
 -- events of one contract. Assumes nothing.
 use Rattle.std.specs.Prelude.{◌≡◌, ℕ, zero, suc, ◌+◌, ◌-◌, ◌<◌, ◌≤◌, Bool, true, false, cond, not, ◌&&◌, List, [], ◌∷◌, ◌++◌, length, take, drop, set, Option, is_some, IfSome, MatchOption}
 use mathlib.Core.Path.{refl, sym, ap, ◌∙◌}

@@ -9,8 +9,8 @@ pub enum Account {
     Client,
 }
 
-// Events on a kind carry its number as given, and its units or its rate; Post a product's number as given, and its posting. A kind and a product
-// are places in a list, no cases of their own, and the event itself refuses a number that is none.
+// Events on a kind carry its number as given, and its units or its rate; Post a product's number as given, and its posting. A number is the byte that
+// the journal has, any byte, and the event itself refuses one that is none, in the order of its causes.
 #[derive(Clone, Copy)]
 pub enum Event {
     Open,

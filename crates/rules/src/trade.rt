@@ -20,6 +20,7 @@ pub struct Trade {
     pub product: u64,
 }
 
+// `product` is the journal's byte, as the record keeps it.
 #[derive(Clone, Copy)]
 pub struct Terms {
     pub contract: Contract,
