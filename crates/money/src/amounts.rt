@@ -3,7 +3,7 @@ ghost use Rattle.std.specs.Prelude.{◌≡◌};
 ghost use Rattle.money.specs.Money.{amount_of, initial_amount, redemption_amount};
 
 use crate::limits::{PRICE_LIMIT, TERM_LIMIT, TRADE_LIMIT};
-use crate::refusal::Refusal;
+use crate::refusal::{Refusal, number_of};
 use crate::units::{Fen, SHEET_FEN, Sheets, Ticks};
 
 // An amount of money as C has it: 0 beside it, or its refusal's number beside 0.
@@ -18,12 +18,9 @@ impl From<Result<Fen, Refusal>> for Amount {
     ghost from_gives = { λ answer amount. amount ≡ amount_of answer };
 
     fn from(answer: Result<Fen, Refusal>) -> Amount {
-        match answer {
-            Ok(fen) => Amount { number: 0, fen },
-            Err(refusal) => Amount {
-                number: refusal.into(),
-                fen: Fen(0),
-            },
+        Amount {
+            number: number_of(answer),
+            fen: answer.unwrap_or(Fen(0)),
         }
     }
 }
@@ -44,13 +41,7 @@ pub fn initial(q: Sheets) -> Result<Fen, Refusal>
 pub fn redemption(q: Sheets, price: Ticks, days: u32) -> Result<Fen, Refusal>
     ensures { amount_of result ≡ redemption_amount q price days }
 {
-    if q.0 > TRADE_LIMIT {
-        return Err(Refusal::PastLimit);
-    }
-    if price.0 > PRICE_LIMIT {
-        return Err(Refusal::PastLimit);
-    }
-    if days > TERM_LIMIT {
+    if q.0 > TRADE_LIMIT || price.0 > PRICE_LIMIT || days > TERM_LIMIT {
         return Err(Refusal::PastLimit);
     }
     let income = (q.0 * u64::from(price.0) * u64::from(days) + 1_825) / 3_650;

@@ -3,7 +3,7 @@ ghost use Rattle.std.specs.Prelude.{◌≡◌};
 ghost use Rattle.money.specs.Collateral.{worth_of, kind_worth};
 
 use crate::limits::{CASH_KIND, CASH_LIMIT, RATE_LIMIT, RATE_PARTS, UNIT_LIMIT};
-use crate::refusal::Refusal;
+use crate::refusal::{Refusal, number_of};
 use crate::units::Sheets;
 
 // A value in whole sheets as C has it: 0 beside it, or its refusal's number beside 0.
@@ -18,12 +18,9 @@ impl From<Result<Sheets, Refusal>> for Worth {
     ghost from_gives = { λ answer worth. worth ≡ worth_of answer };
 
     fn from(answer: Result<Sheets, Refusal>) -> Worth {
-        match answer {
-            Ok(sheets) => Worth { number: 0, sheets },
-            Err(refusal) => Worth {
-                number: refusal.into(),
-                sheets: Sheets(0),
-            },
+        Worth {
+            number: number_of(answer),
+            sheets: answer.unwrap_or(Sheets(0)),
         }
     }
 }
@@ -45,10 +42,7 @@ pub fn kind_worth(kind: u8, effective: u64, frozen: u64, rate: u64) -> Result<Sh
         }
         return Ok(Sheets((effective - frozen) / RATE_PARTS));
     }
-    if effective > UNIT_LIMIT {
-        return Err(Refusal::PastLimit);
-    }
-    if rate > RATE_LIMIT {
+    if effective > UNIT_LIMIT || rate > RATE_LIMIT {
         return Err(Refusal::PastLimit);
     }
     Ok(Sheets((effective - frozen) * rate / RATE_PARTS))

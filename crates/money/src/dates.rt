@@ -6,7 +6,7 @@ ghost use Rattle.money.specs.Dates.{date, dated_of, day_answer, date_answer};
 
 use crate::limits::{FIRST_YEAR, LAST_DAY, LAST_YEAR};
 use crate::months::{length_after, month_length, start_after};
-use crate::refusal::Refusal;
+use crate::refusal::{Refusal, number_of};
 
 // A year, a month from 1 and a day from 1.
 #[repr(C)]
@@ -29,16 +29,14 @@ impl From<Result<Date, Refusal>> for Dated {
     ghost from_gives = { λ answer told. told ≡ dated_of answer };
 
     fn from(answer: Result<Date, Refusal>) -> Dated {
-        match answer {
-            Ok(date) => Dated { number: 0, date },
-            Err(refusal) => Dated {
-                number: refusal.into(),
-                date: Date {
-                    year: 0,
-                    month: 0,
-                    day: 0,
-                },
-            },
+        let none = Date {
+            year: 0,
+            month: 0,
+            day: 0,
+        };
+        Dated {
+            number: number_of(answer),
+            date: answer.unwrap_or(none),
         }
     }
 }

@@ -3,7 +3,7 @@ ghost use Rattle.std.specs.Prelude.{◌≡◌};
 ghost use Rattle.money.specs.Days.{trades, at_or_after, next_after, earliest, found_of, search_result};
 
 use crate::limits::CALENDAR_LIMIT;
-use crate::refusal::Refusal;
+use crate::refusal::{Refusal, number_of};
 
 // The day that a search found or that a date is, as C has it: 0 beside it, or its refusal's number beside 0.
 #[repr(C)]
@@ -17,12 +17,9 @@ impl From<Result<u32, Refusal>> for Found {
     ghost from_gives = { λ answer found. found ≡ found_of answer };
 
     fn from(answer: Result<u32, Refusal>) -> Found {
-        match answer {
-            Ok(day) => Found { number: 0, day },
-            Err(refusal) => Found {
-                number: refusal.into(),
-                day: 0,
-            },
+        Found {
+            number: number_of(answer),
+            day: answer.unwrap_or(0),
         }
     }
 }
@@ -32,10 +29,8 @@ impl From<Result<u32, Refusal>> for Found {
 pub fn trades_on(calendar: &[u32], day: u32) -> bool
     ensures { result ≡ trades calendar.now day }
 {
-    let Some(word) = calendar.get((day / 32) as usize) else {
-        return false;
-    };
-    (*word >> (day % 32)) % 2 == 1
+    let word = calendar.get((day / 32) as usize);
+    word.is_some_and(|word| (*word >> (day % 32)) % 2 == 1)
 }
 
 // The first trading day from a day on: the first word is masked below that day, zero words are stepped over.

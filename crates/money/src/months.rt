@@ -11,16 +11,8 @@ use crate::starts::STARTS;
 fn february(year: u32) -> u32
     ensures { result ≡ february year }
 {
-    if year % 4 != 0 {
-        return 28;
-    }
-    if year % 100 != 0 {
-        return 29;
-    }
-    if year % 400 != 0 {
-        return 28;
-    }
-    29
+    let is_leap = year % 4 == 0 && (year % 100 != 0 || year % 400 == 0);
+    if is_leap { 29 } else { 28 }
 }
 
 // The days of a month; what is no month has none.

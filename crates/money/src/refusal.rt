@@ -1,6 +1,6 @@
 // Why a call or an event is turned down, each cause with its number in document 01.
 ghost use Rattle.std.specs.Prelude.{◌≡◌};
-ghost use Rattle.money.specs.Causes.{refusal_number};
+ghost use Rattle.money.specs.Causes.{number_of, refusal_of, refusal_number};
 
 use std::error::Error;
 use std::fmt;
@@ -34,6 +34,16 @@ impl From<Refusal> for u8 {
 
     fn from(refusal: Refusal) -> u8 {
         refusal as u8
+    }
+}
+
+// 0 of an answer that is no refusal, as C has it beside the result.
+pub fn number_of<T: Copy>(answer: Result<T, Refusal>) -> u8
+    ensures { result ≡ number_of (refusal_of answer) }
+{
+    match answer {
+        Ok(_) => 0,
+        Err(refusal) => refusal.into(),
     }
 }
 

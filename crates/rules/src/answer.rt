@@ -3,7 +3,7 @@ ghost use Rattle.std.specs.Prelude.{◌≡◌};
 ghost use Rattle.rules.specs.Cover.{cover_told};
 
 use crate::book::Book;
-use money::refusal::Refusal;
+use money::refusal::{Refusal, number_of};
 use money::units::{Sheets, SignedSheets};
 
 // The number; of an accepted Close also the sheets matured and the applications done and dropped, of any other 0. C has it as it stands, so a
@@ -25,7 +25,7 @@ pub struct Applied {
 }
 
 // Headroom and O of a fit book.
-#[derive(Clone, Copy)]
+#[derive(Clone, Copy, Default)]
 pub struct Covered {
     pub headroom: SignedSheets,
     pub outstanding: Sheets,
@@ -44,17 +44,14 @@ impl From<Result<Covered, Refusal>> for Cover {
     ghost from_gives = { λ answer cover. cover ≡ cover_told answer };
 
     fn from(answer: Result<Covered, Refusal>) -> Cover {
-        match answer {
-            Ok(covered) => Cover {
-                number: 0,
-                headroom: covered.headroom,
-                outstanding: covered.outstanding,
-            },
-            Err(refusal) => Cover {
-                number: refusal.into(),
-                headroom: SignedSheets(0),
-                outstanding: Sheets(0),
-            },
+        let Covered {
+            headroom,
+            outstanding,
+        } = answer.unwrap_or_default();
+        Cover {
+            number: number_of(answer),
+            headroom,
+            outstanding,
         }
     }
 }

@@ -8,7 +8,7 @@ use money::units::{Fen, Sheets, SignedFen, Ticks};
 
 // Today's net and the cleared net: redemptions plus, initial trades minus.
 #[repr(C)]
-#[derive(Clone, Copy)]
+#[derive(Clone, Copy, Default)]
 pub struct Nets {
     pub today: SignedFen,
     pub cleared: SignedFen,
@@ -16,7 +16,7 @@ pub struct Nets {
 
 // U, the gross redemption amounts not yet paid: what was redeemed today, and what was cleared before.
 #[repr(C)]
-#[derive(Clone, Copy)]
+#[derive(Clone, Copy, Default)]
 pub struct Unpaid {
     pub today: Fen,
     pub cleared: Fen,
@@ -24,14 +24,14 @@ pub struct Unpaid {
 
 // The sums that a book carries beside its nets.
 #[repr(C)]
-#[derive(Clone, Copy)]
+#[derive(Clone, Copy, Default)]
 pub struct Sums {
     pub unpaid: Unpaid,
 }
 
 // The two settlement accounts.
 #[repr(C)]
-#[derive(Clone, Copy)]
+#[derive(Clone, Copy, Default)]
 pub struct Cash {
     pub own: Fen,
     pub client: Fen,
@@ -39,7 +39,7 @@ pub struct Cash {
 
 // A security's units, and its rate in ten-thousandths of a sheet a unit.
 #[repr(C)]
-#[derive(Clone, Copy)]
+#[derive(Clone, Copy, Default)]
 pub struct Security {
     pub effective: u64,
     pub arriving: u64,
@@ -49,7 +49,7 @@ pub struct Security {
 
 // Guarantee cash, kind 32, whose rate number is fixed and not kept.
 #[repr(C)]
-#[derive(Clone, Copy)]
+#[derive(Clone, Copy, Default)]
 pub struct Guarantee {
     pub effective: Fen,
     pub arriving: Fen,
@@ -160,7 +160,7 @@ pub struct Withdrawals {
 
 // What is posted today for a product: the term in days, 0 where nothing is, and both prices. C lends it as two numbers, which have no other none.
 #[repr(C)]
-#[derive(Clone, Copy)]
+#[derive(Clone, Copy, Default)]
 pub struct Posting {
     pub term: u64,
     pub price: Ticks,
@@ -187,32 +187,12 @@ pub fn fresh() -> Book
     ensures { result ≡ fresh_book }
 {
     Book {
-        nets: Nets {
-            today: SignedFen(0),
-            cleared: SignedFen(0),
-        },
-        sums: Sums {
-            unpaid: Unpaid {
-                today: Fen(0),
-                cleared: Fen(0),
-            },
-        },
-        cash: Cash {
-            own: Fen(0),
-            client: Fen(0),
-        },
+        nets: Nets::default(),
+        sums: Sums::default(),
+        cash: Cash::default(),
         vault: Vault {
-            guarantee: Guarantee {
-                effective: Fen(0),
-                arriving: Fen(0),
-                frozen: Fen(0),
-            },
-            securities: [Security {
-                effective: 0,
-                arriving: 0,
-                frozen: 0,
-                rate: 0,
-            }; SECURITIES],
+            guarantee: Guarantee::default(),
+            securities: [Security::default(); SECURITIES],
         },
         size: Sheets(0),
         standing: Standing {
@@ -227,11 +207,7 @@ pub fn fresh() -> Book
             units: [0; APPLICATION_LIMIT],
             count: 0,
         },
-        postings: [Posting {
-            term: 0,
-            price: Ticks(0),
-            fallback: Ticks(0),
-        }; PRODUCT_LIMIT],
+        postings: [Posting::default(); PRODUCT_LIMIT],
         trades: 0,
     }
 }

@@ -1,3 +1,2 @@
--- The laws of headroom's tests, of the claims, and of U's limit.
-pub mod HeadroomLaws
+-- The laws of U's limit.
 pub mod UnpaidLaws

@@ -1,24 +1,17 @@
--- U against its limit, part after part. For the test of it, and for the sums that keep to it. Assumes nothing.
+-- U against its limit. For the sums that keep to it. Assumes nothing.
 use mathlib.Core.Path.{◌≡◌, sym}
-use mathlib.Core.Bool.{true, false, not}
-use Prim.Native.Nat.{ℕ, ◌+◌, ◌-◌, ◌≤◌, ◌<◌}
+use mathlib.Core.Bool.{false, not}
+use Prim.Native.Nat.{ℕ, ◌+◌, ◌≤◌}
 use native.Mathlib.Omega.{arith}
-use borrow.Author.Tests.{lt-ltb, ltb-true, ltb-false, lt-leb, le-leb}
-use lib.Dec.{ltb, leb}
+use borrow.Author.Tests.{ltb-true, ltb-false, lt-leb, le-leb}
+use lib.Dec.{leb}
 use Rattle.rules.specs.Limits.{net_limit}
 use Rattle.rules.specs.Unpaid.{unpaid_sum, passes}
 use Rattle.rules.specs.declared.book.Unpaid.{Unpaid}
 use Rattle.scalars.specs.Scalars.{unless_past}
 use Rattle.rules.proofs.FoldLaws.{by-test}
-use Rattle.scalars.proofs.HeadroomLaws.{same_test}
 
 module _ (unpaid : Unpaid) (amount : ℕ) where
-  pub already-past : net_limit < unpaid_sum unpaid → true ≡ passes amount unpaid
-  already-past h = sym (lt-ltb net_limit (unpaid_sum unpaid + amount) (omega arith))
-
-  pub past-the-room : unpaid_sum unpaid ≤ net_limit → ltb (net_limit - unpaid.cleared.0 - unpaid.today.0) amount ≡ passes amount unpaid
-  past-the-room h = same_test (net_limit - unpaid.cleared.0 - unpaid.today.0) amount net_limit (unpaid_sum unpaid + amount) (λ l. omega arith) (λ l. omega arith)
-
   -- where it does not pass, every sum stays within the limit
   pub within : passes amount unpaid ≡ false → unpaid_sum unpaid + amount ≤ net_limit
   within h = ltb-false net_limit (unpaid_sum unpaid + amount) h

@@ -20,29 +20,19 @@ pub fn is_short(size: Sheets, value: Sheets, outstanding: Sheets) -> bool
 }
 
 // Headroom below a count of sheets.
-#[tactic(auto, using(crate::proofs::HeadroomLaws::none_left))]
 pub fn above_headroom(size: Sheets, value: Sheets, outstanding: Sheets, count: Sheets) -> bool
     ensures { result ≡ lt_z (headroom_of size.0 value.0 outstanding.0) (pos count.0) }
 {
-    let cover = smaller(size, value);
-    if cover < outstanding {
-        return true;
-    }
-    cover.0 - outstanding.0 < count.0
+    let left = smaller(size, value).0.checked_sub(outstanding.0);
+    left.is_none_or(|left| left < count.0)
 }
 
 // Whether V covers the sheets outstanding and U, all in fen: by whole sheets, so that no product leaves 64 bits.
 pub fn covers(value: Sheets, outstanding: Sheets, unpaid: Fen) -> bool
     ensures { result ≡ covers value.0 (claims_of outstanding.0 unpaid.0) }
 {
-    if value < outstanding {
+    let Some(spare) = value.0.checked_sub(outstanding.0) else {
         return false;
-    }
-    let spare = value.0 - outstanding.0;
-    let owed = unpaid.0;
-    let whole = owed / SHEET_FEN;
-    if owed % SHEET_FEN == 0 {
-        return whole <= spare;
-    }
-    whole < spare
+    };
+    unpaid.0.div_ceil(SHEET_FEN) <= spare
 }

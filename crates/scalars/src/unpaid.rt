@@ -7,17 +7,13 @@ use money::units::Fen;
 use rules::book::Unpaid;
 use rules::limits::UNPAID_LIMIT;
 
-// Whether U would pass its limit with an amount more. Each part is compared before it is counted: a book that is not fit may hold any.
+// Whether U would pass its limit with an amount more. A book that is not fit may hold any parts, so a sum past 64 bits stays at the greatest
+// number, which is above the limit.
 pub fn passes(unpaid: Unpaid, amount: Fen) -> bool
     ensures { result ≡ passes amount.0 unpaid }
 {
-    let Some(room) = UNPAID_LIMIT.checked_sub(unpaid.cleared.0) else {
-        return true;
-    };
-    let Some(rest) = room.checked_sub(unpaid.today.0) else {
-        return true;
-    };
-    amount.0 > rest
+    let sum = unpaid.cleared.0.saturating_add(unpaid.today.0);
+    sum.saturating_add(amount.0) > UNPAID_LIMIT
 }
 
 // An early redemption joins the part of today. Here and below, U is as it was where it would pass its limit. The three that follow differ in
