@@ -4,7 +4,6 @@
 // One entry.
 pub mod table;
 
-// Trades copied to numbers and back, the core on a book by value, and the refusal.
+// Trades copied to numbers and back, and the core on a book by value.
 mod copies;
 mod numbers;
-mod refused;

@@ -7,7 +7,7 @@ ghost use Rattle.rules.specs.Limits.{capacity_limit};
 ghost use Rattle.rules.specs.Step.{step};
 ghost use Rattle.ledger.specs.Flat.{HasSlots, trades_to, applied_of};
 
-use crate::{copies, numbers, refused};
+use crate::{copies, numbers};
 use ledger::layout::WIDTH;
 use money::refusal::Refusal;
 use rules::answer::Applied;
@@ -15,6 +15,7 @@ use rules::book::Book;
 use rules::event::Event;
 use rules::limits::CAPACITY_LIMIT;
 use rules::trade::Trade;
+use scalars::done;
 
 // The core on the first `count` trades of a longer row of numbers.
 fn apply_first(
@@ -66,7 +67,7 @@ fn apply_in_numbers(
         (result ≡ applied_of next)
         × (table.new ≡ next.table) }
 {
-    let mut flat = copies::zeros();
+    let mut flat = [0; CAPACITY_LIMIT * WIDTH];
     apply_by(calendar, book, table, &mut flat, entry)
 }
 
@@ -85,7 +86,10 @@ pub fn apply(calendar: &[u32], book: Book, table: &mut [Trade], entry: Option<Ev
 {
     let slots = table.len();
     if slots > CAPACITY_LIMIT {
-        return refused::entry(Refusal::NotFit, book);
+        return Applied {
+            answer: done::answer_of(Refusal::NotFit.into()),
+            book,
+        };
     }
     let used = slots_used(book, slots);
     apply_in_numbers(calendar, book, &mut table[..used], entry)

@@ -66,8 +66,8 @@ pub fn first_trade() {
     ];
     let mut book = rules::book::fresh();
     let mut table = [none; 4];
-    for k in 0..8 {
-        let next = apply(&WEEK, book, table, Some(events[k]));
+    for event in &events {
+        let next = apply(&WEEK, book, table, Some(*event));
         check::expect(next.answer.number == 0);
         book = next.book;
         table = next.table;

@@ -35,8 +35,7 @@ fn write_input(read: &[u8; INPUT_BYTES], size: usize, text: &mut [u8; TEXT_BYTES
     requires { size ≤ length read.now }
     ensures { Lists (length read.now) (take size read.now) text.new result }
 {
-    let room: &[u8] = read;
-    journal::listing::write_listing(&room[..size], text).unwrap()
+    journal::listing::write_listing(&read[..size], text).unwrap()
 }
 
 fn main(rt: HostRuntime) {

@@ -1,4 +1,3 @@
 -- What crosses to C in another form than it has here.
 pub mod Codes
 pub mod Raw
-pub mod Journal

@@ -1,17 +1,19 @@
 -- How long a journal and its listing can be: for callers of write_listing.
 -- Assumes nothing.
-use Rattle.std.specs.Prelude.{◌≡◌, ℕ, zero, suc, ◌*◌, ◌<◌, ◌≤◌, Bool, true, false, cond, eqb, leb, List, ◌∷◌, length, take, drop, Some}
+use Rattle.std.specs.Prelude.{◌≡◌, ℕ, zero, suc, ◌*◌, ◌<◌, ◌≤◌, Bool, true, false, cond, eqb, leb, List, ◌∷◌, length, take, drop, Result, Ok, Err}
 use mathlib.Core.Path.{refl, sym, ap, ◌∙◌}
 use mathlib.Core.Option.{Option, none, some}
 use native.Mathlib.Numerals.{add-one}
 use native.Mathlib.Omega.{arith}
 use borrow.Author.Tests.{le-ltb, leb-true, leb-false}
 use lib.Seq.{take_all, take_at, length-take-le}
+use Rattle.money.specs.declared.refusal.Refusal.{Refusal}
 use Rattle.money.specs.Causes.{first_of}
+use Rattle.money.proofs.Refusals.{not-0}
 use Rattle.rules.specs.Listing.{listing_of}
 use Rattle.journal.specs.Sections.{event_count, calendar_of, events_of, journal_causes}
 use Rattle.journal.specs.Text.{Line, decimal, spaced, signed, line_from, line_text}
-use Rattle.journal.specs.Listing.{lines_text, refused_line, listing_by, listing_text, text_causes, written_length, text_after}
+use Rattle.journal.specs.Listing.{lines_text, refused_line, listing_by, listing_text, Written, text_causes, answer_of, written_of, text_after}
 use Rattle.journal.specs.Limits.{journal_bytes, line_bytes, listing_bytes}
 use Rattle.journal.proofs.TextLaws.{length-decimal, length_spaced, length_line}
 use Rattle.journal.proofs.LineLaws.{no_lines, length_next}
@@ -81,10 +83,20 @@ cut-listing room bytes more = go (leb (length bytes) room) refl
         let cut : length (take room bytes) ≡ room = length-take-le room bytes (omega (arith, long)) in
         too_long (take room bytes) (omega (arith, cut, more)) ∙ sym (too_long bytes (omega (arith, long, more)))
 
+length-told : (told : Result ℕ Refusal) (count : ℕ) → written_of told ≡ record { number = 0; length = count } → told ≡ Ok count
+length-told (Ok told) count e = ap (λ (w : Written). Ok w.length) e
+length-told (Err refusal) count e = absurd (not-0 refusal (ap (λ (w : Written). w.number) e))
+
+listing-given : (bytes text : List ℕ) → listing_bytes ≤ length text → answer_of (listing_text bytes) text ≡ record { number = 0; length = length (listing_text bytes) }
+unfolding answer_of text_causes first_of
+listing-given bytes text h = rw (le-ltb (length text) (length (listing_text bytes)) (omega (arith, listing-high bytes))) refl
+
 -- where there is room for the longest listing, every listing is written
-pub room-for-all : (bytes text : List ℕ) → listing_bytes ≤ length text
-    → (written_length (listing_text bytes) text ≡ Some (length (listing_text bytes))) × (take (length (listing_text bytes)) (text_after (listing_text bytes) text) ≡ listing_text bytes)
-unfolding written_length text_after text_causes first_of
-room-for-all bytes text h =
-    rw (le-ltb (length text) (length (listing_text bytes)) (omega (arith, listing-high bytes)))
-    (refl, take_at (listing_text bytes) _ (length (listing_text bytes)) refl)
+pub room-for-all : (bytes text : List ℕ) (told : Result ℕ Refusal) → listing_bytes ≤ length text → written_of told ≡ answer_of (listing_text bytes) text
+    → (told ≡ Ok (length (listing_text bytes))) × (take (length (listing_text bytes)) (text_after (listing_text bytes) text) ≡ listing_text bytes)
+unfolding text_after text_causes first_of
+room-for-all bytes text told h e = (
+  length-told told _ (e ∙ listing-given bytes text h),
+  rw (le-ltb (length text) (length (listing_text bytes)) (omega (arith, listing-high bytes)))
+      (take_at (listing_text bytes) _ (length (listing_text bytes)) refl),
+)

@@ -1,6 +1,6 @@
 -- The lines of a listing, one more at a time, and the text that holds them: for listing.rt.
 -- Assumes nothing.
-use Rattle.std.specs.Prelude.{◌≡◌, ℕ, zero, suc, ◌+◌, ◌-◌, ◌*◌, ◌/◌, ◌%◌, ◌<◌, ◌≤◌, List, [], ◌∷◌, ◌++◌, length, get_or, take, drop, Some, None}
+use Rattle.std.specs.Prelude.{◌≡◌, ℕ, zero, suc, ◌+◌, ◌-◌, ◌*◌, ◌/◌, ◌%◌, ◌<◌, ◌≤◌, List, [], ◌∷◌, ◌++◌, length, get_or, take, drop, Ok, Err}
 use mathlib.Core.Path.{refl, sym, ap, ◌∙◌}
 use mathlib.Core.Option.{none}
 use native.Mathlib.Nat.{add-zero, zero-add, add-suc, le_refl}
@@ -10,6 +10,7 @@ use borrow.Author.Tests.{lt-ltb, le-ltb, eq-eqb}
 use lib.Dec.{lit<}
 use lib.ListN.{length-append, get_or-append}
 use lib.Seq.{get_or-drop, get_or-take}
+use Rattle.money.specs.declared.refusal.Refusal.TheVariants.{PastLimit}
 use Rattle.money.specs.Causes.{first_of}
 use Rattle.money.specs.Days.{Calendar}
 use Rattle.money.proofs.Refusals.{hit, skip, clear}
@@ -22,7 +23,7 @@ use Rattle.rules.specs.Run.{run}
 use Rattle.rules.specs.Listing.{journal_table, entries_of, line_of, lines_of, listing_of, length_causes, listing_causes, written_by}
 use Rattle.journal.specs.Text.{Line, line_from, line_text}
 use Rattle.journal.specs.Buffer.{placed}
-use Rattle.journal.specs.Listing.{lines_text, text_causes, written_length, text_after}
+use Rattle.journal.specs.Listing.{lines_text, text_causes, answer_of, written_of, text_after}
 
 -- ---- a line's numbers, by place
 
@@ -77,13 +78,13 @@ lines-in-front (suc count) numbers rest h = rw (lines-in-front count numbers res
 
 -- ---- the lent text afterwards
 
-pub too_short : (listing text : List ℕ) → length text < length listing → (None ≡ written_length listing text) × (text ≡ text_after listing text)
-unfolding written_length text_after text_causes
+pub too_short : (listing text : List ℕ) → length text < length listing → (written_of (Err PastLimit) ≡ answer_of listing text) × (text ≡ text_after listing text)
+unfolding answer_of text_after text_causes
 too_short listing text h = rw (hit 14 [] (lt-ltb _ _ h)) (refl, refl)
 
 pub in-front : (listing text text' : List ℕ) (end : ℕ) → length listing ≤ length text → end ≡ length listing → text' ≡ placed text 0 listing
-    → (Some end ≡ written_length listing text) × (text' ≡ text_after listing text)
-unfolding written_length text_after text_causes placed
+    → (written_of (Ok end) ≡ answer_of listing text) × (text' ≡ text_after listing text)
+unfolding answer_of text_after text_causes placed
 in-front listing text text' end h e p = rw (skip 14 [] (le-ltb _ _ h) clear, e) (refl, p ∙ rw (zero-add (length listing)) refl)
 
 -- ---- the book's run

@@ -4,12 +4,35 @@ ghost use Rattle.money.specs.Limits.{calendar_limit};
 ghost use Rattle.rules.specs.Entry.{event_bytes};
 ghost use Rattle.rules.specs.Listing.{event_limit, line_numbers, listing_of};
 ghost use Rattle.journal.specs.Buffer.{placed};
-ghost use Rattle.journal.specs.Listing.{lines_text, refused_line, listing_text, written_length, text_after};
+ghost use Rattle.journal.specs.Listing.{lines_text, refused_line, listing_text, answer_of, written_of, text_after};
 
 use crate::section::{COUNT_BYTES, WORD_BYTES};
 use crate::{calendar, sections, text};
 use money::limits::CALENDAR_LIMIT;
+use money::refusal::Refusal;
 use rules::limits::{EVENT_BYTES, EVENT_LIMIT, LINE_NUMBERS};
+
+// How many bytes were written, as C has it: 0 beside it, or the refusal's number beside 0.
+#[repr(C)]
+#[derive(Clone, Copy)]
+pub struct Written {
+    pub number: u8,
+    pub length: usize,
+}
+
+impl From<Result<usize, Refusal>> for Written {
+    ghost from_gives = { λ answer written. written ≡ written_of answer };
+
+    fn from(answer: Result<usize, Refusal>) -> Written {
+        match answer {
+            Ok(length) => Written { number: 0, length },
+            Err(refusal) => Written {
+                number: refusal.into(),
+                length: 0,
+            },
+        }
+    }
+}
 
 // How many bytes the lines of `count` events take.
 #[tactic(auto, using(crate::proofs::LineLaws::no_lines, crate::proofs::LineLaws::length_next))]
@@ -35,28 +58,28 @@ fn put_lines(text: &mut [u8], lines: &[u64], count: usize)
     }
 }
 
-// The lines of `count` events, where the text has room for all of them; none where it has not, as of each call below.
-fn write_lines(text: &mut [u8], lines: &[u64], count: usize) -> Option<usize>
+// The lines of `count` events, where the text has room for all of them; 14 where it has not, as of each call below.
+fn write_lines(text: &mut [u8], lines: &[u64], count: usize) -> Result<usize, Refusal>
     requires { (count ≤ event_limit) × (count * line_numbers ≤ length lines.now) }
     ensures { let written = lines_text count lines.now in
-        (result ≡ written_length written text.old)
+        (written_of result ≡ answer_of written text.old)
         × (text.new ≡ text_after written text.old) }
 {
     let length = lines_length(lines, count);
     if text.len() < length {
-        return None;
+        return Err(Refusal::PastLimit);
     }
     put_lines(text, lines, count);
-    Some(length)
+    Ok(length)
 }
 
 // The lines of some events' bytes, run on a fresh book.
-fn write_run(calendar: &[u32], events: &[u8], text: &mut [u8]) -> Option<usize>
+fn write_run(calendar: &[u32], events: &[u8], text: &mut [u8]) -> Result<usize, Refusal>
     requires { (length calendar.now ≤ calendar_limit)
         × (length events.now % event_bytes ≡ 0)
         × (length events.now / event_bytes ≤ event_limit) }
     ensures { let written = lines_text (length events.now / event_bytes) (listing_of calendar.now events.now) in
-        (result ≡ written_length written text.old)
+        (written_of result ≡ answer_of written text.old)
         × (text.new ≡ text_after written text.old) }
 {
     let mut lines = [0; EVENT_LIMIT * LINE_NUMBERS];
@@ -65,20 +88,20 @@ fn write_run(calendar: &[u32], events: &[u8], text: &mut [u8]) -> Option<usize>
 }
 
 // The line of a journal that is none.
-fn write_refused(text: &mut [u8]) -> Option<usize>
-    ensures { (result ≡ written_length refused_line text.old) × (text.new ≡ text_after refused_line text.old) }
+fn write_refused(text: &mut [u8]) -> Result<usize, Refusal>
+    ensures { (written_of result ≡ answer_of refused_line text.old) × (text.new ≡ text_after refused_line text.old) }
 {
     if text.len() < 16 {
-        return None;
+        return Err(Refusal::PastLimit);
     }
-    Some(text::put(text, 0, b"journal refused\n"))
+    Ok(text::put(text, 0, b"journal refused\n"))
 }
 
 // The listing of any bytes, in front of a lent text.
 #[tactic(auto, using(crate::proofs::SectionLaws::journal))]
-pub fn write_listing(journal: &[u8], text: &mut [u8]) -> Option<usize>
+pub fn write_listing(journal: &[u8], text: &mut [u8]) -> Result<usize, Refusal>
     ensures { let written = listing_text journal.now in
-        (result ≡ written_length written text.old)
+        (written_of result ≡ answer_of written text.old)
         × (text.new ≡ text_after written text.old) }
 {
     let Some(counts) = sections::sections_of(journal) else {
