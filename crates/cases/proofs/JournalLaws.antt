@@ -1,18 +1,21 @@
 -- Numbers written as bytes one by one, lines compared number by number, and a listing that is not refused.
 -- For the proofs of journal.rt. Assumes nothing.
-use Rattle.std.specs.Prelude.{◌≡◌, ℕ, zero, suc, ◌+◌, ◌-◌, ◌*◌, ◌/◌, ◌%◌, ◌<◌, ◌≤◌, Bool, true, false, not, ltb, List, [], ◌∷◌, ◌++◌, length, get_or, take, drop, set}
+use Rattle.std.specs.Prelude.{◌≡◌, ℕ, zero, suc, ◌+◌, ◌-◌, ◌*◌, ◌/◌, ◌%◌, ◌<◌, ◌≤◌, true, false, not, ltb, List, [], ◌∷◌, ◌++◌, length, get_or, take, drop, set}
 use mathlib.Core.Path.{refl, sym, ap, ◌∙◌}
 use mathlib.Core.List.{append_assoc}
 use mathlib.Core.Option.{Option, none}
 use native.Mathlib.Numerals.{add-one}
 use native.Mathlib.Omega.{arith}
-use borrow.Author.Tests.{le-ltb, eq-eqb, ltb-true, ltb-false}
-use lib.ListN.{length-append, get_or-append}
-use lib.Seq.{sets, length-sets, sets-eq, take_at, take_all, get_or-append-add}
+use mathlib.Core.Bool.{false≢true}
+use Rattle.std.specs.Str.{bytes_eq}
+use Rattle.std.proofs.lemmas.Grind.{same_number_lists}
+use Rattle.std.proofs.lemmas.Slice.Eq.{bytes_eq-Decides}
+use borrow.Author.Tests.{le-ltb, eq-eqb, eqb-true, ltb-true, ltb-false}
+use lib.ListN.{length-append, length-drop, get_or-append}
+use lib.Seq.{sets, length-sets, sets-eq, take_at, take_all, length-take-le, get_or-take, get_or-drop, get_or-append-add}
 use Rattle.money.specs.Causes.{first_of}
 use Rattle.money.specs.Days.{Calendar}
 use Rattle.money.proofs.Refusals.{skip, clear}
-use Rattle.rules.specs.Folds.{all_below}
 use Rattle.rules.specs.declared.book.Book.{Book}
 use Rattle.rules.specs.declared.trade.Trade.{Trade}
 use Rattle.rules.specs.Entry.{Entry}
@@ -20,8 +23,7 @@ use Rattle.rules.specs.Book.{fresh_book}
 use Rattle.rules.specs.Step.{step}
 use Rattle.rules.specs.Run.{run}
 use Rattle.rules.specs.Listing.{journal_table, entries_of, line_of, lines_of, listing_of, length_causes, listing_causes, written_by}
-use Rattle.money.proofs.TwoTests.{both_of}
-use Rattle.rules.proofs.FoldLaws.{by-test, all-at}
+use Rattle.rules.proofs.FoldLaws.{by-test, all-at, all_of}
 use Rattle.cases.specs.Journal.{digit_of, digits_from, digits, bytes_of, same_numbers, ends_with}
 
 -- ---- stores in a row
@@ -98,18 +100,33 @@ byte_at (number ∷ numbers) k h = by-test
     ∙ byte_at numbers (k - 8) (omega arith)
     ∙ rw (next, place) refl)
 
--- ---- tests in a row
+-- ---- numbers compared from a place on
 
-pub none_yet : (p : ℕ → Bool) → all_below 0 p ≡ true
-unfolding all_below
-none_yet p = refl
+module _ (numbers lines : List ℕ) (at : ℕ) (h : at + length lines ≤ length numbers) where
+  there : List ℕ
+  there = take (length lines) (drop at numbers)
 
-pub one-agrees : (p : ℕ → Bool) (k : ℕ) → all_below k p ≡ true → p k ≡ true → all_below (k + 1) p ≡ true
-unfolding all_below
-one-agrees p k h e = rw add-one (both_of (all_below k p) (p k) h e)
+  read-there : (k : ℕ) → k < length lines → get_or there k 0 ≡ get_or numbers (at + k) 0
+  unfolding there
+  read-there k l = get_or-take (length lines) (drop at numbers) k 0 l ∙ get_or-drop at numbers k 0
 
-pub one-differs : (p : ℕ → Bool) (n k : ℕ) → k < n → p k ≡ false → all_below n p ≡ false
-one-differs p n k h e = by-test (λ x. x ≡ false) (all_below n p) (λ t. sym (all-at n p t k h) ∙ e) (λ f. refl)
+  each-same : bytes_eq lines there ≡ true → same_numbers numbers at lines ≡ true
+  unfolding same_numbers
+  each-same e =
+      let same : lines ≡ there = (bytes_eq-Decides lines there).0 e in
+      all_of _ _ (λ k l. eq-eqb _ _ (sym (ap (λ (x : List ℕ). get_or x k 0) same ∙ read-there k l)))
+
+  all-same : same_numbers numbers at lines ≡ true → bytes_eq lines there ≡ true
+  unfolding same_numbers there
+  all-same e =
+      let long : length there ≡ length lines = length-take-le (length lines) (drop at numbers) (omega (arith, length-drop at numbers, h)) in
+      (bytes_eq-Decides lines there).1 (same_number_lists lines there (sym long) (λ k l. sym (read-there k l ∙ eqb-true _ _ (all-at _ _ e k l))))
+
+  pub same_front : bytes_eq lines (take (length lines) (drop at numbers)) ≡ same_numbers numbers at lines
+  unfolding there
+  same_front =
+      by-test (λ x. x ≡ same_numbers numbers at lines) (bytes_eq lines there) (λ t. sym (each-same t))
+      (λ f. by-test (λ x. false ≡ x) (same_numbers numbers at lines) (λ t. absurd (false≢true (sym f ∙ all-same t))) (λ s. refl))
 
 -- ---- numbers written byte by byte
 

@@ -23,17 +23,11 @@ fn write_numbers(bytes: &mut [u8], at: usize, numbers: &[u64])
 }
 
 // Whether the numbers from a place on are those of the lines.
-#[tactic(auto, using(crate::proofs::JournalLaws::none_yet), unfolding(crate::specs::Journal::same_numbers))]
 fn same_numbers(numbers: &[u64], at: usize, lines: &[u64]) -> bool
     requires { at + length lines.now ≤ length numbers.now }
     ensures { result ≡ same_numbers numbers.now at lines.now }
 {
-    for (k, number) in lines.iter().enumerate() {
-        if numbers[at + k] != *number {
-            return false;
-        }
-    }
-    true
+    numbers[at..].starts_with(lines)
 }
 
 // The bytes of a journal in three parts, at the front of a buffer for 48 events.

@@ -10,7 +10,7 @@ use crate::codes::Codes;
 use money::refusal::Refusal;
 use money::units::Sheets;
 use rules::answer::Answer;
-use rules::book::{Cash, Guarantee, Nets, Sums};
+use rules::book::{Cash, Guarantee, Nets, Standing, Sums};
 use scalars::done;
 use scalars::done::Done;
 use scalars::state::Scalars;
@@ -45,10 +45,18 @@ pub struct RawEnded {
     pub raw: RawScalars,
 }
 
-// A book's scalars, whatever their codes: each reads as a case.
-#[tactic(auto, unfolding(crate::specs::Raw::scalars_from))]
-pub fn scalars_from(raw: RawScalars) -> Scalars
-    ensures { result ≡ scalars_from raw }
+// A book's scalars beside where its firm stands, as the codes were read.
+fn standing_in(raw: RawScalars, standing: Standing) -> Scalars
+    ensures { result ≡ record {
+      nets = raw.nets;
+      sums = raw.sums;
+      cash = raw.cash;
+      guarantee = raw.guarantee;
+      size = raw.size;
+      standing = standing;
+      applications = raw.applications;
+      trades = raw.trades;
+    } }
 {
     Scalars {
         nets: raw.nets,
@@ -56,17 +64,27 @@ pub fn scalars_from(raw: RawScalars) -> Scalars
         cash: raw.cash,
         guarantee: raw.guarantee,
         size: raw.size,
-        standing: codes::standing_at(raw.codes),
+        standing,
         applications: raw.applications,
         trades: raw.trades,
     }
 }
 
+// A book's scalars, whatever their codes: each reads as a case.
+#[tactic(auto, unfolding(crate::specs::Raw::scalars_from))]
+pub fn scalars_from(raw: RawScalars) -> Scalars
+    ensures { result ≡ scalars_from raw }
+{
+    standing_in(raw, codes::standing_at(raw.codes))
+}
+
 // The same, if their codes are well-formed.
+#[tactic(auto, unfolding(crate::specs::Raw::scalars_from))]
 pub fn read(raw: RawScalars) -> Option<Scalars>
     ensures { result ≡ (if is_well_formed raw.codes then Some (scalars_from raw) else None) }
 {
-    codes::is_well_formed(raw.codes).then(|| scalars_from(raw))
+    let standing = codes::read(raw.codes)?;
+    Some(standing_in(raw, standing))
 }
 
 #[tactic(auto, unfolding(crate::specs::Raw::raw_of))]
