@@ -9,7 +9,7 @@ ghost use Rattle.journal.specs.Listing.{lines_text, refused_line, listing_text, 
 use crate::section::{COUNT_BYTES, WORD_BYTES};
 use crate::{calendar, sections, text};
 use money::limits::CALENDAR_LIMIT;
-use money::refusal::Refusal;
+use money::refusal::{Refusal, number_of};
 use rules::limits::{EVENT_BYTES, EVENT_LIMIT, LINE_NUMBERS};
 
 // How many bytes were written, as C has it: 0 beside it, or the refusal's number beside 0.
@@ -24,12 +24,9 @@ impl From<Result<usize, Refusal>> for Written {
     ghost from_gives = { λ answer written. written ≡ written_of answer };
 
     fn from(answer: Result<usize, Refusal>) -> Written {
-        match answer {
-            Ok(length) => Written { number: 0, length },
-            Err(refusal) => Written {
-                number: refusal.into(),
-                length: 0,
-            },
+        Written {
+            number: number_of(answer),
+            length: answer.unwrap_or(0),
         }
     }
 }
