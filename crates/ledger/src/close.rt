@@ -217,12 +217,15 @@ pub fn close(
         return Err(Refusal::WrongPhase);
     }
     let plan = next_term::plan_of(calendar, scalars, held, kinds, units, table, known);
-    let at_close = nets::today_at_close(scalars.nets, plan.amount, plan.started);
-    if !nets::today_fit(at_close) {
+    let today = nets::less(nets::plus(scalars.nets.today, plan.amount), plan.started);
+    if !nets::is_fit(today) {
         return Err(Refusal::PastLimit);
     }
-    let cleared = nets::joined(at_close);
-    if !nets::cleared_fit(cleared) {
+    let cleared = nets::joined(Nets {
+        today,
+        ..scalars.nets
+    });
+    if !nets::is_fit(cleared.cleared) {
         return Err(Refusal::PastLimit);
     }
     if unpaid::passes(scalars.sums.unpaid, plan.amount) {

@@ -13,6 +13,7 @@ use crate::{days, flat, nets, redemption, trades};
 use money::limits::PRICE_LIMIT;
 use money::refusal::Refusal;
 use money::units::{Fen, Sheets, Ticks};
+use rules::book::Nets;
 use rules::trade::Contract;
 use scalars::done::Done;
 use scalars::state::Scalars;
@@ -70,12 +71,15 @@ fn early_amount(
         (refusal_of result ≡ first_of (take_causes calendar.now book trades contract count price))
         × IfOk result (λ amount. (amount ≡ fen (early_amount calendar.now book trades contract count price)) × (amount.0 ≤ amount_bound)) }
 {
-    if flat::sheets_at(table, place) < count {
+    let trade = flat::trade_at(table, place);
+    if trade.sheets < count {
         return Err(Refusal::NotEnough);
     }
     let payment = calendar.payment_day(scalars.standing.day);
-    let amount = redemption::redeemed_for(table, place, count, price, payment);
-    if nets::over_plus(scalars.nets, amount) || unpaid::passes(scalars.sums.unpaid, amount) {
+    let amount = redemption::redeemed_for(trade, count, price, payment);
+    if !nets::is_fit(nets::plus(scalars.nets.today, amount))
+        || unpaid::passes(scalars.sums.unpaid, amount)
+    {
         return Err(Refusal::PastLimit);
     }
     Ok(amount)
@@ -103,7 +107,10 @@ pub fn early(
     let left = flat::sheets_at(table, place).0 - count.0;
     flat::put_sheets(table, place, Sheets(left));
     Ok(done::accepted(Scalars {
-        nets: nets::today_plus(scalars.nets, amount),
+        nets: Nets {
+            today: nets::plus(scalars.nets.today, amount),
+            ..scalars.nets
+        },
         ..state::with_unpaid(scalars, unpaid::today_plus(scalars.sums.unpaid, amount))
     }))
 }

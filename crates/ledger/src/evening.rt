@@ -125,7 +125,7 @@ pub fn applications(
 {
     let mut evening = begun;
     for (&kind, &amount) in kinds[..count].iter().zip(&units[..count]) {
-        let kind = Kind::of(kind).unwrap();
+        let kind = Kind::try_from(kind).unwrap();
         let had = vault::had_of(held, evening.guarantee, kind);
         match judged(
             served,

@@ -1,12 +1,12 @@
 // O and V of a book: counted over the table and the vault, or carried over an event that says how it moves them.
-ghost use Rattle.std.specs.Prelude.{◌≡◌, true};
+ghost use Rattle.std.specs.Prelude.{◌≡◌, true, List};
 ghost use Rattle.rules.specs.Vault.{value as value_of};
 ghost use Rattle.rules.specs.Fit.{securities_fit, cash_fit};
-ghost use Rattle.rules.specs.Trades.{in_use, outstanding};
-ghost use Rattle.ledger.specs.Figures.{CountedHeld, figures_at, IsValue, Moved, MovedBy};
+ghost use Rattle.money.specs.Days.{Calendar};
+ghost use Rattle.ledger.specs.Types.{Trade};
+ghost use Rattle.ledger.specs.Figures.{outstanding_at, figures_at, IsValue, Moved, MovedBy};
 ghost use Rattle.ledger.specs.Flat.{FitsHeld, vault_of, securities_of, trades_of};
 
-use crate::days::Calendar;
 use crate::layout::Held;
 use crate::{trades, vault};
 use money::units::Sheets;
@@ -28,8 +28,8 @@ pub struct KnownFigures {
 
 // Counted, over the trades in use and all kinds.
 #[tactic(auto, using(rules::proofs::FitParts::fit_parts))]
-pub fn figures_of(calendar: &Calendar, scalars: Scalars, held: &Held, table: &[u64]) -> Figures
-    requires { FitsHeld calendar.now scalars held.now (trades_of table.now) }
+pub fn figures_of(scalars: Scalars, held: &Held, table: &[u64]) -> Figures
+    requires { (calendar : Calendar) × FitsHeld calendar scalars held.now (trades_of table.now) }
     ensures { result ≡ figures_at scalars held.now (trades_of table.now) }
 {
     Figures {
@@ -45,43 +45,15 @@ pub fn value_known(scalars: Scalars, held: &Held, value: Option<Sheets>) -> Shee
         × (IsValue value (value_of (vault_of scalars.guarantee (securities_of held.now)))) }
     ensures { result.0 ≡ value_of (vault_of scalars.guarantee (securities_of held.now)) }
 {
-    match value {
-        Some(counted) => counted,
-        None => vault::value_of(held, scalars.guarantee),
-    }
-}
-
-// Both, with V counted only where it is not known.
-#[tactic(auto, using(rules::proofs::FitParts::fit_parts))]
-pub fn figures_known(
-    calendar: &Calendar,
-    scalars: Scalars,
-    held: &Held,
-    table: &[u64],
-    known: KnownFigures,
-) -> Figures
-    requires { CountedHeld calendar.now scalars held.now (trades_of table.now) known }
-    ensures { result ≡ figures_at scalars held.now (trades_of table.now) }
-{
-    Figures {
-        outstanding: known.outstanding,
-        value: value_known(scalars, held, known.value),
-    }
+    value.unwrap_or_else(|| vault::value_of(held, scalars.guarantee))
 }
 
 // The vault has changed, and the table has not.
 #[tactic(auto, using(rules::proofs::FitParts::fit_parts))]
-fn revalued(
-    calendar: &Calendar,
-    before: Figures,
-    scalars: Scalars,
-    held: &Held,
-    table: &[u64],
-) -> Figures
-    requires { let trades = trades_of table.now in
-        (FitsHeld calendar.now scalars held.now trades)
-        × (outstanding (in_use scalars.trades trades) ≡ before.outstanding.0) }
-    ensures { result ≡ figures_at scalars held.now (trades_of table.now) }
+fn revalued(before: Figures, scalars: Scalars, held: &Held) -> Figures
+    requires { (securities_fit (vault_of scalars.guarantee (securities_of held.now)) ≡ true)
+        × (cash_fit scalars.cash scalars.guarantee ≡ true) }
+    ensures { (table : List Trade) → before.outstanding.0 ≡ outstanding_at scalars table → result ≡ figures_at scalars held.now table }
 {
     Figures {
         value: vault::value_of(held, scalars.guarantee),
@@ -92,7 +64,6 @@ fn revalued(
 // After an event that is done: no trade is looked at where the event itself tells what it adds or takes.
 #[tactic(auto, using(rules::proofs::FitParts::fit_parts))]
 fn figures_moved(
-    calendar: &Calendar,
     before: Figures,
     event: Event,
     scalars: Scalars,
@@ -100,7 +71,7 @@ fn figures_moved(
     table: &[u64],
 ) -> Figures
     requires { let trades = trades_of table.now in
-        (FitsHeld calendar.now scalars held.now trades)
+        ((calendar : Calendar) × FitsHeld calendar scalars held.now trades)
         × (Moved event before (figures_at scalars held.now trades)) }
     ensures { result ≡ figures_at scalars held.now (trades_of table.now) }
 {
@@ -109,13 +80,15 @@ fn figures_moved(
             outstanding: trades::outstanding_of(table, scalars.trades),
             ..before
         },
-        Event::FundIn(_, _) => before,
-        Event::FundOut(_, _) => before,
-        Event::Size(_) => before,
-        Event::Rate(_, _) => revalued(calendar, before, scalars, held, table),
-        Event::Pledge(_, _) => revalued(calendar, before, scalars, held, table),
-        Event::Freeze(_, _) => revalued(calendar, before, scalars, held, table),
-        Event::Withdraw(_, _) => before,
+        Event::FundIn(_, _)
+        | Event::FundOut(_, _)
+        | Event::Size(_)
+        | Event::Withdraw(_, _)
+        | Event::Pay
+        | Event::Post(_, _) => before,
+        Event::Rate(_, _) | Event::Pledge(_, _) | Event::Freeze(_, _) => {
+            revalued(before, scalars, held)
+        }
         Event::Initial(terms) => {
             let more = before.outstanding.0 + terms.sheets.0;
             Figures {
@@ -130,16 +103,13 @@ fn figures_moved(
                 ..before
             }
         }
-        Event::Pay => before,
-        Event::Close => figures_of(calendar, scalars, held, table),
-        Event::Post(_, _) => before,
+        Event::Close => figures_of(scalars, held, table),
     }
 }
 
 // After any entry: what is turned down, or fails to be paid, moves nothing.
 #[tactic(auto, using(crate::proofs::FigureLaws::unmoved))]
 pub fn figures_after(
-    calendar: &Calendar,
     before: Figures,
     entry: Option<Event>,
     number: u8,
@@ -148,7 +118,7 @@ pub fn figures_after(
     table: &[u64],
 ) -> Figures
     requires { let trades = trades_of table.now in
-        (FitsHeld calendar.now scalars held.now trades)
+        ((calendar : Calendar) × FitsHeld calendar scalars held.now trades)
         × (MovedBy entry number before (figures_at scalars held.now trades)) }
     ensures { result ≡ figures_at scalars held.now (trades_of table.now) }
 {
@@ -158,5 +128,5 @@ pub fn figures_after(
     let Some(event) = entry else {
         return before;
     };
-    figures_moved(calendar, before, event, scalars, held, table)
+    figures_moved(before, event, scalars, held, table)
 }

@@ -10,7 +10,7 @@ ghost use Rattle.ledger.specs.Figures.{outstanding_at, IsFitWith, latest_first, 
 use crate::days::Calendar;
 use crate::layout::{Held, Kinds, Units};
 use crate::trades::Summary;
-use crate::{layout, nets, postings, trades, vault};
+use crate::{flat, nets, postings, trades, vault};
 use money::units::{Fen, Sheets};
 use rules::book::{Nets, Standing, Sums};
 use rules::limits::{CAPACITY_LIMIT, SIZE_LIMIT};
@@ -21,11 +21,8 @@ use scalars::unpaid;
 fn capacity_fit(count: usize, table: &[u64]) -> bool
     ensures { result ≡ capacity_fit count (trades_of table.now) }
 {
-    let slots = table.len() / layout::WIDTH;
-    if slots > CAPACITY_LIMIT {
-        return false;
-    }
-    count <= slots
+    let slots = flat::slots(table);
+    slots <= CAPACITY_LIMIT && count <= slots
 }
 
 // S is within its limit, and the sheets left within S.
@@ -33,20 +30,14 @@ fn capacity_fit(count: usize, table: &[u64]) -> bool
 fn size_fit(size: Sheets, outstanding: Sheets) -> bool
     ensures { result ≡ size_fit size.0 outstanding.0 }
 {
-    if size.0 > SIZE_LIMIT {
-        return false;
-    }
-    outstanding <= size
+    size.0 <= SIZE_LIMIT && outstanding <= size
 }
 
 #[tactic(auto, using(crate::proofs::Fitting::refuted, crate::proofs::Fitting::upheld), unfolding(rules::specs::Fit::nets_fit, money::specs::Causes::first_of))]
 fn nets_fit(nets: Nets) -> bool
     ensures { result ≡ nets_fit nets }
 {
-    if !nets::today_fit(nets) {
-        return false;
-    }
-    nets::cleared_fit(nets)
+    nets::is_fit(nets.today) && nets::is_fit(nets.cleared)
 }
 
 #[tactic(auto, unfolding(rules::specs::Fit::sums_fit, money::specs::Causes::first_of))]
@@ -61,10 +52,7 @@ fn sums_fit(sums: Sums) -> bool
 fn unopened_fit(standing: Standing, count: usize) -> bool
     ensures { result ≡ unopened_fit standing.phase count }
 {
-    if !standing.is_closed() {
-        return false;
-    }
-    count == 0
+    standing.is_closed() && count == 0
 }
 
 // The day trades, another follows, and no first payment day is past today's payment day: the latest is not.
@@ -72,13 +60,9 @@ fn unopened_fit(standing: Standing, count: usize) -> bool
 fn opened_fit(calendar: &Calendar, today: u32, latest: u32) -> bool
     ensures { (trades : List Trade) → latest ≡ latest_first trades → result ≡ opened_fit calendar.now today trades }
 {
-    if !calendar.trades_on(today) {
-        return false;
-    }
-    if !calendar.has_next(today) {
-        return false;
-    }
-    latest <= calendar.payment_day(Some(today))
+    calendar.trades_on(today)
+        && calendar.has_next(today)
+        && latest <= calendar.payment_day(Some(today))
 }
 
 fn day_fit(calendar: &Calendar, standing: Standing, count: usize, latest: u32) -> bool
@@ -112,20 +96,11 @@ fn others_fit(
         ∷ day_fit calendar.now scalars.standing.day scalars.standing.phase trades scalars.trades
         ∷ []) }
 {
-    if !nets_fit(scalars.nets) {
-        return false;
-    }
-    if !sums_fit(scalars.sums) {
-        return false;
-    }
-    let count = scalars.trades;
-    if !trades::contracts_differ(table, count) {
-        return false;
-    }
-    if !vault::withdrawals_fit(kinds, units, scalars.applications) {
-        return false;
-    }
-    day_fit(calendar, scalars.standing, count, latest)
+    nets_fit(scalars.nets)
+        && sums_fit(scalars.sums)
+        && trades::contracts_differ(table, scalars.trades)
+        && vault::withdrawals_fit(kinds, units, scalars.applications)
+        && day_fit(calendar, scalars.standing, scalars.trades, latest)
 }
 
 // The tests of a table with room for its trades, each within its limits, from what one walk over these tells.

@@ -25,18 +25,16 @@ pub fn sheets_at(table: &[u64], place: usize) -> Sheets
 }
 
 // Prices and days have 32 bits, and stand two to a number: this is the lower half, and below it the upper.
-pub fn lower_at(table: &[u64], at: usize) -> u32
-    requires { at < length table.now }
-    ensures { result ≡ lower (slice_index table.now at) }
+pub fn lower(number: u64) -> u32
+    ensures { result ≡ lower number }
 {
-    (table[at] % 4_294_967_296) as u32
+    (number & 0xffff_ffff) as u32
 }
 
-pub fn upper_at(table: &[u64], at: usize) -> u32
-    requires { at < length table.now }
-    ensures { result ≡ upper (slice_index table.now at) }
+pub fn upper(number: u64) -> u32
+    ensures { result ≡ upper number }
 {
-    (table[at] >> 32) as u32
+    (number >> 32) as u32
 }
 
 pub fn paired(low: u32, high: u32) -> u64
@@ -46,43 +44,11 @@ pub fn paired(low: u32, high: u32) -> u64
 }
 
 #[tactic(auto, unfolding(crate::specs::Flat::trade_at, money::specs::Causes::first_of))]
-pub fn price_at(table: &[u64], place: usize) -> Ticks
-    requires { HasSlot table.now place }
-    ensures { result ≡ (trade_at table.now place).price }
-{
-    Ticks(lower_at(table, place * layout::WIDTH + 2))
-}
-
-#[tactic(auto, unfolding(crate::specs::Flat::trade_at, money::specs::Causes::first_of))]
-pub fn fallback_at(table: &[u64], place: usize) -> Ticks
-    requires { HasSlot table.now place }
-    ensures { result ≡ (trade_at table.now place).fallback }
-{
-    Ticks(upper_at(table, place * layout::WIDTH + 2))
-}
-
-#[tactic(auto, unfolding(crate::specs::Flat::trade_at, money::specs::Causes::first_of))]
-pub fn first_at(table: &[u64], place: usize) -> u32
-    requires { HasSlot table.now place }
-    ensures { result ≡ (trade_at table.now place).first }
-{
-    lower_at(table, place * layout::WIDTH + 3)
-}
-
-#[tactic(auto, unfolding(crate::specs::Flat::trade_at, money::specs::Causes::first_of))]
 pub fn due_at(table: &[u64], place: usize) -> u32
     requires { HasSlot table.now place }
     ensures { result ≡ (trade_at table.now place).due }
 {
-    upper_at(table, place * layout::WIDTH + 3)
-}
-
-#[tactic(auto, unfolding(crate::specs::Flat::trade_at, money::specs::Causes::first_of))]
-pub fn product_at(table: &[u64], place: usize) -> u64
-    requires { HasSlot table.now place }
-    ensures { result ≡ (trade_at table.now place).product }
-{
-    table[place * layout::WIDTH + 4]
+    upper(table[place * layout::WIDTH + 3])
 }
 
 pub fn put_sheets(table: &mut [u64], place: usize, count: Sheets)
@@ -127,18 +93,22 @@ pub fn slots(table: &[u64]) -> usize
     table.len() / layout::WIDTH
 }
 
+#[tactic(auto, unfolding(crate::specs::Flat::trade_at))]
 pub fn trade_at(table: &[u64], place: usize) -> Trade
     requires { HasSlot table.now place }
     ensures { result ≡ trade_at table.now place }
 {
+    let from = place * layout::WIDTH;
+    let prices = table[from + 2];
+    let days = table[from + 3];
     Trade {
-        contract: contract_at(table, place),
-        sheets: sheets_at(table, place),
-        price: price_at(table, place),
-        fallback: fallback_at(table, place),
-        first: first_at(table, place),
-        due: due_at(table, place),
-        product: product_at(table, place),
+        contract: Contract(table[from]),
+        sheets: Sheets(table[from + 1]),
+        price: Ticks(lower(prices)),
+        fallback: Ticks(upper(prices)),
+        first: lower(days),
+        due: upper(days),
+        product: table[from + 4],
     }
 }
 

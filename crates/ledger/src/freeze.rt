@@ -23,7 +23,7 @@ fn freeze_refusal(scalars: Scalars, held: &Held, kind: u8, units: u64) -> Result
         refusal_of result ≡ first_of (freeze_causes (book_of scalars (rows_of held.now kinds amounts)) kind units) }
     ensures read { IfOk result (λ read. kind_number read ≡ kind) }
 {
-    let kind = Kind::of(kind).ok_or(Refusal::UnknownKind)?;
+    let kind = Kind::try_from(kind)?;
     if vault::had_of(held, scalars.guarantee, kind).effective < units {
         return Err(Refusal::NotEnough);
     }

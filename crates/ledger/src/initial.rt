@@ -18,6 +18,7 @@ use crate::{days, figures, flat, nets, postings, prices, trades};
 use money::limits::TRADE_LIMIT;
 use money::refusal::Refusal;
 use money::units::{Fen, Sheets};
+use rules::book::Nets;
 use rules::limits::{AHEAD_LIMIT, PRODUCT_LIMIT};
 use rules::trade::{Contract, Terms, Trade};
 use scalars::done::Done;
@@ -35,13 +36,7 @@ fn bad_due(calendar: &Calendar, day: Option<u32>, due: u32) -> bool
     ensures { result ≡ bad_due calendar.now (day_number day) due }
 {
     let today = days::day_number(day);
-    if due <= today {
-        return true;
-    }
-    if due > today + AHEAD_LIMIT {
-        return true;
-    }
-    !calendar.matures(due)
+    due <= today || due > today + AHEAD_LIMIT || !calendar.matures(due)
 }
 
 fn is_taken(table: &[u64], count: usize, contract: Contract) -> bool
@@ -78,8 +73,8 @@ fn lacks_headroom(
     ensures { (kinds units : List ℕ) →
         result ≡ int_lt (headroom (book_of scalars (rows_of held.now kinds units)) (trades_of table.now)) (pos count.0) }
 {
-    let figures = figures::figures_known(calendar, scalars, held, table, known);
-    headroom::above_headroom(scalars.size, figures.value, figures.outstanding, count)
+    let value = figures::value_known(scalars, held, known.value);
+    headroom::above_headroom(scalars.size, value, known.outstanding, count)
 }
 
 // The causes, group by group as the rules have them: a trade's product, when it may begin, its prices and its due day, the table's room,
@@ -163,7 +158,7 @@ fn sheet_refusal(
     if lacks_headroom(calendar, scalars, held, table, known, count) {
         return Err(Refusal::AboveHeadroom);
     }
-    if nets::over_less(scalars.nets, principal_of(count)) {
+    if !nets::is_fit(nets::less(scalars.nets.today, principal_of(count))) {
         return Err(Refusal::PastLimit);
     }
     Ok(())
@@ -228,6 +223,9 @@ pub fn initial(
     initial_refusal(calendar, scalars, held, table, known, terms)?;
     let place = scalars.trades;
     flat::put_trade(table, place, begun_trade(calendar, scalars, terms));
-    let nets = nets::today_less(scalars.nets, principal_of(terms.sheets));
+    let nets = Nets {
+        today: nets::less(scalars.nets.today, principal_of(terms.sheets)),
+        ..scalars.nets
+    };
     Ok(done::accepted(state::with_nets_and_trades(scalars, nets, place + 1)))
 }

@@ -1,8 +1,9 @@
 // The kinds of collateral by name: the securities, 0 to 31, and guarantee cash, 32.
-ghost use Rattle.std.specs.Prelude.{◌≡◌, ◌<◌, ◌≤◌, MatchOption};
+ghost use Rattle.std.specs.Prelude.{◌≡◌, ◌<◌};
 ghost use Rattle.money.specs.Collateral.{cash_kind};
 
 use money::limits::CASH_KIND;
+use money::refusal::Refusal;
 
 #[derive(Clone, Copy)]
 pub struct SecurityNumber {
@@ -17,32 +18,47 @@ pub enum Kind {
 }
 
 impl SecurityNumber {
-    // Of a number known to be one. A closure proves no ghost field of what it makes, so a walk over the securities asks for each here.
+    // For a walk over all securities: a closure that writes the literal cannot show its ghost field.
     pub fn new(number: u8) -> SecurityNumber
         requires { number < cash_kind }
         ensures { result.number ≡ number }
     {
         SecurityNumber { number }
     }
+}
 
-    pub fn of(number: u8) -> Option<SecurityNumber>
-        ensures { MatchOption result (cash_kind ≤ number) (λ security. security.number ≡ number) }
-    {
-        (number < CASH_KIND).then(|| SecurityNumber::new(number))
+impl TryFrom<u8> for SecurityNumber {
+    type Error = Refusal;
+
+    ghost use Rattle.ledger.specs.Kind.{NamesSecurity};
+
+    ghost try_from_gives = { NamesSecurity };
+
+    fn try_from(number: u8) -> Result<SecurityNumber, Refusal> {
+        if number >= CASH_KIND {
+            return Err(Refusal::UnknownKind);
+        }
+        Ok(SecurityNumber { number })
+    }
+}
+
+impl TryFrom<u8> for Kind {
+    type Error = Refusal;
+
+    ghost use Rattle.ledger.specs.Kind.{NamesKind};
+
+    ghost try_from_gives = { NamesKind };
+
+    fn try_from(number: u8) -> Result<Kind, Refusal> {
+        if number == CASH_KIND {
+            return Ok(Kind::Cash);
+        }
+        Ok(Kind::Security(SecurityNumber::try_from(number)?))
     }
 }
 
 impl Kind {
     ghost use Rattle.ledger.specs.Kind.{kind_number};
-
-    pub fn of(number: u8) -> Option<Kind>
-        ensures { MatchOption result (cash_kind < number) (λ kind. kind_number kind ≡ number) }
-    {
-        if number == CASH_KIND {
-            return Some(Kind::Cash);
-        }
-        SecurityNumber::of(number).map(Kind::Security)
-    }
 
     pub fn number(self) -> u8
         ensures { result ≡ kind_number self }

@@ -102,7 +102,7 @@ pub fn cover(
     };
     let calendar = Calendar::of(calendar).unwrap();
     let held: &Held = held.as_array().unwrap();
-    let figures = figures::figures_of(&calendar, scalars, held, table);
+    let figures = figures::figures_of(scalars, held, table);
     Ok(cover::cover_from(scalars.size, figures))
 }
 

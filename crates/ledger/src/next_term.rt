@@ -6,7 +6,7 @@ ghost use Rattle.rules.specs.Limits.{product_limit};
 ghost use Rattle.rules.specs.Book.{is_normal};
 ghost use Rattle.rules.specs.Days.{today as today_of, payment_day};
 ghost use Rattle.rules.specs.Vault.{value as value_of};
-ghost use Rattle.rules.specs.Fit.{securities_fit, cash_fit};
+ghost use Rattle.rules.specs.Fit.{securities_fit, cash_fit, trade_fit};
 ghost use Rattle.rules.specs.Trades.{outstanding as outstanding_of, over};
 ghost use Rattle.rules.specs.NextTerm.{starts, next_term, with_started, in_slot, left_from, started_from};
 ghost use Rattle.ledger.specs.Types.{Book, Trade};
@@ -85,23 +85,20 @@ fn closing_of(
 fn next_term(
     calendar: &Calendar,
     held: &Held,
-    table: &[u64],
-    place: usize,
+    trade: Trade,
     closing: Closing,
     outstanding: Sheets,
 ) -> Option<Trade>
-    requires { (Renewable calendar.now closing held.now) × (FitAt table.now place) }
-    ensures { let trade = trade_at table.now place in
-        ((book : Book) →
+    requires { (Renewable calendar.now closing held.now) × (trade_fit trade ≡ true) }
+    ensures { (book : Book) →
         Meets calendar.now book closing held.now
-        → result ≡ then_some (starts calendar.now book outstanding.0 trade) (next_term calendar.now book trade)) }
+        → result ≡ then_some (starts calendar.now book outstanding.0 trade) (next_term calendar.now book trade) }
 {
-    let sheets = redemption::maturing_at(table, place, closing.today);
+    let sheets = redemption::maturing(trade, closing.today);
     if sheets.0 == 0 {
         return None;
     }
-    let product = flat::product_at(table, place);
-    let posting = postings::posted(held, product as usize)?;
+    let posting = postings::posted(held, trade.product as usize)?;
     let due = closing.today + posting.term as u32;
     if !calendar.matures(due) {
         return None;
@@ -110,13 +107,12 @@ fn next_term(
         return None;
     }
     Some(Trade {
-        contract: flat::contract_at(table, place),
         sheets,
         price: posting.price,
         fallback: posting.fallback,
         first: closing.payment,
         due,
-        product,
+        ..trade
     })
 }
 
@@ -141,7 +137,8 @@ pub fn outstanding_after(
     };
     let mut sum = matured;
     for place in 0..count {
-        if let Some(next) = next_term(calendar, held, table, place, closing, sum) {
+        let trade = flat::trade_at(table, place);
+        if let Some(next) = next_term(calendar, held, trade, closing, sum) {
             sum = Sheets(sum.0 + next.sheets.0);
         }
     }
@@ -168,7 +165,8 @@ fn settle_slot(
         (result.0 ≡ with_started started book trade outstanding.0)
         × (trades_of table.new ≡ slice_set (trades_of table.old) place (in_slot started calendar.now book trade))) }
 {
-    let Some(next) = next_term(calendar, held, table, place, closing, outstanding) else {
+    let trade = flat::trade_at(table, place);
+    let Some(next) = next_term(calendar, held, trade, closing, outstanding) else {
         redemption::redeem_one(table, place, closing.today);
         return outstanding;
     };

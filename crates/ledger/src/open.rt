@@ -13,7 +13,7 @@ use crate::layout::Held;
 use crate::{nets, postings, redemption};
 use money::refusal::Refusal;
 use money::units::Fen;
-use rules::book::{Phase, Standing};
+use rules::book::{Nets, Phase, Standing};
 use scalars::done::Done;
 use scalars::state::Scalars;
 use scalars::{done, state, status, unpaid};
@@ -65,14 +65,17 @@ fn terminated(
         × (refusal_of result ≡ cause)) }
 {
     let amount = fallback_sum(calendar, scalars, table, after);
-    let with_fallbacks = nets::cleared_plus(scalars.nets, amount);
-    if !nets::cleared_fit(with_fallbacks) || unpaid::passes(scalars.sums.unpaid, amount) {
+    let cleared = nets::plus(scalars.nets.cleared, amount);
+    if !nets::is_fit(cleared) || unpaid::passes(scalars.sums.unpaid, amount) {
         return Err(Refusal::PastLimit);
     }
     // every due day has 32 bits, so every trade is due by the last of them
     redemption::redeem_due(table, scalars.trades, u32::MAX);
     Ok(done::accepted(Scalars {
-        nets: with_fallbacks,
+        nets: Nets {
+            cleared,
+            ..scalars.nets
+        },
         standing: after,
         ..state::with_unpaid(scalars, unpaid::cleared_plus(scalars.sums.unpaid, amount))
     }))

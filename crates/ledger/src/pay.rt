@@ -43,9 +43,7 @@ fn falls_short(nets: Nets, cash: Cash) -> bool
     requires { net_fit nets.cleared.0 ≡ true }
     ensures { result ≡ nat_lt (payer_holds nets.cleared.0 cash) (unsigned_abs nets.cleared.0) }
 {
-    let held = payer_holds(nets, cash);
-    let due = nets::net_due(nets);
-    held < due
+    payer_holds(nets, cash) < nets::net_due(nets)
 }
 
 // The net due moves from the payer's account to the other.

@@ -37,7 +37,7 @@ fn pledge_refusal(scalars: Scalars, held: &Held, kind: u8, units: u64) -> Result
         refusal_of result ≡ first_of (pledge_causes (book_of scalars (rows_of held.now kinds amounts)) kind units) }
     ensures read { IfOk result (λ read. kind_number read ≡ kind) }
 {
-    let kind = Kind::of(kind).ok_or(Refusal::UnknownKind)?;
+    let kind = Kind::try_from(kind)?;
     if !scalars.standing.is_trading() {
         return Err(Refusal::WrongPhase);
     }

@@ -24,8 +24,8 @@ pub fn posting_at(held: &Held, number: usize) -> Posting
     let at = POSTINGS_FROM + number * POSTING_WIDTH;
     Posting {
         term: held[at],
-        price: Ticks(flat::lower_at(held, at + 1)),
-        fallback: Ticks(flat::upper_at(held, at + 1)),
+        price: Ticks(flat::lower(held[at + 1])),
+        fallback: Ticks(flat::upper(held[at + 1])),
     }
 }
 

@@ -21,7 +21,7 @@ fn rate_refusal(kind: u8, rate: u64) -> Result<SecurityNumber, Refusal>
     ensures cause { refusal_of result ≡ first_of (rate_causes kind rate) }
     ensures read { IfOk result (λ read. read.number ≡ kind) }
 {
-    let at = SecurityNumber::of(kind).ok_or(Refusal::UnknownKind)?;
+    let at = SecurityNumber::try_from(kind)?;
     if rate > RATE_LIMIT {
         return Err(Refusal::PastLimit);
     }

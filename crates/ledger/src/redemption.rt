@@ -10,6 +10,7 @@ ghost use Rattle.ledger.specs.Redemption.{IsPart, IsWithin, redeemed_of, maturit
 
 use crate::flat;
 use money::units::{Fen, Sheets, Ticks};
+use rules::trade::Trade;
 
 // What Close or Open redeems: the sheets, and what is paid for them.
 #[derive(Clone, Copy)]
@@ -19,47 +20,47 @@ pub struct Redeemed {
 }
 
 // What some sheets of a trade are redeemed for, with no division where there are none.
-pub fn redeemed_for(table: &[u64], place: usize, count: Sheets, price: Ticks, payment: u32) -> Fen
-    requires has_slot { (HasSlot table.now place) × (count.0 ≤ trade_limit) × (price.0 ≤ price_limit) }
-    requires place_bound { ((trade_at table.now place).first ≤ payment) × (payment ≤ term_limit) }
-    ensures { result ≡ fen (redeemed payment count.0 price (trade_at table.now place)) }
+pub fn redeemed_for(trade: Trade, count: Sheets, price: Ticks, payment: u32) -> Fen
+    requires within { (count.0 ≤ trade_limit) × (price.0 ≤ price_limit) }
+    requires days { (trade.first ≤ payment) × (payment ≤ term_limit) }
+    ensures { result ≡ fen (redeemed payment count.0 price trade) }
 {
     if count.0 == 0 {
         return Fen(0);
     }
-    let days = payment - flat::first_at(table, place);
-    money::amounts::redemption(count, price, days).unwrap()
+    money::amounts::redemption(count, price, payment - trade.first).unwrap()
 }
 
-pub fn maturing_at(table: &[u64], place: usize, today: u32) -> Sheets
-    requires { HasSlot table.now place }
-    ensures { result ≡ sheets (maturing today (trade_at table.now place)) }
+// The sheets of a trade that are due by a day.
+pub fn maturing(trade: Trade, today: u32) -> Sheets
+    ensures { result ≡ sheets (maturing today trade) }
 {
-    if flat::due_at(table, place) > today {
+    if trade.due > today {
         return Sheets(0);
     }
-    flat::sheets_at(table, place)
+    trade.sheets
 }
 
-// Of each trade so many sheets at a price, as `part` tells both of a place.
-fn plan<F: Fn(usize) -> (Sheets, Ticks)>(
+// Of each trade so many sheets at a price, as `part` tells both.
+fn plan<F: Fn(Trade) -> (Sheets, Ticks)>(
     table: &[u64],
     count: usize,
     payment: u32,
     part: F,
 ) -> Redeemed
     requires redeemable { Redeemable table.now count payment }
-    requires can { (place : ℕ) → place < count → F.pre part place }
-    requires within { (place : ℕ) (told : _) → place < count → F.post part place told → IsWithin (trade_at table.now place) told }
+    requires can { (place : ℕ) → place < count → F.pre part (trade_at table.now place) }
+    requires within { (place : ℕ) (told : _) → place < count → F.post part (trade_at table.now place) told → IsWithin (trade_at table.now place) told }
     ensures { (count_of : Trade → ℕ) (price_of : Trade → Ticks)
-        → ((place : ℕ) (told : _) → place < count → F.post part place told → IsPart count_of price_of (trade_at table.now place) told)
+        → ((place : ℕ) (told : _) → place < count → F.post part (trade_at table.now place) told → IsPart count_of price_of (trade_at table.now place) told)
         → result ≡ redeemed_of count_of price_of payment (trades_to table.now count) }
 {
     let mut sheets = 0;
     let mut amount = 0;
     for place in 0..count {
-        let (redeemed, price) = part(place);
-        let paid = redeemed_for(table, place, redeemed, price, payment);
+        let trade = flat::trade_at(table, place);
+        let (redeemed, price) = part(trade);
+        let paid = redeemed_for(trade, redeemed, price, payment);
         sheets += redeemed.0;
         amount += paid.0;
     }
@@ -78,10 +79,7 @@ pub fn maturity_plan(table: &[u64], count: usize, today: u32, payment: u32) -> R
         table,
         count,
         payment,
-        |place| (
-            maturing_at(table, place, today),
-            flat::price_at(table, place),
-        ),
+        |trade| (maturing(trade, today), trade.price),
     )
 }
 
@@ -94,10 +92,7 @@ pub fn termination_plan(table: &[u64], count: usize, payment: u32) -> Redeemed
         table,
         count,
         payment,
-        |place| (
-            flat::sheets_at(table, place),
-            flat::fallback_at(table, place),
-        ),
+        |trade| (trade.sheets, trade.fallback),
     )
 }
 
@@ -105,9 +100,8 @@ pub fn redeem_one(table: &mut [u64], place: usize, by: u32)
     requires { HasSlot table.old place }
     ensures { trades_of table.new ≡ slice_set (trades_of table.old) place (matured by (trade_at table.old place)) }
 {
-    let due = maturing_at(table, place, by);
-    let had = flat::sheets_at(table, place);
-    let left = had.0 - due.0;
+    let trade = flat::trade_at(table, place);
+    let left = trade.sheets.0 - maturing(trade, by).0;
     flat::put_sheets(table, place, Sheets(left));
 }
 

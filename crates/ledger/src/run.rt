@@ -61,21 +61,12 @@ fn run_event(
         },
         entry,
     );
-    let answer = done.answer;
-    let after = done.scalars;
-    let next = figures::figures_after(calendar, figures, entry, answer.number, after, held, table);
-    line::write_line(
-        lines,
-        at,
-        answer.number,
-        after.size,
-        next,
-        after.cash,
-        after.guarantee,
-    );
+    let left = done.scalars;
+    let after = figures::figures_after(figures, entry, done.answer.number, left, held, table);
+    lines[at..at + LINE_NUMBERS].copy_from_slice(&line::line_of(done, after));
     Turn {
-        scalars: after,
-        figures: next,
+        scalars: left,
+        figures: after,
     }
 }
 
@@ -99,7 +90,7 @@ pub fn run_events(
         × (trades_of table.new ≡ ended.table)
         × (lines.new ≡ ended.lines) }
 {
-    let figures = figures::figures_of(calendar, scalars, held, table);
+    let figures = figures::figures_of(scalars, held, table);
     let mut turn = Turn { scalars, figures };
     for (k, bytes) in events.chunks_exact(EVENT_BYTES).enumerate() {
         turn = run_event(

@@ -12,7 +12,7 @@ use crate::{chains, flat};
 use money::limits::{PRICE_LIMIT, TRADE_LIMIT};
 use money::units::Sheets;
 use rules::limits::{CAPACITY_LIMIT, PRODUCT_LIMIT};
-use rules::trade::Contract;
+use rules::trade::{Contract, Trade};
 use sort::order;
 
 // Up to so many trades each is searched among those before it.
@@ -111,14 +111,13 @@ pub fn contracts_differ(table: &[u64], count: usize) -> bool
 }
 
 #[tactic(auto, unfolding(rules::specs::Folds::every))]
-fn trade_fits(table: &[u64], place: usize) -> bool
-    requires { HasSlot table.now place }
-    ensures { result ≡ trade_fit (trade_at table.now place) }
+fn trade_fits(trade: Trade) -> bool
+    ensures { result ≡ trade_fit trade }
 {
-    flat::sheets_at(table, place).0 <= TRADE_LIMIT
-        && flat::price_at(table, place).0 <= PRICE_LIMIT
-        && flat::fallback_at(table, place).0 <= PRICE_LIMIT
-        && flat::product_at(table, place) <= PRODUCTS
+    trade.sheets.0 <= TRADE_LIMIT
+        && trade.price.0 <= PRICE_LIMIT
+        && trade.fallback.0 <= PRICE_LIMIT
+        && trade.product <= PRODUCTS
 }
 
 // What one walk tells of trades that are each within their limits: O and the latest first payment day.
@@ -137,12 +136,12 @@ pub fn summary_of(table: &[u64], count: usize) -> Option<Summary>
     let mut outstanding = 0;
     let mut latest = 0;
     for place in 0..count {
-        if !trade_fits(table, place) {
+        let trade = flat::trade_at(table, place);
+        if !trade_fits(trade) {
             return None;
         }
-        let left = flat::sheets_at(table, place);
-        outstanding += left.0;
-        latest = latest.max(flat::first_at(table, place));
+        outstanding += trade.sheets.0;
+        latest = latest.max(trade.first);
     }
     Some(Summary {
         outstanding: Sheets(outstanding),

@@ -54,7 +54,7 @@ fn withdraw_refusal(
         let cause = first_of (withdraw_causes book kind count) in
         refusal_of result ≡ cause }
 {
-    let kind = Kind::of(kind).ok_or(Refusal::UnknownKind)?;
+    let kind = Kind::try_from(kind)?;
     if !scalars.standing.is_trading() {
         return Err(Refusal::WrongPhase);
     }

@@ -1,4 +1,6 @@
-use Rattle.std.specs.Prelude.{not, nat_abs}
+use Rattle.std.specs.Prelude.{◌≡◌, not, nat_abs, pos, ◌+ℤ◌, ◌-ℤ◌}
+use Rattle.money.specs.declared.units.SignedFen.{SignedFen}
+use Rattle.money.specs.Units.{signed_fen}
 use mathlib.Core.Path.{ap, ◌∙◌}
 use native.Mathlib.Omega.{arith}
 use borrow.Author.Tests.{le-leb}
@@ -9,42 +11,55 @@ use Rattle.rules.specs.Unpaid.{today_plus, joined}
 use Rattle.rules.proofs.FitParts.{fit_parts, fit-withdrawals, fit-securities, fits-cash, fit-postings}
 use Rattle.scalars.specs.Scalars.{unless_past}
 use Rattle.scalars.proofs.UnpaidLaws.{not-past}
-use Rattle.ledger.specs.Types.{Book}
+use Rattle.ledger.specs.Types.{Book, Nets}
 use Rattle.ledger.specs.Flat.{trades_of, rows_of, book_of}
 use Rattle.ledger.proofs.FitFacts.{fit-keeps}
 use Rattle.ledger.proofs.Column.{asked, asked-not, denied, denied-not}
 use Rattle.ledger.proofs.Fitting.{refuted, upheld}
 use Rattle.ledger.proofs.StartLaws.{renewable-where}
 use Rattle.ledger.proofs.CloseLaws.{close-refused, not-now, today-outside, cleared-outside, unpaid-past, may-be-closed, net-at-close, today-asked, all-joined, cleared-asked, unpaid-asked}
+use Rattle.ledger.proofs.NetLaws.{size-of-sum}
 use Rattle.ledger.proofs.close.close.Goals as goal
+
+at-close : (nets : Nets) (matured started : Fen) {with_matured today : SignedFen} → with_matured ≡ signed_fen (nets.today.0 +ℤ pos matured.0) → today ≡ signed_fen (with_matured.0 -ℤ pos started.0)
+    → ◌≡◌ {A = Nets} (record { today = today; cleared = nets.cleared }) (record { today = signed_fen (nets.today.0 +ℤ pos matured.0 -ℤ pos started.0); cleared = nets.cleared })
+at-close nets matured started m t =
+    ap (λ (today : SignedFen). record { today = today; cleared = nets.cleared }) (t ∙ ap (λ (net : SignedFen). signed_fen (net.0 -ℤ pos started.0)) m)
 
 pub returns-then-not-may_close : goal.returns-then-not-may_close
 returns-then-not-may_close c =
     close-refused _ _ _ _ _ WrongPhase (not-now _ _ _ (denied c.may_close.ensures (ap not c.if-not-may_close.true)))
 
-pub today_at_close-at_close-requires : goal.today_at_close-at_close-requires
-today_at_close-at_close-requires c =
+pub plus-requires : goal.plus-requires
+plus-requires c =
     let within = c.plan_of-plan.ensures.1 in
     let nets = (fit_parts _ _ _ c.requires.book.fits).nets in
-    (le-leb (nat_abs c.args.scalars.nets.today.0) net_limit nets.today, within.amount, within.started)
+    (omega (arith, nets.today), within.amount)
 
-pub returns-then-not-today_fit : goal.returns-then-not-today_fit
-returns-then-not-today_fit c =
+pub less-today-requires : goal.less-today-requires
+less-today-requires c =
+    let net = c.args.scalars.nets.today.0 in
+    let within = c.plan_of-plan.ensures.1 in
+    let nets = (fit_parts _ _ _ c.requires.book.fits).nets in
+    (rw c.plus.ensures (omega (arith, size-of-sum net (pos c.plan_of-plan.result.amount.0), nets.today, within.amount)), within.started)
+
+pub returns-then-not-is_fit : goal.returns-then-not-is_fit
+returns-then-not-is_fit c =
     let may-go-on = denied-not c.may_close.ensures (ap not c.if-not-may_close.false) in
-    let today = today-asked c.plan_of-plan.ensures.0 c.today_at_close-at_close.ensures c.today_fit.ensures in
-    close-refused _ _ _ _ _ PastLimit (today-outside _ _ _ may-go-on (refuted today (ap not c.if-not-today_fit.true)))
+    let today = today-asked c.plan_of-plan.ensures.0 (at-close c.args.scalars.nets c.plan_of-plan.result.amount c.plan_of-plan.result.started c.plus.ensures c.less-today.ensures) c.is_fit.ensures in
+    close-refused _ _ _ _ _ PastLimit (today-outside _ _ _ may-go-on (refuted today (ap not c.if-not-is_fit.true)))
 
 pub joined-cleared-requires : goal.joined-cleared-requires
 joined-cleared-requires c =
-    let net = net-at-close c.plan_of-plan.ensures.0 c.today_at_close-at_close.ensures in
+    let net = net-at-close c.plan_of-plan.ensures.0 (at-close c.args.scalars.nets c.plan_of-plan.result.amount c.plan_of-plan.result.started c.plus.ensures c.less-today.ensures) in
     let nets = (fit_parts _ _ _ c.requires.book.fits).nets in
-    (upheld c.today_fit.ensures (ap not c.if-not-today_fit.false), rw net (le-leb (nat_abs c.args.scalars.nets.cleared.0) net_limit nets.cleared))
+    (upheld c.is_fit.ensures (ap not c.if-not-is_fit.false), le-leb (nat_abs c.args.scalars.nets.cleared.0) net_limit nets.cleared)
 
-pub returns-then-not-cleared_fit : goal.returns-then-not-cleared_fit
-returns-then-not-cleared_fit c =
+pub returns-then-not-is_fit-2 : goal.returns-then-not-is_fit-2
+returns-then-not-is_fit-2 c =
     let may-go-on = denied-not c.may_close.ensures (ap not c.if-not-may_close.false) in
-    let cleared = cleared-asked c.plan_of-plan.ensures.0 c.today_at_close-at_close.ensures c.joined-cleared.ensures c.cleared_fit.ensures in
-    close-refused _ _ _ _ _ PastLimit (cleared-outside _ _ _ may-go-on (refuted cleared (ap not c.if-not-cleared_fit.true)))
+    let cleared = cleared-asked c.plan_of-plan.ensures.0 (at-close c.args.scalars.nets c.plan_of-plan.result.amount c.plan_of-plan.result.started c.plus.ensures c.less-today.ensures) c.joined-cleared.ensures c.is_fit-2.ensures in
+    close-refused _ _ _ _ _ PastLimit (cleared-outside _ _ _ may-go-on (refuted cleared (ap not c.if-not-is_fit-2.true)))
 
 pub returns-then-passes : goal.returns-then-passes
 returns-then-passes c =
@@ -69,11 +84,11 @@ closed-requires c =
 pub returns : goal.returns
 returns c =
     let plan = c.plan_of-plan.ensures.0 in
-    let net = c.today_at_close-at_close.ensures in
+    let net = (at-close c.args.scalars.nets c.plan_of-plan.result.amount c.plan_of-plan.result.started c.plus.ensures c.less-today.ensures) in
     let join = c.joined-cleared.ensures in
     let may-go-on = denied-not c.may_close.ensures (ap not c.if-not-may_close.false) in
-    let today = upheld (today-asked plan net c.today_fit.ensures) (ap not c.if-not-today_fit.false) in
-    let cleared = upheld (cleared-asked plan net join c.cleared_fit.ensures) (ap not c.if-not-cleared_fit.false) in
+    let today = upheld (today-asked plan net c.is_fit.ensures) (ap not c.if-not-is_fit.false) in
+    let cleared = upheld (cleared-asked plan net join c.is_fit-2.ensures) (ap not c.if-not-is_fit-2.false) in
     let unpaid = c.args.scalars.sums.unpaid in
     let within = asked-not (unpaid-asked plan c.passes.ensures) c.if-passes.false in
     let owed = c.joined_with-unpaid.ensures ∙ ap (λ (amount : Fen). unless_past amount.0 unpaid (joined (today_plus amount.0 unpaid))) plan.amount ∙ not-past unpaid _ _ within in

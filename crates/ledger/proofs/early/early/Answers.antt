@@ -7,6 +7,7 @@ use Rattle.rules.specs.Early.{early_causes, early_book, early_table}
 use Rattle.ledger.specs.Flat.{trade_at, trades_of}
 use Rattle.ledger.proofs.Groups.{group-applies, group-passes, group-clear}
 use Rattle.ledger.proofs.Refusing.{no_rows, turned_down, carried_out}
+use Rattle.ledger.proofs.NetLaws.{within-limit}
 use Rattle.ledger.proofs.FitFacts.{fit-keeps, fit-net}
 use Rattle.ledger.proofs.ContractLaws.{take-off-here}
 use Rattle.ledger.proofs.EarlyLaws.{has-to-take, has-room}
@@ -51,9 +52,9 @@ pub put_sheets-requires : goal.put_sheets-requires
 put_sheets-requires c =
     omega (arith, c.in_ok-place.ensures.place.below, (fit-keeps _ _ _ c.requires.fits).room)
 
-pub today_plus-requires : goal.today_plus-requires
-today_plus-requires c =
-    (fit-net _ _ _ c.requires.fits, (c.in_ok-amount.ensures no_rows c.args.contract c.in_ok-place.ensures.place).1.1)
+pub plus-requires : goal.plus-requires
+plus-requires c =
+    (omega (arith, within-limit c.args.scalars.nets.today.0 (fit-net _ _ _ c.requires.fits)), (c.in_ok-amount.ensures no_rows c.args.contract c.in_ok-place.ensures.place).1.1)
 
 pub returns : goal.returns
 unfolding early_causes early_book early_table
@@ -65,6 +66,6 @@ returns c rows =
     let trade = trade_at a.table.now c.in_ok-place.place in
     let written = c.put_sheets.ensures ∙ ap (λ n. set (trades_of a.table.now) c.in_ok-place.place (with_sheets (n - a.count.0) trade)) c.sheets_at.ensures in
     let room = has-room _ a.scalars rows _ _ _ _ taken.0 in (
-      carried_out _ _ rows _ _ none-applies c.accepted.ensures (rw (c.today_plus.ensures, c.with_unpaid.ensures, c.today_plus-2.ensures, taken.1.0, room)),
+      carried_out _ _ rows _ _ none-applies c.accepted.ensures (rw (c.plus.ensures, c.with_unpaid.ensures, c.today_plus.ensures, taken.1.0, room)),
       rw (← none-applies) (written ∙ take-off-here _ _ _ _ (fit-keeps _ _ _ c.requires.fits).room stands a.count.0),
     )

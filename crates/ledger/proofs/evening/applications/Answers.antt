@@ -90,7 +90,7 @@ module _ (c : In-Some) where
       )
 
 pub unwrap-kind-requires : goal.unwrap-kind-requires
-unwrap-kind-requires c = found-known c.of.result c.in-Some.field-0-0.now (fits (goal.at.unwrap-kind-requires c).In-Some).known c.of.ensures
+unwrap-kind-requires c = found-known c.try_from.result c.in-Some.field-0-0.now (fits (goal.at.unwrap-kind-requires c).In-Some).known c.try_from.ensures
 
 -- its kind by name
 module _ (c : After-unwrap-kind) where
@@ -98,7 +98,7 @@ module _ (c : After-unwrap-kind) where
   number = kind_number c.unwrap-kind.result
 
   named : number ≡ c.in-Some.field-0-0.now
-  named = rw c.unwrap-kind.ensures at c.of.ensures
+  named = rw c.unwrap-kind.ensures at c.try_from.ensures
 
   named-at-hand : Come c.args.kinds.now c.args.units.now c.args.count (length c.loop-kind.yielded) c.in-Some.field-0-0.now c.in-Some.field-0-1.now
       → Come c.args.kinds.now c.args.units.now c.args.count (length c.loop-kind.yielded) number c.in-Some.field-0-1.now

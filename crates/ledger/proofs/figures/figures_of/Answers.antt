@@ -7,13 +7,13 @@ use Rattle.ledger.proofs.figures.figures_of.Goals as goal
 
 pub outstanding_of-requires : goal.outstanding_of-requires
 outstanding_of-requires c =
-    fit-keeps _ _ _ c.requires.fits
+    fit-keeps _ _ _ c.requires.1.fits
 
 pub value_of-requires : goal.value_of-requires
 value_of-requires c =
-    let parts = fit_parts _ _ _ c.requires.fits in
+    let parts = fit_parts _ _ _ c.requires.1.fits in
     (fit-securities _ parts.securities, parts.cash.free, omega (arith, parts.cash.sum))
 
 pub returns : goal.returns
 returns c =
-    rw (c.outstanding_of.ensures ∙ ap outstanding (sym (fit-in-use _ _ _ c.requires.fits)), c.value_of.ensures)
+    rw (c.outstanding_of.ensures ∙ ap outstanding (sym (fit-in-use _ _ _ c.requires.1.fits)), c.value_of.ensures)

@@ -5,6 +5,7 @@ use Rattle.money.specs.Money.{principal}
 use Rattle.rules.specs.Initial.{initial_book, initial_table}
 use Rattle.ledger.specs.Flat.{rows_of}
 use Rattle.ledger.proofs.Refusing.{carried_out}
+use Rattle.ledger.proofs.NetLaws.{within-limit}
 use Rattle.ledger.proofs.FitFacts.{fit-keeps, fit-net}
 use Rattle.ledger.proofs.InitialLaws.{initial-begins}
 use Rattle.ledger.proofs.initial.initial.Goals as goal
@@ -15,18 +16,18 @@ put_trade-requires c = omega (arith, (initial-begins _ _ _ _ (c.in_ok-initial_re
 pub principal_of-requires : goal.principal_of-requires
 principal_of-requires c = omega (arith, (initial-begins _ _ _ _ (c.in_ok-initial_refusal.ensures [] [])).few)
 
-pub today_less-nets-requires : goal.today_less-nets-requires
+pub less-requires : goal.less-requires
 unfolding principal
-today_less-nets-requires c =
+less-requires c =
     let begun = initial-begins _ _ _ _ (c.in_ok-initial_refusal.ensures [] []) in
-    (fit-net _ _ _ c.requires.book.fits, rw c.principal_of.ensures (omega (arith, begun.few)))
+    (omega (arith, within-limit c.args.scalars.nets.today.0 (fit-net _ _ _ c.requires.book.fits)), rw c.principal_of.ensures (omega (arith, begun.few)))
 
 pub returns : goal.returns
 unfolding initial_book initial_table
 returns c kinds units =
     let none-applies = c.in_ok-initial_refusal.ensures kinds units in
     let rows = rows_of c.args.held.now kinds units in (
-      carried_out _ _ rows _ _ none-applies c.accepted.ensures (rw (c.with_nets_and_trades.ensures, c.today_less-nets.ensures, c.principal_of.ensures)),
+      carried_out _ _ rows _ _ none-applies c.accepted.ensures (rw (c.with_nets_and_trades.ensures, c.less.ensures, c.principal_of.ensures)),
       c.put_trade.ensures.0 ∙ rw (c.begun_trade.ensures rows, ← none-applies) refl,
     )
 

@@ -24,7 +24,7 @@ figures_of-figures-requires c =
     let found = fit-in _ _ c.in-Some.ensures.0 in
     let calendar = rw c.unwrap-calendar.ensures at c.of.ensures.value in
     let held = rw c.unwrap-held.ensures at c.as_array.ensures.cases in
-    record { kinds = c.args.kinds.now; units = c.args.units.now; few = rw calendar found.few; fits = rw (calendar, held.same) found.fits }
+    (c.unwrap-calendar.result, record { kinds = c.args.kinds.now; units = c.args.units.now; few = rw calendar found.few; fits = rw (calendar, held.same) found.fits })
 
 pub cover_from-requires : goal.cover_from-requires
 cover_from-requires c =

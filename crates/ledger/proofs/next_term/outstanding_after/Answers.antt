@@ -19,7 +19,7 @@ loop-place-init c =
 pub next_term-requires : goal.next_term-requires
 next_term-requires c =
     let kept = c.requires.1 in
-    (rw c.in-Some.is at c.requires.0, record { slot = omega (arith, kept.room); fits = all-below _ _ _ _ c.loop-place-test.true kept.within })
+    (rw c.in-Some.is at c.requires.0, rw c.trade_at-trade.ensures (all-below _ _ _ _ c.loop-place-test.true kept.within))
 
 pub overflow_add-sum : goal.overflow_add-sum
 overflow_add-sum c =
@@ -28,7 +28,7 @@ overflow_add-sum c =
     let within = kept-within _ _ c.requires.1 c.loop-place.place c.loop-place-test.true in
     omega (
       arith,
-      next-few _ some.book c.loop-place.sum.0 trade _ (c.in-Some-next_term.ensures some.book some.met),
+      next-few _ some.book c.loop-place.sum.0 trade _ (rw c.trade_at-trade.ensures at (c.in-Some-next_term.ensures some.book some.met)),
       within.sheets,
       c.loop-place.invariant.0,
       c.requires.2,
@@ -42,10 +42,14 @@ loop-place-preserved c =
     let trade = trade_at c.args.table.now c.loop-place.place in
     let with-it : (book : Book) → Meets c.args.calendar.now book c.in-Some.closing c.args.held.now → c.match-next_term.sum.0 ≡ with_started (starts c.args.calendar.now book sum trade) book trade sum =
     elim c.match-next_term.branch [
-      | in-Some-next_term w ↦ λ book met. ap (λ (q : Sheets). q.0) w.sum-is ∙ with-next _ book sum trade _ (w.in-Some-next_term.ensures book met)
-      | in_default-next_term w ↦ λ book met. ap (λ (q : Sheets). q.0) w.sum-is ∙ with-none _ book sum trade (w.in_default-next_term.ensures book met)
+      | in-Some-next_term w ↦ λ book met. ap (λ (q : Sheets). q.0) w.sum-is ∙ with-next _ book sum trade _ (rw c.trade_at-trade.ensures at (w.in-Some-next_term.ensures book met))
+      | in_default-next_term w ↦ λ book met. ap (λ (q : Sheets). q.0) w.sum-is ∙ with-none _ book sum trade (rw c.trade_at-trade.ensures at (w.in_default-next_term.ensures book met))
     ] in
     let within = kept-within _ _ c.requires.1 c.loop-place.place c.loop-place-test.true in (
       omega (arith, c.loop-place.invariant.0, with-it some.book some.met, with-at-most (starts c.args.calendar.now some.book sum trade) some.book trade sum, within.sheets),
       λ book met. started-more _ book _ _ _ _ _ (c.loop-place.invariant.1 book met) (with-it book met),
     )
+
+pub trade_at-trade-requires : goal.trade_at-trade-requires
+trade_at-trade-requires c =
+    omega (arith, c.requires.1.room)

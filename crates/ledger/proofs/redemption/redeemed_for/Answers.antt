@@ -13,9 +13,9 @@ returns-then-count-eq0 c =
 
 pub unwrap-requires : goal.unwrap-requires
 unwrap-requires c =
-    ap is_ok (redemption_within _ _ _ _ c.requires.has_slot.1 c.requires.has_slot.2 (omega (arith, c.requires.place_bound.1)) c.redemption.ensures)
+    ap is_ok (redemption_within _ _ _ _ c.requires.within.0 c.requires.within.1 (omega (arith, c.requires.days.1)) c.redemption.ensures)
 
 pub returns : goal.returns
 returns c =
-    let told : c.redemption.result ≡ Ok (redemption c.args.count c.args.price (c.args.payment - c.first_at.result)) = redemption_within _ _ _ _ c.requires.has_slot.1 c.requires.has_slot.2 (omega (arith, c.requires.place_bound.1)) c.redemption.ensures in
-    rw (← c.first_at.ensures) (cc)
+    let told : c.redemption.result ≡ Ok (redemption c.args.count c.args.price (c.args.payment - c.args.trade.first)) = redemption_within _ _ _ _ c.requires.within.0 c.requires.within.1 (omega (arith, c.requires.days.1)) c.redemption.ensures in
+    cc

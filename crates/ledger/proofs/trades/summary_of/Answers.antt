@@ -21,14 +21,14 @@ loop-place-init c =
 
 pub returns-then-not-trade_fits : goal.returns-then-not-trade_fits
 returns-then-not-trade_fits c =
-    sym (summary-unfit _ (all-fails trade_fit _ _ _ c.loop-place-test.true (sym c.trade_fits.ensures ∙ not-true _ (ap not c.if-not-trade_fits.true))))
+    sym (summary-unfit _ (all-fails trade_fit _ _ _ c.loop-place-test.true (sym (rw c.trade_at-trade.ensures at c.trade_fits.ensures) ∙ not-true _ (ap not c.if-not-trade_fits.true))))
 
 pub loop-place-preserved : goal.loop-place-preserved
 loop-place-preserved c =
-    let within : trade_fit (trade_at c.args.table.now c.loop-place.place) ≡ true = sym c.trade_fits.ensures ∙ not-false _ (ap not c.if-not-trade_fits.false) in
+    let within : trade_fit (trade_at c.args.table.now c.loop-place.place) ≡ true = sym (rw c.trade_at-trade.ensures at c.trade_fits.ensures) ∙ not-false _ (ap not c.if-not-trade_fits.false) in
     let few : (trade_at c.args.table.now c.loop-place.place).sheets.0 ≤ trade_limit = (within_of (trade_at c.args.table.now c.loop-place.place) within).sheets in
     let inv = c.loop-place.invariant in
-    let sheets = c.sheets_at-left.ensures in (
+    let sheets = c.trade_at-trade.ensures in (
       all_more trade_fit _ _ inv.0 within,
       rw (inv.1, sheets) (sym (total-more sheets_of _ _)),
       rw sheets (omega (arith, few, inv.2)),
