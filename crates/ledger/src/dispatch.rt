@@ -15,7 +15,7 @@ use scalars::done;
 use scalars::done::Done;
 use scalars::state::Scalars;
 
-// One event on a fit book, under a calendar of at most 1,200 words; O comes with it, and V where it is known.
+// One event on a fit book; O comes with it, and V where it is known.
 #[tactic(auto, using(rules::proofs::FitParts::fit_parts, crate::proofs::StepLaws::leaves_table), unfolding(rules::specs::Step::event_causes, rules::specs::Step::act, money::specs::Causes::first_of))]
 fn event_on(
     calendar: &Calendar,

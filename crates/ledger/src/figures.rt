@@ -3,7 +3,7 @@ ghost use Rattle.std.specs.Prelude.{◌≡◌, true, List};
 ghost use Rattle.rules.specs.Vault.{value as value_of};
 ghost use Rattle.rules.specs.Fit.{securities_fit, cash_fit};
 ghost use Rattle.money.specs.Days.{Calendar};
-ghost use Rattle.ledger.specs.Types.{Trade};
+ghost use Rattle.ledger.specs.Types.{Trade, Some};
 ghost use Rattle.ledger.specs.Figures.{outstanding_at, figures_at, IsValue, Moved, MovedBy};
 ghost use Rattle.ledger.specs.Flat.{FitsHeld, vault_of, securities_of, trades_of};
 
@@ -24,6 +24,17 @@ pub struct Figures {
 pub struct KnownFigures {
     pub outstanding: Sheets,
     pub value: Option<Sheets>,
+}
+
+impl From<Figures> for KnownFigures {
+    ghost from_gives = { λ figures known. known ≡ record { outstanding = figures.outstanding; value = Some figures.value } };
+
+    fn from(figures: Figures) -> KnownFigures {
+        KnownFigures {
+            outstanding: figures.outstanding,
+            value: Some(figures.value),
+        }
+    }
 }
 
 // Counted, over the trades in use and all kinds.

@@ -100,7 +100,6 @@ pub fn cover(
     let Some(_) = fitness_in(calendar, scalars, held, kinds, units, table) else {
         return Err(Refusal::NotFit);
     };
-    let calendar = Calendar::of(calendar).unwrap();
     let held: &Held = held.as_array().unwrap();
     let figures = figures::figures_of(scalars, held, table);
     Ok(cover::cover_from(scalars.size, figures))
@@ -114,10 +113,7 @@ pub fn lengths_refusal(bytes: usize, room: usize) -> Result<(), Refusal>
     if room < LINE_NUMBERS * (bytes / EVENT_BYTES) {
         return Err(Refusal::PastLimit);
     }
-    if bytes % EVENT_BYTES != 0 {
-        return Err(Refusal::BadLength);
-    }
-    if bytes / EVENT_BYTES > EVENT_LIMIT {
+    if bytes % EVENT_BYTES != 0 || bytes / EVENT_BYTES > EVENT_LIMIT {
         return Err(Refusal::BadLength);
     }
     Ok(())

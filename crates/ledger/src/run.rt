@@ -26,20 +26,19 @@ struct Turn {
 fn run_event(
     calendar: &Calendar,
     bytes: &[u8],
-    scalars: Scalars,
+    turn: Turn,
     held: &mut Held,
     kinds: &mut Kinds,
     units: &mut Units,
     table: &mut [u64],
-    figures: Figures,
     lines: &mut [u64],
     at: usize,
 ) -> Turn
     requires { let trades = trades_of table.old in
-        (FitsWhole calendar.now scalars held.old kinds.old units.old trades)
-        × (figures ≡ figures_at scalars held.old trades)
+        (FitsWhole calendar.now turn.scalars held.old kinds.old units.old trades)
+        × (turn.figures ≡ figures_at turn.scalars held.old trades)
         × (at + line_numbers ≤ length lines.old) }
-    ensures { let book = book_of scalars (rows_of held.old kinds.old units.old) in
+    ensures { let book = book_of turn.scalars (rows_of held.old kinds.old units.old) in
         let trades = trades_of table.old in
         let next = step calendar.now book trades (decoded bytes.now) in
         (book_of result.scalars (rows_of held.new kinds.new units.new) ≡ next.book)
@@ -50,19 +49,16 @@ fn run_event(
     let entry = decoder::entry::decode(bytes);
     let done = dispatch::entry_on(
         calendar,
-        scalars,
+        turn.scalars,
         held,
         kinds,
         units,
         table,
-        KnownFigures {
-            outstanding: figures.outstanding,
-            value: Some(figures.value),
-        },
+        KnownFigures::from(turn.figures),
         entry,
     );
     let left = done.scalars;
-    let after = figures::figures_after(figures, entry, done.answer.number, left, held, table);
+    let after = figures::figures_after(turn.figures, entry, done.answer.number, left, held, table);
     lines[at..at + LINE_NUMBERS].copy_from_slice(&line::line_of(done, after));
     Turn {
         scalars: left,
@@ -96,12 +92,11 @@ pub fn run_events(
         turn = run_event(
             calendar,
             bytes,
-            turn.scalars,
+            turn,
             held,
             kinds,
             units,
             table,
-            turn.figures,
             lines,
             k * LINE_NUMBERS,
         );

@@ -49,7 +49,7 @@ pub fn place_of(table: &[u64], count: usize, contract: Contract) -> Option<usize
     (0..count).find(|&place| flat::contract_at(table, place) == contract)
 }
 
-// No contract stands before its own place: each is searched, which for few trades is as fast as to sort.
+// No contract stands before its own place: each is searched, which for few trades is as fast as by chains.
 fn few_differ(table: &[u64], count: usize) -> bool
     requires { HasSlots table.now count }
     ensures { result ≡ differ (trades_to table.now count) }

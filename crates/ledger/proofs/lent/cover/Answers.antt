@@ -13,18 +13,14 @@ use Rattle.ledger.proofs.lent.cover.Goals as goal
 pub returns-in_default : goal.returns-in_default
 returns-in_default c = sym (refused-cover _ _ (rw c.in_default.is at c.fitness_in.ensures))
 
-pub unwrap-calendar-requires : goal.unwrap-calendar-requires
-unwrap-calendar-requires c = c.of.ensures.variant.1 (fit-in _ _ c.in-Some.ensures.0).few
-
 pub unwrap-held-requires : goal.unwrap-held-requires
 unwrap-held-requires c = c.as_array.ensures.variant.1 (fit-in _ _ c.in-Some.ensures.0).long.held
 
 pub figures_of-figures-requires : goal.figures_of-figures-requires
 figures_of-figures-requires c =
     let found = fit-in _ _ c.in-Some.ensures.0 in
-    let calendar = rw c.unwrap-calendar.ensures at c.of.ensures.value in
     let held = rw c.unwrap-held.ensures at c.as_array.ensures.cases in
-    (c.unwrap-calendar.result, record { kinds = c.args.kinds.now; units = c.args.units.now; few = rw calendar found.few; fits = rw (calendar, held.same) found.fits })
+    (c.args.calendar.now, record { kinds = c.args.kinds.now; units = c.args.units.now; few = found.few; fits = rw held.same found.fits })
 
 pub cover_from-requires : goal.cover_from-requires
 cover_from-requires c =

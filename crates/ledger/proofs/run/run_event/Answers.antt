@@ -15,7 +15,7 @@ use Rattle.ledger.proofs.run.run_event.Goals as goal
 
 pub entry_on-done-requires : goal.entry_on-done-requires
 entry_on-done-requires c =
-    record { book = c.requires.0; sheets = ap (λ (f : Figures). f.outstanding.0) c.requires.1; value = ap (λ (f : Figures). f.value.0) c.requires.1 }
+    rw c.from.ensures (record { book = c.requires.0; sheets = ap (λ (f : Figures). f.outstanding.0) c.requires.1; value = ap (λ (f : Figures). f.value.0) c.requires.1 })
 
 pub figures_after-after-requires : goal.figures_after-after-requires
 figures_after-after-requires c =
