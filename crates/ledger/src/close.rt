@@ -15,7 +15,7 @@ ghost use Rattle.scalars.specs.Scalars.{done_by};
 ghost use Rattle.ledger.specs.Flat.{RowsFit, Rows, vault_of, securities_of, postings_of, rows_of, book_of, evening_at, applied_at, trades_of, closed_by, table_by, Kept};
 
 use crate::days::Calendar;
-use crate::evening::EveningScalars;
+use crate::evening::{Claims, EveningScalars};
 use crate::figures::KnownFigures;
 use crate::layout::{Held, Kinds, Units};
 use crate::next_term::Plan;
@@ -77,19 +77,18 @@ fn clear(kinds: &mut Kinds, units: &mut Units)
     units.fill(0);
 }
 
-// The evening's end, with O as part (b) begins and U as it is then.
+// The evening's end, with what V has to cover as part (b) begins.
 #[tactic(auto, using(crate::proofs::CloseLaws::begun), unfolding(rules::specs::Close::all_arrived, rules::specs::Close::evening, money::specs::Causes::first_of))]
 fn evening_end(
     scalars: Scalars,
     held: &mut Held,
     kinds: &Kinds,
     units: &Units,
-    left: Sheets,
-    unpaid: Fen,
+    claims: Claims,
 ) -> EveningScalars
     requires { RowsFit scalars held.old kinds.now units.now }
     ensures { let book = book_of scalars (rows_of held.old kinds.now units.now) in
-        (evening_at result (securities_of held.new) ≡ evening_of book (claims_of left.0 unpaid.0))
+        (evening_at result (securities_of held.new) ≡ evening_of book (claims_of claims.outstanding.0 claims.unpaid.0))
         × (result.value.0 ≡ value (vault_of result.guarantee (securities_of held.new)))
         × (postings_of held.new ≡ postings_of held.old) }
 {
@@ -104,8 +103,7 @@ fn evening_end(
     };
     evening::applications(
         is_served(scalars.standing),
-        left,
-        unpaid,
+        claims,
         kinds,
         units,
         scalars.applications,
@@ -187,7 +185,16 @@ fn closed(
         plan.outstanding,
     );
     let kept = packing::pack(table, count);
-    let ended = evening_end(scalars, held, kinds, units, plan.left, unpaid.cleared);
+    let ended = evening_end(
+        scalars,
+        held,
+        kinds,
+        units,
+        Claims {
+            outstanding: plan.left,
+            unpaid: unpaid.cleared,
+        },
+    );
     clear(kinds, units);
     let next = closed_scalars(scalars, cleared, unpaid, ended, plan.left, kept);
     done::of_close(plan.matured, ended.done, ended.dropped, next)

@@ -51,12 +51,18 @@ pub fn all_arrived(held: &mut Held, guarantee: Guarantee)
     }
 }
 
+// What V has to cover: the sheets outstanding, and U.
+#[derive(Clone, Copy)]
+pub struct Claims {
+    pub outstanding: Sheets,
+    pub unpaid: Fen,
+}
+
 // V after an application that is done, and none where it is dropped. By what is had of the kind alone: V changes by that kind's value, so
 // the other kinds are not looked at.
 fn judged(
     served: bool,
-    outstanding: Sheets,
-    unpaid: Fen,
+    claims: Claims,
     kind: Kind,
     units: u64,
     had: Security,
@@ -75,7 +81,7 @@ fn judged(
         → had.frozen ≡ frozen_of vault number
         → had.rate ≡ (security_at vault number).rate
         → value.0 ≡ value_of vault
-        → let goes = may_go served (claims_of outstanding.0 unpaid.0) number units vault in
+        → let goes = may_go served (claims_of claims.outstanding.0 claims.unpaid.0) number units vault in
         MatchOption result (goes ≡ false) (λ after. (goes ≡ true) × (after.0 ≡ value_of (taken_out number units vault))) }
 {
     if !served || had.effective - had.frozen < units {
@@ -85,7 +91,7 @@ fn judged(
     let with = vault::worth(kind, had);
     let without = vault::worth(kind, Security { effective, ..had });
     let after = Sheets(value.0 - with.0 + without.0);
-    headroom::covers(after, outstanding, unpaid).then_some(after)
+    headroom::covers(after, claims.outstanding, claims.unpaid).then_some(after)
 }
 
 // Own and guarantee cash and V as the evening goes on, and the applications done and dropped so far. The securities stand in their row.
@@ -101,8 +107,7 @@ pub struct EveningScalars {
 // The applications in order: of each one's kind a copy is looked at, and written back if it goes.
 pub fn applications(
     served: bool,
-    outstanding: Sheets,
-    unpaid: Fen,
+    claims: Claims,
     kinds: &Kinds,
     units: &Units,
     count: usize,
@@ -119,7 +124,7 @@ pub fn applications(
         × (begun.dropped ≡ 0) }
     ensures { let before = evening_at begun (securities_of held.old) in
         (evening_at result (securities_of held.new)
-        ≡ applications served (claims_of outstanding.0 unpaid.0) (record { kinds = kinds.entry.now; units = units.now; count = count }) before)
+        ≡ applications served (claims_of claims.outstanding.0 claims.unpaid.0) (record { kinds = kinds.entry.now; units = units.now; count = count }) before)
         × (result.value.0 ≡ value_of (vault_of result.guarantee (securities_of held.new)))
         × (postings_of held.new ≡ postings_of held.old) }
 {
@@ -127,15 +132,7 @@ pub fn applications(
     for (&kind, &amount) in kinds[..count].iter().zip(&units[..count]) {
         let kind = Kind::try_from(kind).unwrap();
         let had = vault::had_of(held, evening.guarantee, kind);
-        match judged(
-            served,
-            outstanding,
-            unpaid,
-            kind,
-            amount,
-            had,
-            evening.value,
-        ) {
+        match judged(served, claims, kind, amount, had, evening.value) {
             Some(after) => {
                 evening.done += 1;
                 evening.value = after;

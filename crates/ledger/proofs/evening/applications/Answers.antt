@@ -57,7 +57,7 @@ loop-kind-init c = (sym (turn-none _ _), c.requires.begun.4, refl)
 -- the application at hand, and the evening before its turn
 module _ (c : In-Some) where
   abbrev claims : ℕ
-  claims = claims_of c.args.outstanding.0 c.args.unpaid.0
+  claims = claims_of c.args.claims.outstanding.0 c.args.claims.unpaid.0
 
   abbrev before : Evening
   before = evening_at c.loop-kind.evening (securities_of c.loop-kind.held)
@@ -116,7 +116,7 @@ module _ (c : In-Some-judged) where
   abbrev vault : Vault
   vault = vault_of c.loop-kind.evening.guarantee (securities_of c.loop-kind.held)
 
-  judged-of : (may_go c.args.served (claims_of c.args.outstanding.0 c.args.unpaid.0) (kind_number c.unwrap-kind.result) c.in-Some.field-0-1.now vault ≡ true)
+  judged-of : (may_go c.args.served (claims_of c.args.claims.outstanding.0 c.args.claims.unpaid.0) (kind_number c.unwrap-kind.result) c.in-Some.field-0-1.now vault ≡ true)
       × (c.in-Some-judged.after.0 ≡ value_of (taken_out (kind_number c.unwrap-kind.result) c.in-Some.field-0-1.now vault))
   judged-of =
       let had = c.had_of-had.ensures in
@@ -196,7 +196,7 @@ returns c =
     YieldsList-end (YieldsList-from_zip {s = c.into_iter-kind-iterator.result} (YieldsList-from_slice (take a.count a.kinds.now) (cc)) (YieldsList-from_slice (take a.count a.units.now) (cc)))
     c.loop-kind.yielded c.loop-kind.kind-iterator c.loop-kind.yielded_by c.next.result c.next.new.self c.in-None.is c.next.ensures.steps in
     let e : length c.loop-kind.yielded ≡ a.count = omega (arith, end.1, few, length-zip (take a.count a.kinds.now) (take a.count a.units.now), length-take {A = ℕ}) in (
-      c.loop-kind.invariant.0 ∙ ap (λ n. in_turn n (turn a.served (claims_of a.outstanding.0 a.unpaid.0) (asked a.kinds.now a.units.now a.count)) (evening_at a.begun (securities_of a.held.now))) e,
+      c.loop-kind.invariant.0 ∙ ap (λ n. in_turn n (turn a.served (claims_of a.claims.outstanding.0 a.claims.unpaid.0) (asked a.kinds.now a.units.now a.count)) (evening_at a.begun (securities_of a.held.now))) e,
       c.loop-kind.invariant.1,
       c.loop-kind.invariant.2,
     )

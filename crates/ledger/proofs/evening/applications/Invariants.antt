@@ -9,6 +9,6 @@ use Rattle.ledger.proofs.evening.applications.Given as goal
 abbrev pub invariant-loop-kind : goal.invariant-loop-kind
 invariant-loop-kind l =
     (evening_at l.evening (securities_of l.held)
-    ≡ in_turn (length l.yielded) (turn l.served (claims_of l.outstanding.0 l.unpaid.0) (asked l.kinds l.units l.count)) (evening_at l.initial.evening (securities_of l.initial.held)))
+    ≡ in_turn (length l.yielded) (turn l.served (claims_of l.claims.outstanding.0 l.claims.unpaid.0) (asked l.kinds l.units l.count)) (evening_at l.initial.evening (securities_of l.initial.held)))
     × (l.evening.value.0 ≡ value_of (vault_of l.evening.guarantee (securities_of l.held)))
     × (postings_of l.held ≡ postings_of l.initial.held)
