@@ -27,7 +27,7 @@ fn bucket_of(contract: Contract, buckets: usize) -> usize
 // A chain that is longer is not followed to its end.
 const CHAIN_LIMIT: usize = 64;
 
-// A contract looked for along a chain. A link is one more than a place, and 0 at the end.
+// A contract looked for along a chain. A link is one more than a place, and 0 at the end, so that arrays of zeros are chains of no trade.
 #[tactic(auto, using(crate::proofs::ChainLaws::ahead_none))]
 fn look_along(table: &[u64], next: &[u16], from: usize, contract: Contract) -> ChainResult
     requires { (HasSlots table.now from) × (from ≤ length next.now) × (Falls next.now from) }

@@ -1,4 +1,5 @@
-// 12 Close: maturity and the next terms, the nets and U, the evening's applications, the table and the short run.
+// 12 Close, in its parts: (a) what matures, and the next terms, (b) the nets and U, (c) what arrives, (d) the evening's applications, (e) the table,
+// (f) the short run.
 ghost use Rattle.std.specs.Prelude.{◌≡◌, ℕ, ◌≤◌, List, length, pos};
 ghost use Rattle.std.proofs.Math.Option.{none};
 ghost use Rattle.money.specs.Causes.{first_of};

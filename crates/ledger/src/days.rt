@@ -1,6 +1,6 @@
 // The book's days.
 ghost use Rattle.std.specs.Prelude.{◌≡◌, ◌≤◌, ◌↔◌, List, ℕ, length, IfSome, IsSome};
-ghost use Rattle.std.proofs.Math.Option.{some};
+ghost use Rattle.std.proofs.Math.Option.{Option as Maybe, some};
 ghost use Rattle.money.specs.Limits.{calendar_limit};
 ghost use Rattle.money.specs.Days.{trades, at_or_after};
 ghost use Rattle.rules.specs.Days.{following, to_day, day_number, payment_day, followed};
@@ -56,7 +56,7 @@ impl<'a> Calendar<'a> {
         money::days::at_or_after(self.words, due).ok()
     }
 
-    // The payment day of a day is the next trading day.
+    // The payment day of a day is the next trading day, or 0 where there is none.
     pub fn payment_day(&self, day: Option<u32>) -> u32
         ensures { result ≡ payment_day self.now day }
     {
@@ -70,28 +70,32 @@ impl<'a> Calendar<'a> {
         self.next_day(Some(day)).is_some()
     }
 
+    // Whether a day was found that has another following. A match: a closure that takes the calendar tells a proof nothing of its answer.
+    fn is_followed(&self, found: Option<u32>) -> bool
+        ensures { (day : Maybe ℕ) → found ≡ to_day day → result ≡ followed self.now day }
+    {
+        match found {
+            Some(day) => self.has_next(day),
+            None => false,
+        }
+    }
+
     // Whether there is a trading day at or after a due day with another following.
     pub fn matures(&self, due: u32) -> bool
         ensures { result ≡ followed self.now (at_or_after self.now due) }
     {
-        let Some(day) = self.at_or_after(due) else {
-            return false;
-        };
-        self.has_next(day)
+        self.is_followed(self.at_or_after(due))
     }
 
     // Whether there is a day to open with another following.
     pub fn opens(&self, day: Option<u32>) -> bool
         ensures { result ≡ followed self.now (following self.now day) }
     {
-        let Some(next) = self.next_day(day) else {
-            return false;
-        };
-        self.has_next(next)
+        self.is_followed(self.next_day(day))
     }
 }
 
-// Today's number.
+// Today's number, or 0 where no day is open.
 pub fn day_number(day: Option<u32>) -> u32
     ensures { result ≡ day_number day }
 {

@@ -96,7 +96,7 @@ fn turned(calendar: &Calendar, scalars: Scalars, table: &mut [u64]) -> Result<Do
     if !standing.is_closed() {
         return Err(Refusal::WrongPhase);
     }
-    // before 14: that one does not apply where this one does
+    // before PastLimit, which does not apply where this one does
     if !calendar.opens(standing.day) {
         return Err(Refusal::NoTradingDay);
     }
