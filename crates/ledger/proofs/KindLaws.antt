@@ -1,6 +1,6 @@
 -- A kind's number is that of a security or of guarantee cash, and each such number has a kind.
 -- Assumes nothing.
-use Rattle.std.specs.Prelude.{◌≡◌, ℕ, ◌<◌, ◌≤◌, Result, Ok, Err}
+use Rattle.std.specs.Prelude.{ℕ, ◌<◌, ◌≤◌, Result, Ok, Err}
 use Rattle.std.specs.Prelude.{IsOk}
 use Rattle.money.specs.declared.refusal.Refusal.{Refusal}
 use mathlib.Core.Path.{refl}

@@ -4,7 +4,6 @@ use native.Mathlib.Omega.{arith}
 use Rattle.std.specs.Int.Signed.{lt_z}
 use Rattle.money.specs.declared.units.Sheets.{Sheets}
 use Rattle.rules.specs.Vault.{headroom_of}
-use Rattle.ledger.specs.Flat.{trade_at}
 use Rattle.ledger.proofs.SumLaws.{none-told}
 use Rattle.ledger.proofs.StartLaws.{told-posted, told-short, term-short, none-due, not-posted, no-maturity, by-headroom}
 use Rattle.ledger.proofs.next_term.next_term.Goals as goal
