@@ -7,7 +7,7 @@ ghost use Rattle.exports.specs.Raw.{scalars_from, raw_of, refused, refused_run};
 
 use crate::codes;
 use crate::codes::Codes;
-use money::refusal::Refusal;
+use money::refusal::{Refusal, number_of};
 use money::units::Sheets;
 use rules::answer::Answer;
 use rules::book::{Cash, Guarantee, Nets, Standing, Sums};
@@ -116,15 +116,9 @@ pub fn of_done(done: Done) -> RawDone
 pub fn of_ended(scalars: Scalars, ended: Result<Scalars, Refusal>) -> RawEnded
     ensures { result ≡ record { number = number_of (refusal_of ended); raw = raw_of (result_unwrap_or ended scalars) } }
 {
-    match ended {
-        Ok(after) => RawEnded {
-            number: 0,
-            raw: raw_of(after),
-        },
-        Err(refusal) => RawEnded {
-            number: refusal.into(),
-            raw: raw_of(scalars),
-        },
+    RawEnded {
+        number: number_of(ended),
+        raw: raw_of(ended.unwrap_or(scalars)),
     }
 }
 
