@@ -31,7 +31,8 @@ impl From<Result<usize, Refusal>> for Written {
     }
 }
 
-// How many bytes the lines of `count` events take.
+// How many bytes the lines of `count` events take. The run's buffer goes with how many events are in it: of one cut to them a proof would have to say
+// anew, here and below, that its lines are the run's.
 #[tactic(auto, using(crate::proofs::LineLaws::no_lines, crate::proofs::LineLaws::length_next))]
 fn lines_length(lines: &[u64], count: usize) -> usize
     requires { (count ≤ event_limit) × (count * line_numbers ≤ length lines.now) }

@@ -3,7 +3,7 @@
 ghost use Rattle.std.specs.Prelude.{◌≡◌};
 ghost use Rattle.journal.specs.Sections.{IsSectionAt, left_from, past_section};
 
-use crate::section::{left_from, past_section, section_at};
+use crate::section::{Pieces, left_from, past_section, section_at};
 
 #[derive(Clone, Copy)]
 pub struct Reader<'a> {
@@ -20,18 +20,18 @@ impl<'a> Reader<'a> {
     }
 
     // How many pieces the section at the reader's place has; none where it is malformed.
-    pub fn section(self, limit: u32, width: u32) -> Option<usize>
-        ensures { IsSectionAt limit width self.entry.at self.entry.journal.now result }
+    pub fn section(self, pieces: Pieces) -> Option<usize>
+        ensures { IsSectionAt pieces.limit pieces.width self.entry.at self.entry.journal.now result }
     {
-        section_at(self.journal, self.at, limit, width)
+        section_at(self.journal, self.at, pieces)
     }
 
     // The reader past that section; where it is malformed, the reader as it was.
-    pub fn past(self, limit: u32, width: u32) -> Reader<'a>
+    pub fn past(self, pieces: Pieces) -> Reader<'a>
         ensures { (result.journal ≡ self.entry.journal)
-            × (result.at ≡ past_section limit width self.entry.at self.entry.journal.now) }
+            × (result.at ≡ past_section pieces.limit pieces.width self.entry.at self.entry.journal.now) }
     {
-        let at = past_section(self.journal, self.at, limit, width);
+        let at = past_section(self.journal, self.at, pieces);
         Reader { at, ..self }
     }
 

@@ -18,6 +18,13 @@ pub(crate) fn number4(bytes: &[u8], at: usize) -> u32
     u32::from_le_bytes([bytes[at], bytes[at + 1], bytes[at + 2], bytes[at + 3]])
 }
 
+// What a section may have: so many pieces at most, of so many bytes each.
+#[derive(Clone, Copy)]
+pub struct Pieces {
+    pub limit: u32,
+    pub width: u32,
+}
+
 // How many bytes are left from a place on.
 pub fn left_from(journal: &[u8], at: usize) -> usize
     ensures { result ≡ left_from at journal.now }
@@ -25,19 +32,19 @@ pub fn left_from(journal: &[u8], at: usize) -> usize
     journal.len().saturating_sub(at)
 }
 
-// How many pieces of `width` bytes each the section has that starts at a place; none where it is malformed.
-pub fn section_at(journal: &[u8], at: usize, limit: u32, width: u32) -> Option<usize>
-    ensures { IsSectionAt limit width at journal.now result }
+// How many pieces the section has that starts at a place; none where it is malformed.
+pub fn section_at(journal: &[u8], at: usize, pieces: Pieces) -> Option<usize>
+    ensures { IsSectionAt pieces.limit pieces.width at journal.now result }
 {
     let left = left_from(journal, at);
     if left < COUNT_BYTES {
         return None;
     }
     let count = number4(journal, at);
-    if count > limit {
+    if count > pieces.limit {
         return None;
     }
-    let taken = count as usize * width as usize;
+    let taken = count as usize * pieces.width as usize;
     if left - COUNT_BYTES < taken {
         return None;
     }
@@ -46,11 +53,11 @@ pub fn section_at(journal: &[u8], at: usize, limit: u32, width: u32) -> Option<u
 
 // The place past that section. A malformed one is not passed: the place stays, so that there always is one.
 #[tactic(auto, using(crate::proofs::SectionLaws::read))]
-pub fn past_section(journal: &[u8], at: usize, limit: u32, width: u32) -> usize
-    ensures { result ≡ past_section limit width at journal.now }
+pub fn past_section(journal: &[u8], at: usize, pieces: Pieces) -> usize
+    ensures { result ≡ past_section pieces.limit pieces.width at journal.now }
 {
-    let Some(count) = section_at(journal, at, limit, width) else {
+    let Some(count) = section_at(journal, at, pieces) else {
         return at;
     };
-    at + COUNT_BYTES + count * width as usize
+    at + COUNT_BYTES + count * pieces.width as usize
 }

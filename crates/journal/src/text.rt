@@ -1,4 +1,5 @@
-// Text in a lent buffer: each function writes from a place on and answers the place after it.
+// Text in a lent buffer: each function writes from a place on and answers the place after it. The library's `write!` promises what was written only
+// where it is Ok, and not that it is Ok where there is room; and a struct of the buffer and the place would have to promise that it is the same buffer.
 ghost use Rattle.std.specs.Prelude.{◌≡◌, ◌+◌, ◌≤◌, length, drop};
 ghost use Rattle.rules.specs.Listing.{line_numbers};
 ghost use Rattle.journal.specs.Text.{decimal, spaced, signed, line_from, line_text};

@@ -11,11 +11,11 @@ returns-in_default c =
 
 pub overflow_add-result : goal.overflow_add-result
 overflow_add-result c =
-    let section-read : let a = c.args in section_at a.limit a.width a.at a.journal.now ≡ Some c.in-Some.count = sym c.section_at.ensures.0 ∙ c.in-Some.is in
-    let inside : let a = c.args in Read a.limit a.width a.at a.journal.now c.in-Some.count = read _ _ _ _ _ section-read in
+    let section-read : let a = c.args in section_at a.pieces.limit a.pieces.width a.at a.journal.now ≡ Some c.in-Some.count = sym c.section_at.ensures.0 ∙ c.in-Some.is in
+    let inside : let a = c.args in Read a.pieces.limit a.pieces.width a.at a.journal.now c.in-Some.count = read _ _ _ _ _ section-read in
     omega (arith, inside.room, c.well_formed)
 
 pub returns : goal.returns
 returns c =
-    let section-read : let a = c.args in section_at a.limit a.width a.at a.journal.now ≡ Some c.in-Some.count = sym c.section_at.ensures.0 ∙ c.in-Some.is in
+    let section-read : let a = c.args in section_at a.pieces.limit a.pieces.width a.at a.journal.now ≡ Some c.in-Some.count = sym c.section_at.ensures.0 ∙ c.in-Some.is in
     past-whole _ _ _ _ _ section-read
