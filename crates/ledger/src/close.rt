@@ -176,15 +176,7 @@ fn closed(
         × (trades_of table.new ≡ closed_table book remains trades)) }
 {
     let count = scalars.trades;
-    next_term::settle(
-        calendar,
-        held,
-        table,
-        count,
-        plan.closing,
-        plan.today,
-        plan.outstanding,
-    );
+    next_term::settle(calendar, held, table, count, plan);
     let kept = packing::pack(table, count);
     let ended = evening_end(
         scalars,

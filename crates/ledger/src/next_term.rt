@@ -175,27 +175,19 @@ fn settle_slot(
 }
 
 // What the plan decided, written: every slot in use as part (b) begins.
-pub fn settle(
-    calendar: &Calendar,
-    held: &Held,
-    table: &mut [u64],
-    count: usize,
-    closing: Option<Closing>,
-    today: u32,
-    matured: Sheets,
-)
-    requires { (RenewableWhere calendar.now closing held.now) × (Kept table.old count) × (matured.0 ≤ most_matured) }
+pub fn settle(calendar: &Calendar, held: &Held, table: &mut [u64], count: usize, plan: Plan)
+    requires { (RenewableWhere calendar.now plan.closing held.now) × (Kept table.old count) × (plan.outstanding.0 ≤ most_matured) }
     ensures { let trades = trades_to table.old count in
         ((book : Book) →
-        MeetsWhere calendar.now book closing held.now
-        → today ≡ today_of book
-        → trades_of table.new ≡ over count (left_from calendar.now book matured.0 trades) (trades_of table.old)) }
+        MeetsWhere calendar.now book plan.closing held.now
+        → plan.today ≡ today_of book
+        → trades_of table.new ≡ over count (left_from calendar.now book plan.outstanding.0 trades) (trades_of table.old)) }
 {
-    let Some(closing) = closing else {
-        redemption::redeem_due(table, count, today);
+    let Some(closing) = plan.closing else {
+        redemption::redeem_due(table, count, plan.today);
         return;
     };
-    let mut sum = matured;
+    let mut sum = plan.outstanding;
     for place in 0..count {
         sum = settle_slot(calendar, held, table, place, closing, sum);
     }

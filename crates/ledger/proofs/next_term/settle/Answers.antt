@@ -15,7 +15,7 @@ pub returns-in_default : goal.returns-in_default
 returns-in_default c book met today =
     let trades = trades_to c.args.table.now c.args.count in
     let none = rw c.in_default.is at met in
-    let stay = all-matured _ book none.none c.args.matured.0 trades c.requires.1.within in
+    let stay = all-matured _ book none.none c.args.plan.outstanding.0 trades c.requires.1.within in
     c.redeem_due.ensures
     ∙ ap (λ (day : ℕ). over c.args.count (map (matured day) trades) (trades_of c.args.table.now)) today
     ∙ ap (λ (slots : List Trade). over c.args.count slots (trades_of c.args.table.now)) (sym stay)
