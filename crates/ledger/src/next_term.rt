@@ -124,18 +124,18 @@ pub fn outstanding_after(
     table: &[u64],
     count: usize,
     closing: Option<Closing>,
-    matured: Sheets,
+    outstanding: Sheets,
 ) -> Sheets
-    requires { (RenewableWhere calendar.now closing held.now) × (Kept table.now count) × (matured.0 ≤ most_matured) }
+    requires { (RenewableWhere calendar.now closing held.now) × (Kept table.now count) × (outstanding.0 ≤ most_matured) }
     ensures { let trades = trades_to table.now count in
         ((book : Book) →
         MeetsWhere calendar.now book closing held.now
-        → result.0 ≡ matured.0 + outstanding_of (started_from calendar.now book matured.0 trades)) }
+        → result.0 ≡ outstanding.0 + outstanding_of (started_from calendar.now book outstanding.0 trades)) }
 {
     let Some(closing) = closing else {
-        return matured;
+        return outstanding;
     };
-    let mut sum = matured;
+    let mut sum = outstanding;
     for place in 0..count {
         let trade = flat::trade_at(table, place);
         if let Some(next) = next_term(calendar, held, trade, closing, sum) {
