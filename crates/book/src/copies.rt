@@ -1,4 +1,5 @@
-// The lent table's trades as the core's numbers, and back: the two loops over a slice of trades.
+// The lent table's trades as the core's numbers, and back: the two loops over a slice of trades. One
+// lends the trades and writes numbers, the other lends numbers and writes trades.
 ghost use Rattle.std.specs.Prelude.{◌≡◌, length};
 ghost use Rattle.ledger.specs.Flat.{HasSlots, trades_to};
 

@@ -4,7 +4,7 @@ ghost use Rattle.std.specs.Prelude.{◌≡◌, ◌+◌, ◌*◌, ◌/◌, ◌%�
 ghost use Rattle.std.proofs.lemmas.List.Edits.{sets};
 ghost use Rattle.cases.specs.Journal.{digit_of, bytes_of, same_numbers, ends_with};
 
-// The byte of a number at a place, the least first.
+// The byte of a number at a place, the least first; by hand, so that a byte too few is an edit that must fail.
 fn digit(number: u64, place: usize) -> u8
     requires { place < 8 }
     ensures { result ≡ digit_of number place }

@@ -1,5 +1,6 @@
 // The core's table: five numbers a trade, in the record's order. Trades are read and written here only. The table stays a row of numbers, for C
-// lends it so; cut into trades by `as_chunks_mut`, a proof would not know what the row holds once a trade is written.
+// lends it so; cut into trades by `as_chunks_mut`, a proof would not know what the row holds once a trade is written. That a place lies in it is a
+// fact of both, which no type of a place alone has.
 ghost use Rattle.std.specs.Prelude.{◌≡◌, ℕ, ◌+◌, ◌*◌, ◌<◌, ◌≤◌, length, slice_index, slice_set};
 ghost use Rattle.rules.specs.Trades.{no_trade, with_sheets};
 ghost use Rattle.ledger.specs.Flat.{HasSlot, width, capacity, lower, upper, trade_at, trades_of};

@@ -1,4 +1,5 @@
-// The two nets: the few places where signed fen are added and compared.
+// The two nets: the few places where signed fen are added and compared. The bounds of what is added are what the events have tested, in the order
+// of their causes: a type with a bound would be made by the same test again.
 ghost use Rattle.std.specs.Prelude.{◌≡◌, ◌+◌, ◌≤◌, true, pos, ◌+ℤ◌, ◌-ℤ◌, int_lt, unsigned_abs};
 ghost use Rattle.money.specs.Units.{signed_fen};
 ghost use Rattle.rules.specs.Limits.{net_limit};

@@ -37,7 +37,7 @@ impl From<Refusal> for u8 {
     }
 }
 
-// 0 of an answer that is no refusal, as C has it beside the result.
+// 0 of an answer that is no refusal, as C has it beside the result. C takes no generic struct, so each answer has a struct of its own.
 pub fn number_of<T: Copy>(answer: Result<T, Refusal>) -> u8
     ensures { result ≡ number_of (refusal_of answer) }
 {
@@ -47,6 +47,7 @@ pub fn number_of<T: Copy>(answer: Result<T, Refusal>) -> u8
     }
 }
 
+// For people, and by hand: no other crate stands below this one.
 impl fmt::Display for Refusal {
     fn fmt<W: fmt::Write>(&self, f: &mut fmt::Formatter<W>) -> fmt::Result {
         f.write_str(match self {

@@ -1,4 +1,5 @@
-// Headroom, the smaller of S and V less O, and its two tests; and whether V covers the claims on the pledge.
+// Headroom, the smaller of S and V less O, and its two tests; and whether V covers the claims on the pledge. S, V and O come apart, from the
+// book, its vault and its table, and a struct of the three would be made for one call.
 ghost use Rattle.std.specs.Prelude.{◌≡◌, min, pos};
 ghost use Rattle.std.specs.Int.Signed.{lt_z};
 ghost use Rattle.rules.specs.Vault.{headroom_of};
