@@ -9,7 +9,7 @@ use rules::event::{Account, Event, Fields};
 use rules::limits::EVENT_BYTES;
 use rules::trade::{Contract, Terms};
 
-// The number of 4 bytes, the least byte first.
+// The number of 4 bytes, the least byte first. The journal has its own: a shared one would be public, and have to answer slices that are too short.
 fn number4(bytes: &[u8], at: usize) -> u32
     requires { at + 4 ≤ length bytes.now }
     ensures { result ≡ number_at at 4 bytes.now }

@@ -16,7 +16,8 @@ pub struct Codes {
     pub short: u8,
 }
 
-// A day has its number only where there is one. Here and below, a TryFrom for an enum of another crate cannot stand here.
+// A day has its number only where there is one. Here and below no TryFrom: the codes are C's alone, so reading them stands here, and here no impl for
+// an enum of another crate can stand.
 #[tactic(auto, unfolding(crate::specs::Codes::day_at, rules::specs::Folds::every))]
 fn day_at(dated: u8, day: u32) -> Option<Option<u32>>
     ensures { result ≡ (if is_dated dated day then Some (day_at dated day) else None) }

@@ -56,7 +56,7 @@ impl<'a> Calendar<'a> {
         money::days::at_or_after(self.words, due).ok()
     }
 
-    // The payment day of a day is the next trading day, or 0 where there is none.
+    // The payment day of a day is the next trading day, or 0 where there is none, as the rules have it.
     pub fn payment_day(&self, day: Option<u32>) -> u32
         ensures { result ≡ payment_day self.now day }
     {
@@ -95,7 +95,7 @@ impl<'a> Calendar<'a> {
     }
 }
 
-// Today's number, or 0 where no day is open.
+// Today's number, or 0 where no day is open, as the rules have it.
 pub fn day_number(day: Option<u32>) -> u32
     ensures { result ≡ day_number day }
 {

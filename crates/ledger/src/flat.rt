@@ -60,7 +60,7 @@ pub fn put_sheets(table: &mut [u64], place: usize, count: Sheets)
     table[place * layout::WIDTH + 1] = count.0;
 }
 
-// What a freed slot is filled with.
+// What a freed slot is filled with, and read past the last: the record of zeros that the papers have.
 pub fn no_trade() -> Trade
     ensures { result ≡ no_trade }
 {

@@ -1,4 +1,5 @@
-// The securities in a lent row, four numbers each: effective, arriving and frozen units, and the rate. Behind them stands what is posted.
+// The securities in a lent row, four numbers each: effective, arriving and frozen units, and the rate. Behind them stands what is posted,
+// laid out otherwise: two prices to a number (`postings`).
 ghost use Rattle.std.specs.Prelude.{◌≡◌, slice_set};
 ghost use Rattle.ledger.specs.Types.{Security};
 ghost use Rattle.ledger.specs.Flat.{security_in, securities_of, postings_of};

@@ -15,7 +15,8 @@ pub const POSTINGS_FROM: usize = SECURITIES * SECURITY_WIDTH;
 
 pub const HELD_LENGTH: usize = POSTINGS_FROM + PRODUCT_LIMIT * POSTING_WIDTH;
 
-// The rows of a book: the securities with what is posted, and the applications' kinds and units.
+// The rows of a book: the securities with what is posted, and the applications' kinds and units. Arrays, here and wherever room is needed: nothing is
+// allocated.
 pub type Held = [u64; HELD_LENGTH];
 
 pub type Kinds = [u8; APPLICATION_LIMIT];

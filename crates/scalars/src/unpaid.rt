@@ -16,8 +16,8 @@ pub fn passes(unpaid: Unpaid, amount: Fen) -> bool
     sum.saturating_add(amount.0) > UNPAID_LIMIT
 }
 
-// An early redemption joins the part of today. Here and below, U is as it was where it would pass its limit. The three that follow differ in
-// the field that grows, and one told of a field would be no plainer.
+// An early redemption joins the part of today. Here and below, U is as it was where it would pass its limit. Each of the three that
+// follow is another rule over the two parts, and one function told the parts would have its caller write the rule.
 #[tactic(auto, using(crate::proofs::UnpaidLaws::within))]
 pub fn today_plus(unpaid: Unpaid, amount: Fen) -> Unpaid
     ensures { result ≡ unless_past amount.0 unpaid (today_plus amount.0 unpaid) }
