@@ -1,4 +1,5 @@
-// Document 02, ask 1: leap days, the ends of the years, and what has no day or no date.
+// Document 02, ask 1: leap days, the ends of the years, and what has no day or no date. By C's structs, here and in `amounts`: of these the
+// definitions that an expectation computes are.
 ghost use Rattle.std.specs.Prelude.{◌≡◌};
 ghost use Rattle.money.specs.Dates.{date, day_answer, date_answer};
 
