@@ -1,4 +1,4 @@
-use Rattle.std.specs.Prelude.{◌+◌, [], ◌∷◌, unsigned_abs}
+use Rattle.std.specs.Prelude.{ℕ, ◌+◌, List, [], ◌∷◌, unsigned_abs}
 use Rattle.rules.specs.Vault.{headroom_of}
 use Rattle.rules.specs.Listing.{sign_of}
 use mathlib.Core.Path.{ap, ◌∙◌}
@@ -43,9 +43,11 @@ returns c =
     let left = called.result.scalars in
     let f = c.figures_after-after.result in
     let headroom = headroom_of left.size.0 f.value.0 f.outstanding.0 in
+    let row : List ℕ =
+    called.result.answer.number ∷ sign_of headroom ∷ unsigned_abs headroom ∷ f.outstanding.0 ∷ left.cash.own.0 ∷ left.cash.client.0 ∷ (left.guarantee.effective.0 + left.guarantee.arriving.0) ∷ [] in
     let told = line-told _ _ _ applied tabled c.figures_after-after.ensures in (
       ap (λ x. x.book) applied,
       tabled,
-      rw (c.copy_from_slice.ensures.after ∙ c.line_of.ensures) (row-put a.lines.now a.at (called.result.answer.number ∷ sign_of headroom ∷ unsigned_abs headroom ∷ f.outstanding.0 ∷ left.cash.own.0 ∷ left.cash.client.0 ∷ (left.guarantee.effective.0 + left.guarantee.arriving.0) ∷ []) c.requires.2 ∙ ap (λ row. sets a.lines.now a.at row) told),
+      rw (c.copy_from_slice.ensures.after ∙ c.line_of.ensures) (row-put a.lines.now a.at row c.requires.2 ∙ ap (λ line. sets a.lines.now a.at line) told),
       c.figures_after-after.ensures,
     )
