@@ -44,6 +44,10 @@ fn look_along(table: &[u64], next: &[u16], from: usize, contract: Contract) -> C
         }
         link = usize::from(next[place]);
     }
+    // A chain of just so many is followed to its end.
+    if link == 0 {
+        return ChainResult::Differs;
+    }
     ChainResult::TooLong
 }
 
