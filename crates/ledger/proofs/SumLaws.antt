@@ -11,6 +11,14 @@ use Rattle.rules.proofs.FoldLaws.{by-test, all-at}
 
 -- ---- a loop's first turn and one more
 
+pub sum-none : (f : ℕ → ℕ) → sum_below 0 f ≡ 0
+unfolding sum_below
+sum-none f = refl
+
+pub sum_more : (f : ℕ → ℕ) (n : ℕ) → sum_below (n + 1) f ≡ sum_below n f + f n
+unfolding sum_below
+sum_more f n = rw add-one
+
 module _ {A : Type 0} where
   pub turn-none : (f : ℕ → A → A) (a : A) → in_turn 0 f a ≡ a
   unfolding in_turn
@@ -51,12 +59,6 @@ pub sum_same : (n : ℕ) (f g : ℕ → ℕ) → ((k : ℕ) → k < n → f k �
 unfolding sum_below
 sum_same zero f g h = refl
 sum_same (suc n) f g h = omega (arith, sum_same n f g (λ k l. h k (omega arith)), h n (omega arith))
-
--- the first term apart
-pub sum-front : (n : ℕ) (f : ℕ → ℕ) → sum_below (suc n) f ≡ f 0 + sum_below n (λ k. f (suc k))
-unfolding sum_below
-sum-front zero f = omega arith
-sum-front (suc n) f = omega (arith, sum-front n f)
 
 -- two sums that differ in one term differ by that term
 pub sum-changed : (n k : ℕ) (f g : ℕ → ℕ) → k < n → ((j : ℕ) → j < n → (j ≡ k → ⊥) → f j ≡ g j) → sum_below n f + g k ≡ sum_below n g + f k

@@ -22,7 +22,7 @@ use Rattle.rules.specs.Close.{fewer, taken_out}
 use Rattle.rules.proofs.FitParts.{securities-fit, withdrawals-fit}
 use Rattle.ledger.specs.Types.{Vault, Withdrawals}
 use Rattle.ledger.specs.Figures.{value_bound}
-use Rattle.ledger.proofs.SumLaws.{sum-front, sum_bound, sum-part, sum-changed}
+use Rattle.ledger.proofs.SumLaws.{sum_bound, sum-part, sum-changed}
 
 -- ---- fit applications, and the units that are applied for
 
@@ -54,27 +54,6 @@ module _ (withdrawals : Withdrawals) where
     unfolding applied
     applied-bound kind =
         omega (arith, sum_bound cash_limit withdrawals.count (applied_at kind) (applied-at-bound kind), (withdrawals-fit withdrawals fits).count)
-
--- an iterator over both rows, that keeps the kind and sums its units, sums the same
-pub picked : (kind n : ℕ) (kinds units : List ℕ) → n ≤ length kinds → n ≤ length units
-    → sum (map (λ (a : ℕ × ℕ). a.1) (filter (λ (a : ℕ × ℕ). eqb a.0 kind) (zip (take n kinds) (take n units)))) ≡ sum_below n (λ i. cond (eqb (get_or kinds i 0) kind) (get_or units i 0) 0)
-unfolding sum_below
-picked kind zero kinds units h l = refl
-picked kind (suc n) [] units h l = absurd (omega arith)
-picked kind (suc n) (k ∷ kinds) [] h l = absurd (omega arith)
-picked kind (suc n) (k ∷ kinds) (u ∷ units) h l =
-    by (eqb k kind) (picked kind n kinds units (omega arith) (omega arith))
-    ∙ sym (sum-front n (λ i. cond (eqb (get_or (k ∷ kinds) i 0) kind) (get_or (u ∷ units) i 0) 0))
-  where
-    rest : List (ℕ × ℕ)
-    rest = filter (λ (a : ℕ × ℕ). eqb a.0 kind) (zip (take n kinds) (take n units))
-
-    later : ℕ
-    later = sum_below n (λ i. cond (eqb (get_or kinds i 0) kind) (get_or units i 0) 0)
-
-    by : (same : Bool) → sum (map (λ (a : ℕ × ℕ). a.1) rest) ≡ later → sum (map (λ (a : ℕ × ℕ). a.1) (cond same ((k, u) ∷ rest) rest)) ≡ cond same u 0 + later
-    by true e = sum_by-cons (λ x. x) u (map (λ (a : ℕ × ℕ). a.1) rest) ∙ ap (λ s. u + s) e
-    by false e = e ∙ sym (zero-add later)
 
 -- ---- a vault whose value is defined
 

@@ -42,6 +42,7 @@ fn order_refusal(scalars: Scalars, count: Sheets, price: Ticks) -> Result<(), Re
 }
 
 // Where the contract's trade stands. Only a trade on the table can be past due, so it is looked for first.
+#[inline(never)]
 fn named_place(scalars: Scalars, table: &[u64], contract: Contract) -> Result<usize, Refusal>
     requires { HasSlots table.now scalars.trades }
     ensures refused { (rows : Rows) → refusal_of result ≡ first_of (named_causes (book_of scalars rows) (trades_of table.now) contract) }

@@ -39,6 +39,7 @@ fn bad_due(calendar: &Calendar, day: Option<u32>, due: u32) -> bool
     due <= today || due > today + AHEAD_LIMIT || !calendar.matures(due)
 }
 
+#[inline(never)]
 fn is_taken(table: &[u64], count: usize, contract: Contract) -> bool
     requires { HasSlots table.now count }
     ensures { result ≡ on_table contract (in_use count (trades_of table.now)) }

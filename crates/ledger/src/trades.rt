@@ -40,7 +40,8 @@ pub fn outstanding_of(table: &[u64], count: usize) -> Sheets
     )
 }
 
-// Where a contract's trade stands.
+// Where a contract's trade stands. What searches by it is not inlined in turn: among what follows, the search would carry the answers of all that from
+// trade to trade.
 pub fn place_of(table: &[u64], count: usize, contract: Contract) -> Option<usize>
     requires { HasSlots table.now count }
     ensures on_table { is_some result ≡ on_table contract (trades_to table.now count) }
@@ -50,6 +51,7 @@ pub fn place_of(table: &[u64], count: usize, contract: Contract) -> Option<usize
 }
 
 // No contract stands before its own place: each is searched, which for few trades is as fast as by chains.
+#[inline(never)]
 fn few_differ(table: &[u64], count: usize) -> bool
     requires { HasSlots table.now count }
     ensures { result ≡ differ (trades_to table.now count) }
@@ -84,7 +86,8 @@ fn sorted_differ(table: &[u64], count: usize) -> bool
     numbers_differ(table, count, &mut numbers[..count])
 }
 
-// By chains, which most contracts keep short; where they do not, sorted.
+// By chains, which most contracts keep short; where they do not, sorted. Not inlined: the room of the chains would be had for few trades too.
+#[inline(never)]
 fn chains_differ<const BUCKETS: usize>(table: &[u64], count: usize) -> bool
     requires { (HasSlots table.now count) × (count ≤ capacity_limit) × (0 < BUCKETS) × (BUCKETS ≤ most_buckets) }
     ensures { result ≡ differ (trades_to table.now count) }

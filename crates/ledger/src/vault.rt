@@ -17,21 +17,25 @@ use money::units::Sheets;
 use rules::book::{Cash, Guarantee, Security};
 use rules::limits::APPLICATION_LIMIT;
 
-// Here and below sums saturate, so that none wraps on an unfit book.
+// What is effective is tested first, so that no sum wraps on an unfit book.
 fn security_fit(security: Security) -> bool
     ensures { result ≡ security_fit security }
 {
-    security.effective.saturating_add(security.arriving) <= UNIT_LIMIT
+    security.effective <= UNIT_LIMIT
+        && security.arriving <= UNIT_LIMIT - security.effective
         && security.rate <= RATE_LIMIT
         && security.frozen <= security.effective
 }
 
+// Not inlined, as a search for a contract is not.
+#[inline(never)]
 pub fn securities_fit(held: &Held) -> bool
     ensures { (guarantee : Guarantee) → result ≡ securities_fit (vault_of guarantee (securities_of held.now)) }
 {
     (0..CASH_KIND).all(|kind| security_fit(held::security_at(held, SecurityNumber::new(kind))))
 }
 
+// The sums saturate, for the same reason.
 pub fn cash_fit(cash: Cash, guarantee: Guarantee) -> bool
     ensures { result ≡ cash_fit cash guarantee }
 {
@@ -115,10 +119,12 @@ pub fn applied_of(kinds: &Kinds, units: &Units, count: usize, kind: u8) -> u64
     requires { withdrawals_fit (record { kinds = kinds.now; units = units.now; count = count }) ≡ true }
     ensures { result ≡ applied (record { kinds = kinds.entry.now; units = units.now; count = count }) kind }
 {
-    kinds[..count]
-        .iter()
-        .zip(&units[..count])
-        .filter(|(of, _)| **of == kind)
-        .map(|(_, units)| *units)
-        .sum()
+    // A range: a chain that pairs the rows and keeps the kind's takes twice the time.
+    let mut sum = 0;
+    for i in 0..count {
+        if kinds[i] == kind {
+            sum += units[i];
+        }
+    }
+    sum
 }

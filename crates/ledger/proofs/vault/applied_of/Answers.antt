@@ -1,40 +1,45 @@
--- The iterator gives the units of the kind's applications, in order: what they sum to is what is applied for, which is bounded.
-use Rattle.std.proofs.Common.{rules, tests, arith, ◌∙◌, ℕ, eqb, take}
-use Rattle.std.proofs.lemmas.Iterator.{YieldsList-from_map, YieldsList-from_slice, YieldsList-from_zip}
-use Rattle.std.proofs.lemmas.Iterator.Consumers.{YieldsList-at, YieldsList-from_filter, sum_from_yields_List, fits_from_yields_list}
+use Rattle.std.specs.Prelude.{◌≡◌, ◌+◌, ◌≤◌, slice_index_or}
+use mathlib.Core.Path.{sym, ap, ◌∙◌}
+use native.Mathlib.Omega.{arith}
+use borrow.Author.Rules.{rules}
+use borrow.Author.Tests.{eq-eqb, ne_eqb}
+use Rattle.rules.specs.Folds.{sum_below}
 use Rattle.rules.specs.Withdraw.{applied}
 use Rattle.rules.proofs.FitParts.{withdrawals-fit}
 use Rattle.ledger.specs.Types.{Withdrawals}
-use Rattle.ledger.proofs.VaultLaws.{picked, applied-bound}
+use Rattle.ledger.proofs.SumLaws.{sum-none, sum_more}
+use Rattle.ledger.proofs.VaultLaws.{applied_at, applied-at-bound}
 use Rattle.ledger.proofs.vault.applied_of.Goals as goal
+use Rattle.ledger.proofs.vault.applied_of.Goals.{then-kinds-i, else-kinds-i}
 
-pub shared_ref_as_front-iter : goal.shared_ref_as_front-iter
-shared_ref_as_front-iter c = (withdrawals-fit _ c.requires).count
+pub loop-i-init : goal.loop-i-init
+loop-i-init c = ((withdrawals-fit _ c.requires).count, sym (sum-none _), omega arith)
 
-pub sum-requires-clause-fits : goal.sum-requires-clause-fits
-unfolding applied
-sum-requires-clause-fits c =
-    let few = (withdrawals-fit _ c.requires).count in
+pub bounds-kinds-i : goal.bounds-kinds-i
+bounds-kinds-i c = omega (arith, c.loop-i.invariant.0, c.loop-i-test.true)
+
+pub bounds-units-i : goal.bounds-units-i
+bounds-units-i c = omega (arith, c.loop-i.invariant.0, c.loop-i-test.true)
+
+pub overflow_add-sum : goal.overflow_add-sum
+overflow_add-sum c =
+    let small = ((withdrawals-fit _ c.requires).each c.loop-i.i c.loop-i-test.true).within in
+    omega (arith, small, c.loop-i.invariant.0, c.loop-i.invariant.2, c.loop-i-test.true)
+
+pub loop-i-preserved : goal.loop-i-preserved
+loop-i-preserved c =
     let a = c.args in
     let asked : Withdrawals = record { kinds = a.kinds.now; units = a.units.now; count = a.count } in
-    fits_from_yields_list c.map.result _
-    (YieldsList-from_map _ (λ (a : ℕ × ℕ). a.1)
-    (YieldsList-at c.map.ensures.source
-    (YieldsList-from_filter _ (λ (a : ℕ × ℕ). eqb a.0 c.args.kind)
-    (YieldsList-at c.filter.ensures.source (YieldsList-from_zip (YieldsList-from_slice (take c.args.count c.args.kinds.now) (cc)) (YieldsList-from_slice (take c.args.count c.args.units.now) (cc))))
-    c.filter.ensures.closure (λ x r q k. search (rules, tests))))
-    c.map.ensures.closure (λ x r q k. search rules))
-    (omega (arith, picked a.kind a.count a.kinds.now a.units.now (omega (arith, few)) (omega (arith, few)), applied-bound asked c.requires a.kind))
+    let added : c.if-kinds-i.sum ≡ c.loop-i.sum + applied_at asked a.kind c.loop-i.i =
+    elim c.if-kinds-i.branch [
+      | then-kinds-i w ↦ rw (eq-eqb _ _ w.if-kinds-i.true) w.sum-is
+      | else-kinds-i w ↦ rw (ne_eqb _ _ w.if-kinds-i.false) (omega (arith, w.sum-is))
+    ] in
+    let bound = applied-at-bound asked c.requires a.kind c.loop-i.i c.loop-i-test.true in
+    (c.loop-i.invariant.0, rw (sum_more (applied_at asked a.kind) c.loop-i.i) (rw c.loop-i.invariant.1 at added), omega (arith, added, bound, c.loop-i.invariant.2))
 
 pub returns : goal.returns
 unfolding applied
 returns c =
-    let few = (withdrawals-fit _ c.requires).count in
-    sum_from_yields_List c.map.result _ c.sum.ensures.ran
-    (YieldsList-from_map _ (λ (a : ℕ × ℕ). a.1)
-    (YieldsList-at c.map.ensures.source
-    (YieldsList-from_filter _ (λ (a : ℕ × ℕ). eqb a.0 c.args.kind)
-    (YieldsList-at c.filter.ensures.source (YieldsList-from_zip (YieldsList-from_slice (take c.args.count c.args.kinds.now) (cc)) (YieldsList-from_slice (take c.args.count c.args.units.now) (cc))))
-    c.filter.ensures.closure (λ x r q k. search (rules, tests))))
-    c.map.ensures.closure (λ x r q k. search rules))
-    ∙ picked c.args.kind c.args.count c.args.kinds.now c.args.units.now (omega (arith, few)) (omega (arith, few))
+    let e : c.loop-i.i ≡ c.args.count = omega arith in
+    c.loop-i.invariant.1 ∙ ap (λ n. sum_below n (applied_at (record { kinds = c.args.kinds.now; units = c.args.units.now; count = c.args.count }) c.args.kind)) e
