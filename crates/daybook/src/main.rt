@@ -30,12 +30,13 @@ fn read_input<R: Read>(input: &mut R, room: &mut [u8]) -> io::Result<usize>
     Ok(size)
 }
 
-// The listing of the input of which the first `size` bytes were read, in front of a text that has room for every listing.
+// The listing of the input of which the first `size` bytes were read, in front of a text that has room for every listing: one that did not fit would
+// be no listing, of 0 bytes, and is ruled out by the promise alone.
 fn write_input(read: &[u8; INPUT_BYTES], size: usize, text: &mut [u8; TEXT_BYTES]) -> usize
     requires { size ≤ length read.now }
     ensures { Lists (length read.now) (take size read.now) text.new result }
 {
-    journal::listing::write_listing(&read[..size], text).unwrap()
+    journal::listing::write_listing(&read[..size], text).unwrap_or(0)
 }
 
 fn main(rt: HostRuntime) {
