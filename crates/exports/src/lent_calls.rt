@@ -83,5 +83,5 @@ pub extern "C" fn lent_run(
         return raw::refused_run(raw);
     };
     let ended = ledger::lent::run(calendar, scalars, held, kinds, units, table, events, lines);
-    raw::of_ended(scalars, ended)
+    raw::of_run(scalars, ended)
 }

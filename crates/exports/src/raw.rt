@@ -112,14 +112,30 @@ pub fn of_done(done: Done) -> RawDone
     }
 }
 
-// What a run leaves: other scalars, or its refusal's number beside the scalars as they were.
-pub fn of_ended(scalars: Scalars, ended: Result<Scalars, Refusal>) -> RawEnded
-    ensures { result ≡ record { number = number_of (refusal_of ended); raw = raw_of (result_unwrap_or ended scalars) } }
+// A run's number, whichever it is, and the scalars that it left.
+#[derive(Clone, Copy)]
+pub struct Ended {
+    pub number: u8,
+    pub scalars: Scalars,
+}
+
+pub fn of_ended(ended: Ended) -> RawEnded
+    ensures { result ≡ record { number = ended.number; raw = raw_of ended.scalars } }
 {
     RawEnded {
-        number: number_of(ended),
-        raw: raw_of(ended.unwrap_or(scalars)),
+        number: ended.number,
+        raw: raw_of(ended.scalars),
     }
+}
+
+// What a run leaves: other scalars, or its refusal's number beside the scalars as they were.
+pub fn of_run(scalars: Scalars, ended: Result<Scalars, Refusal>) -> RawEnded
+    ensures { result ≡ record { number = number_of (refusal_of ended); raw = raw_of (result_unwrap_or ended scalars) } }
+{
+    of_ended(Ended {
+        number: number_of(ended),
+        scalars: ended.unwrap_or(scalars),
+    })
 }
 
 // What the calls answer to scalars that are not well-formed.

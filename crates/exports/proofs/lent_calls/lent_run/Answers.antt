@@ -12,6 +12,6 @@ pub returns : goal.returns
 returns c =
     let ran = c.run-ended in
     let formed = some_if _ _ _ c.in-Some.ensures in (
-      λ z. rw (c.of_ended.ensures, scalars-back _, ← formed.1) (ran.ensures.0, refl, λ e. ran.ensures.1 (refused-by-number _ e)),
+      λ z. rw (c.of_run.ensures, scalars-back _, ← formed.1) (ran.ensures.0, refl, λ e. ran.ensures.1 (refused-by-number _ e)),
       λ z. absurd (false≢true (sym z ∙ formed.0)),
     )
