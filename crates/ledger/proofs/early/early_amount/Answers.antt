@@ -11,7 +11,7 @@ use Rattle.ledger.proofs.NetLaws.{within-limit, over-net, within-net}
 use Rattle.ledger.proofs.FitFacts.{fit-net}
 use Rattle.ledger.proofs.RedemptionLaws.{begun-before}
 use Rattle.ledger.proofs.ContractLaws.{trade-here}
-use Rattle.ledger.proofs.EarlyLaws.{running-keeps, running-redeemable, few-to-take, early-at-most}
+use Rattle.ledger.proofs.EarlyLaws.{running-keeps, running-redeemable, few-to-take, running-at-most}
 use Rattle.ledger.proofs.early.early_amount.Goals.{then-not-is_fit-via-then-not-is_fit, then-not-is_fit-via-else-not-is_fit+then-passes}
 use Rattle.ledger.proofs.early.early_amount.Goals as goal
 
@@ -38,7 +38,7 @@ pub plus-requires : goal.plus-requires
 plus-requires c =
     let enough : c.args.count.0 ≤ (trade_at c.args.table.now c.args.place).sheets.0 = grind arith in
     let redeemed = rw c.trade_at-trade.ensures at c.redeemed_for-amount.ensures in
-    (omega (arith, within-limit c.args.scalars.nets.today.0 (fit-net _ _ _ c.requires.book.fits)), rw (redeemed, c.payment_day-payment.ensures) (early-at-most c.requires _ enough))
+    (omega (arith, within-limit c.args.scalars.nets.today.0 (fit-net _ _ _ c.requires.book.fits)), rw (redeemed, c.payment_day-payment.ensures) (running-at-most c.requires _ enough))
 
 pub returns-then-not-is_fit : goal.returns-then-not-is_fit
 unfolding first_of
@@ -66,5 +66,5 @@ returns c rows contract stands =
     let net = rw (redeemed, c.payment_day-payment.ensures) at (within-net (c.args.scalars.nets.today.0 +ℤ pos c.redeemed_for-amount.result.0) (rw c.plus.ensures at (sym c.is_fit.ensures ∙ c.if-not-is_fit.false))) in
     let unpaid = rw (redeemed, c.payment_day-payment.ensures) at (sym c.passes.ensures ∙ c.if-passes.false) in (
       rw (trade, le-ltb _ _ enough, net, unpaid) refl,
-      rw (trade, redeemed, c.payment_day-payment.ensures) (refl, early-at-most c.requires _ enough),
+      rw (trade, redeemed, c.payment_day-payment.ensures) (refl, running-at-most c.requires _ enough),
     )
