@@ -1,4 +1,4 @@
-// Why a call or an event is turned down, each cause with its number in document 01.
+// Why a call or an event is turned down, each cause with its number in document 01, or 02 from 19 on.
 ghost use Rattle.std.specs.Prelude.{◌≡◌};
 ghost use Rattle.money.specs.Causes.{number_of, refusal_of, refusal_number};
 
