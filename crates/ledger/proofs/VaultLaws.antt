@@ -1,9 +1,6 @@
 -- Collateral: the test of applications by its parts, what they sum to, V of a sound vault, and V after units of one kind are taken out.
 -- Assumes nothing.
-use Rattle.std.specs.Prelude.{◌≡◌, ℕ, zero, suc, ◌+◌, ◌-◌, ◌<◌, ◌≤◌, Bool, true, false, cond, eqb, List, [], ◌∷◌, map, filter, sum, length, get_or, take}
-use Rattle.std.specs.List.{zip}
-use Rattle.std.proofs.lemmas.List.Sums.{sum_by-cons}
-use native.Mathlib.Nat.{zero-add}
+use Rattle.std.specs.Prelude.{◌≡◌, ℕ, ◌+◌, ◌-◌, ◌<◌, ◌≤◌, Bool, true, false, cond, eqb, length, get_or}
 use mathlib.Core.Path.{refl, sym, ap, ◌∙◌}
 use native.Mathlib.Decide.{ℕ_discrete}
 use native.Mathlib.Omega.{arith}

@@ -41,7 +41,7 @@ fn order_refusal(scalars: Scalars, count: Sheets, price: Ticks) -> Result<(), Re
     Ok(())
 }
 
-// Where the contract's trade stands. Only a trade on the table can be past due, so it is looked for first.
+// Where the contract's trade stands. Only a trade on the table can be past due, so it is looked for first; out of line, as each search is.
 #[inline(never)]
 fn named_place(scalars: Scalars, table: &[u64], contract: Contract) -> Result<usize, Refusal>
     requires { HasSlots table.now scalars.trades }

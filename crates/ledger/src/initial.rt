@@ -39,6 +39,7 @@ fn bad_due(calendar: &Calendar, day: Option<u32>, due: u32) -> bool
     due <= today || due > today + AHEAD_LIMIT || !calendar.matures(due)
 }
 
+// Out of line, as each search for a contract is.
 #[inline(never)]
 fn is_taken(table: &[u64], count: usize, contract: Contract) -> bool
     requires { HasSlots table.now count }

@@ -40,8 +40,8 @@ pub fn outstanding_of(table: &[u64], count: usize) -> Sheets
     )
 }
 
-// Where a contract's trade stands. What searches by it is not inlined in turn: among what follows, the search would carry the answers of all that from
-// trade to trade.
+// Where a contract's trade stands. What searches by it is kept out of line: inlined, its loop would carry the answers of all that follows from trade to
+// trade.
 pub fn place_of(table: &[u64], count: usize, contract: Contract) -> Option<usize>
     requires { HasSlots table.now count }
     ensures on_table { is_some result ≡ on_table contract (trades_to table.now count) }
@@ -86,7 +86,7 @@ fn sorted_differ(table: &[u64], count: usize) -> bool
     numbers_differ(table, count, &mut numbers[..count])
 }
 
-// By chains, which most contracts keep short; where they do not, sorted. Not inlined: the room of the chains would be had for few trades too.
+// By chains, which most contracts keep short; where they do not, sorted. Out of line: inlined, few trades too would take the room of the chains.
 #[inline(never)]
 fn chains_differ<const BUCKETS: usize>(table: &[u64], count: usize) -> bool
     requires { (HasSlots table.now count) × (count ≤ capacity_limit) × (0 < BUCKETS) × (BUCKETS ≤ most_buckets) }

@@ -17,7 +17,7 @@ use money::units::Sheets;
 use rules::book::{Cash, Guarantee, Security};
 use rules::limits::APPLICATION_LIMIT;
 
-// What is effective is tested first, so that no sum wraps on an unfit book.
+// What is effective is tested first, so that the difference does not wrap on an unfit book.
 fn security_fit(security: Security) -> bool
     ensures { result ≡ security_fit security }
 {
@@ -27,7 +27,7 @@ fn security_fit(security: Security) -> bool
         && security.frozen <= security.effective
 }
 
-// Not inlined, as a search for a contract is not.
+// Out of line, as a search for a contract is.
 #[inline(never)]
 pub fn securities_fit(held: &Held) -> bool
     ensures { (guarantee : Guarantee) → result ≡ securities_fit (vault_of guarantee (securities_of held.now)) }
@@ -35,7 +35,7 @@ pub fn securities_fit(held: &Held) -> bool
     (0..CASH_KIND).all(|kind| security_fit(held::security_at(held, SecurityNumber::new(kind))))
 }
 
-// The sums saturate, for the same reason.
+// The sums saturate, so that none wraps on an unfit book.
 pub fn cash_fit(cash: Cash, guarantee: Guarantee) -> bool
     ensures { result ≡ cash_fit cash guarantee }
 {

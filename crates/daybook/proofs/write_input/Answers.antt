@@ -1,7 +1,7 @@
 use Rattle.std.proofs.Common.{◌≡◌, ℕ, ◌≤◌, ◌<◌, List, length, take, refl, sym, ap, ◌∙◌, arith}
 use Rattle.std.specs.Result.{result_unwrap_or}
 use Rattle.journal.specs.Limits.{journal_bytes, listing_bytes}
-use Rattle.journal.specs.Listing.{listing_text, text_after}
+use Rattle.journal.specs.Listing.{listing_text}
 use Rattle.journal.proofs.Bounds.{cut-listing, room-for-all}
 use Rattle.daybook.specs.Input.{Lists}
 use Rattle.daybook.proofs.write_input.Goals as goal
