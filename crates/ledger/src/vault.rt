@@ -114,7 +114,8 @@ pub fn value_of(held: &Held, guarantee: Guarantee) -> Sheets
     Sheets(of_securities + of_cash.0)
 }
 
-// The units of a kind that stand applied for.
+// The units of a kind that stand applied for. Out of line, too: inlined, the loop would read anew in each turn where the rows are.
+#[inline(never)]
 pub fn applied_of(kinds: &Kinds, units: &Units, count: usize, kind: u8) -> u64
     requires { withdrawals_fit (record { kinds = kinds.now; units = units.now; count = count }) ≡ true }
     ensures { result ≡ applied (record { kinds = kinds.entry.now; units = units.now; count = count }) kind }
